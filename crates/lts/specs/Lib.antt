@@ -1,0 +1,4 @@
+pub mod Star
+pub mod Sense
+pub mod Reduction
+pub mod Branching
