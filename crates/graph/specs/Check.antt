@@ -1,0 +1,87 @@
+-- What document 01 admits as a graph, and the answers 0 to 4. Assumes nothing: these are definitions.
+use Prim.Native.Nat.{ℕ, _+_, _-_, _%_, _<_, _≤_}
+use mathlib.Core.Path.{_≡_}
+use mathlib.Core.Bool.{Bool, cond, not, _&&_}
+use mathlib.Core.List.{List}
+use lib.ListN.{length}
+use lib.Dec.{eqb, leb, ltb}
+use Rattle.graph.specs.Tests.{least}
+use Rattle.graph.specs.Hops.{count, whole, from, label, to, hopAt}
+use Rattle.graph.specs.Order.{before, Ascending}
+use Rattle.graph.specs.declared.Shape.{Shape}
+use Rattle.graph.specs.declared.Answer.{Answer}
+
+-- "A graph has a state count of 1 to 1,024, a label count of 1 to 1,024, .. and 0 to 4,096 hops"
+abbrev pub most-states : ℕ
+most-states = 1024
+
+abbrev pub most-labels : ℕ
+most-labels = 1024
+
+abbrev pub most-hops : ℕ
+most-hops = 4096
+
+-- "An answer holds number, table .. and place": accepted is 0, table 1, place 0
+abbrev pub accepted : Answer
+accepted = record { number = 0; table = 1; place = 0 }
+
+abbrev pub refused : ℕ → ℕ → Answer
+refused n p = record { number = n; table = 1; place = p }
+
+-- the same answer, of another table ("2 only for graph 2 of the audit")
+abbrev pub inTable : ℕ → Answer → Answer
+inTable t a = record { number = a .number; table = t; place = a .place }
+
+-- "unless an earlier check speaks": the first answer if it refuses, else the next
+abbrev pub andThen : Answer → Answer → Answer
+andThen a b = cond (eqb (a .number) 0) b a
+
+-- row 6, for an output that has room for r elements and needs n
+abbrev pub roomFor : ℕ → ℕ → Answer
+roomFor n r = cond (leb n r) accepted (refused 6 0)
+
+-- row 1: "state, label or hop count outside its limits, or flat list length not a multiple of three"
+unfoldable pub countsFit : Shape → List ℕ → Bool
+countsFit sh hs =
+    leb 1 (sh .states) && leb (sh .states) most-states && leb 1 (sh .labels) && leb (sh .labels) most-labels &&
+    leb (count hs) most-hops && whole hs
+
+-- row 3: "a hop's state or label not below its count"
+unfoldable pub inside : Shape → List ℕ → ℕ → Bool
+inside sh hs i = ltb (from hs i) (sh .states) && ltb (label hs i) (sh .labels) && ltb (to hs i) (sh .states)
+
+unfoldable pub firstOutside : Shape → List ℕ → ℕ
+firstOutside sh hs = least (count hs) (λ (i : ℕ). not (inside sh hs i))
+
+-- row 4: "a hop not above the one before"; the first hop has none before it
+unfoldable pub rises : List ℕ → ℕ → Bool
+rises hs i = cond (eqb i 0) (eqb 0 0) (before (hopAt hs (i - 1)) (hopAt hs i))
+
+unfoldable pub firstFalling : List ℕ → ℕ
+firstFalling hs = least (count hs) (λ (i : ℕ). not (rises hs i))
+
+-- the answer of `check`: the first row that speaks, in ascending order
+unfoldable pub checkOf : Shape → List ℕ → Answer
+checkOf sh hs =
+    cond (not (countsFit sh hs)) (refused 1 0)
+    (cond (leb (sh .states) (sh .initial)) (refused 2 0)
+    (cond (ltb (firstOutside sh hs) (count hs)) (refused 3 (firstOutside sh hs))
+    (cond (ltb (firstFalling hs) (count hs)) (refused 4 (firstFalling hs))
+    accepted)))
+
+-- the meaning of 0: "A graph is admitted when checks 1 to 4 pass it"
+pub record InRange (sh : Shape) (hs : List ℕ) : Type 0 where
+  pub from-in : (i : ℕ) → i < count hs → from hs i < sh .states
+  pub label-in : (i : ℕ) → i < count hs → label hs i < sh .labels
+  pub to-in : (i : ℕ) → i < count hs → to hs i < sh .states
+
+pub record Admitted (sh : Shape) (hs : List ℕ) : Type 0 where
+  pub states-some : 1 ≤ sh .states
+  pub states-most : sh .states ≤ most-states
+  pub labels-some : 1 ≤ sh .labels
+  pub labels-most : sh .labels ≤ most-labels
+  pub hops-most : count hs ≤ most-hops
+  pub three-a-hop : length hs % 3 ≡ 0
+  pub initial-in : sh .initial < sh .states
+  pub range : InRange sh hs
+  pub ascending : Ascending hs

@@ -1,0 +1,43 @@
+-- The hop list of document 01: "one flat list of numbers, three a hop", seen by places that count hops from 0.
+-- Only this file, the accessors and their laws know how many numbers a hop takes. Assumes nothing: these are definitions.
+use Prim.Native.Nat.{ℕ, _+_, _*_, _/_, _%_}
+use mathlib.Core.Bool.{Bool, _&&_}
+use mathlib.Core.List.{List, [], _∷_}
+use lib.ListN.{length, getD}
+use lib.Dec.{eqb}
+use Rattle.graph.specs.Tests.{any}
+use Rattle.graph.specs.declared.Hop.{Hop}
+
+-- how many hops a list holds; a list whose length is no multiple of three is not whole, and refused
+abbrev pub count : List ℕ → ℕ
+count hs = length hs / 3
+
+abbrev pub whole : List ℕ → Bool
+whole hs = eqb (length hs % 3) 0
+
+-- the three numbers of the hop at a place
+abbrev pub from : List ℕ → ℕ → ℕ
+from hs i = getD hs (3 * i) 0
+
+abbrev pub label : List ℕ → ℕ → ℕ
+label hs i = getD hs (3 * i + 1) 0
+
+abbrev pub to : List ℕ → ℕ → ℕ
+to hs i = getD hs (3 * i + 2) 0
+
+-- the hop at a place
+abbrev pub hopAt : List ℕ → ℕ → Hop
+hopAt hs i = record { from = from hs i; label = label hs i; to = to hs i }
+
+-- the flat list of a list of hops
+unfoldable pub flat : List Hop → List ℕ
+flat [] = []
+flat (h ∷ hs) = h .from ∷ h .label ∷ h .to ∷ flat hs
+
+-- the hop at place i is s, a, t
+unfoldable pub is : List ℕ → ℕ → ℕ → ℕ → ℕ → Bool
+is hs s a t i = eqb (from hs i) s && (eqb (label hs i) a && eqb (to hs i) t)
+
+-- the graph has the hop s, a, t
+unfoldable pub has : List ℕ → ℕ → ℕ → ℕ → Bool
+has hs s a t = any (count hs) (is hs s a t)

@@ -1,0 +1,5 @@
+pub mod Tests
+pub mod Hops
+pub mod Order
+pub mod Search
+pub mod Check

@@ -1,0 +1,54 @@
+// What stands at a place of a flat hop list. Nothing above this file knows how many numbers a hop takes.
+use super::Hop;
+use super::Label;
+use super::OldState;
+ghost use mathlib.Core.Path.{_≡_};
+ghost use Prim.Native.Nat.{_<_};
+ghost use Rattle.graph.specs.Hops.{count, whole, from, label, to, hopAt};
+
+// How many hops the list holds.
+pub fn hop_count(hops: &[u16]) -> usize
+    ensures { λ r. ⌜ r ≡ count (now (hops .entry)) ⌝ }
+{
+    hops.len() / 3
+}
+
+// Whether the list holds whole hops only.
+pub fn is_whole(hops: &[u16]) -> bool
+    ensures { λ r. ⌜ r ≡ whole (now (hops .entry)) ⌝ }
+{
+    hops.len() % 3 == 0
+}
+
+pub fn from_at(hops: &[u16], i: usize) -> OldState
+    requires { ⌜ i < count (now hops) ⌝ }
+    ensures { λ r. ⌜ r .0 ≡ from (now (hops .entry)) i ⌝ }
+{
+    OldState(hops[3 * i])
+}
+
+pub fn label_at(hops: &[u16], i: usize) -> Label
+    requires { ⌜ i < count (now hops) ⌝ }
+    ensures { λ r. ⌜ r .0 ≡ label (now (hops .entry)) i ⌝ }
+{
+    Label(hops[3 * i + 1])
+}
+
+pub fn to_at(hops: &[u16], i: usize) -> OldState
+    requires { ⌜ i < count (now hops) ⌝ }
+    ensures { λ r. ⌜ r .0 ≡ to (now (hops .entry)) i ⌝ }
+{
+    OldState(hops[3 * i + 2])
+}
+
+// The whole hop.
+pub fn hop_at(hops: &[u16], i: usize) -> Hop
+    requires { ⌜ i < count (now hops) ⌝ }
+    ensures { λ r. ⌜ r ≡ hopAt (now (hops .entry)) i ⌝ }
+{
+    Hop {
+        from: hops[3 * i],
+        label: hops[3 * i + 1],
+        to: hops[3 * i + 2],
+    }
+}

@@ -1,0 +1,40 @@
+// Mode graphs as flat hop lists: their types, the accessors, the order of hops, the one search, and the entry `check`.
+pub mod hops; // hops.rt: what stands at a place of a flat list
+pub mod order; // order.rt: the one comparison of hops
+pub mod search; // search.rt: the one search, and the places of a state's hops
+pub mod limits; // limits.rt: the entry `check` and its tests
+
+// A hop: from one state, by a label, to another. Label 0 is silent.
+pub struct Hop {
+    pub from: u16,
+    pub label: u16,
+    pub to: u16,
+}
+
+// What a graph has besides its hops. Any 32-bit number passes through unchanged, and is refused as it is.
+pub struct Shape {
+    pub states: u32,
+    pub labels: u32,
+    pub initial: u32,
+}
+
+// What an entry answers: document 01's number, table and place.
+pub struct Answer {
+    pub number: u32,
+    pub table: u32,
+    pub place: usize,
+}
+
+// A state's number in the graph that is read, and in the short graph. Only the map leads from one to the other.
+pub struct OldState(pub u16);
+
+pub struct NewState(pub u16);
+
+// A label's number, which is neither.
+pub struct Label(pub u16);
+
+// Where a hop stands, or where it would stand.
+pub enum Found {
+    At(usize),
+    Gap(usize),
+}
