@@ -1,0 +1,57 @@
+-- Confluent sets and the rounds of marking (document 01 "Marking"; RR-7000's equations X, Y, Z). Assumes nothing: these are definitions.
+use Prim.Native.Nat.{ℕ, zero, suc, _+_, _*_, _/_}
+use mathlib.Core.Path.{_≡_}
+use mathlib.Core.Bool.{Bool, true, false, not, _&&_, _||_}
+use mathlib.Core.Logic.{_⊎_}
+use mathlib.Core.List.{List}
+use lib.Dec.{eqb}
+use Rattle.graph.specs.Tests.{all, any}
+use Rattle.graph.specs.Hops.{count, from, label, to, has}
+
+-- a set of pairs of states
+abbrev pub Pairs : Type 0
+Pairs = ℕ → ℕ → Bool
+
+-- Z, the closing: "s3 = s4, or the silent hop s3 to s4 is in U"
+unfoldable pub closing : Pairs → ℕ → ℕ → Bool
+closing u s3 s4 = eqb s3 s4 || u s3 s4
+
+-- the hop at place j is one from s labelled a
+unfoldable pub leaves : List ℕ → ℕ → ℕ → ℕ → Bool
+leaves hs s a j = eqb (from hs j) s && eqb (label hs j) a
+
+-- "s2 has a hop labelled a to s4": the one at place j, and its end closes s3
+unfoldable pub answer : List ℕ → Pairs → ℕ → ℕ → ℕ → ℕ → Bool
+answer hs u s2 a s3 j = leaves hs s2 a j && closing u s3 (to hs j)
+
+-- Y, a hop labelled a to s3 tried against a silent hop to s2: "a is silent and s4 = s2", or a hop of s2 answers
+unfoldable pub answers : List ℕ → Pairs → ℕ → ℕ → ℕ → Bool
+answers hs u s2 a s3 = (eqb a 0 && closing u s3 s2) || any (count hs) (answer hs u s2 a s3)
+
+unfoldable pub answered : List ℕ → Pairs → ℕ → ℕ → Bool
+answered hs u s2 i = answers hs u s2 (label hs i) (to hs i)
+
+-- the hop at place i, if it leaves s1, is answered from s2
+unfoldable pub tried : List ℕ → Pairs → ℕ → ℕ → ℕ → Bool
+tried hs u s1 s2 i = not (eqb (from hs i) s1) || answered hs u s2 i
+
+-- X, a silent hop s1 to s2: each hop from s1 is answered from s2
+unfoldable pub closes : List ℕ → Pairs → ℕ → ℕ → Bool
+closes hs u s1 s2 = all (count hs) (tried hs u s1 s2)
+
+-- "Every silent hop survives 0 rounds. It survives k + 1 when the condition above holds with 'in U' read as 'survives k'."
+unfoldable pub survives : List ℕ → ℕ → Pairs
+survives hs zero s1 s2 = has hs s1 0 s2
+survives hs (suc k) s1 s2 = has hs s1 0 s2 && closes hs (survives hs k) s1 s2
+
+-- the marked set: what survives as many rounds as there are hops (and so every number of rounds)
+unfoldable pub marked : List ℕ → Pairs
+marked hs = survives hs (count hs)
+
+-- "A set U of silent hops is confluent when for each hop s1 to s2 in U and each hop s1, a, s3 there is an s4 such that .."
+-- U may be any set of pairs, decidable or not.
+pub record ConfluentSet (hs : List ℕ) (U : ℕ → ℕ → Type 0) : Type 0 where
+  pub silent : (s1 s2 : ℕ) → U s1 s2 → has hs s1 0 s2 ≡ true
+  pub closed :
+      (s1 s2 : ℕ) → U s1 s2 → (a s3 : ℕ) → has hs s1 a s3 ≡ true →
+      (s4 : ℕ) × ((has hs s2 a s4 ≡ true) ⊎ ((a ≡ 0) × (s4 ≡ s2))) × ((s3 ≡ s4) ⊎ U s3 s4)

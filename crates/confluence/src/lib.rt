@@ -1,0 +1,1 @@
+// Marking: which silent hops belong to some strongly confluent set.
