@@ -1,5 +1,5 @@
 -- Tests of every number below a bound, by which everything over a hop list is said: all pass, any passes, the least that passes, how many pass;
--- and the list of a function's values below a bound.
+-- and the list and the sum of a function's values below a bound.
 -- Assumes nothing: these are definitions.
 use Prim.Native.Nat.{ℕ, zero, suc, _+_}
 use mathlib.Core.Bool.{Bool, true, false, cond, _&&_, _||_}
@@ -28,3 +28,8 @@ tally (suc n) p = cond (p n) 1 0 + tally n p
 unfoldable pub listed : ℕ → (ℕ → ℕ) → List ℕ
 listed zero f = []
 listed (suc n) f = listed n f ++ (f n ∷ [])
+
+-- the sum of f 0, f 1, .. up to f (n - 1)
+unfoldable pub total : ℕ → (ℕ → ℕ) → ℕ
+total zero f = zero
+total (suc n) f = f n + total n f
