@@ -1,3 +1,4 @@
+pub mod Front
 pub mod Hops
 pub mod Leads
 pub mod Rings
