@@ -33,7 +33,7 @@ pub record Front (n : ℕ) (seen queue : List ℕ) (tail : ℕ) : Type 0 where
   pub seen-room : n ≤ length seen
   pub queue-room : n ≤ length queue
   pub bits : (t : ℕ) → t < n → noted seen t ≡ false → getD seen t 0 ≡ 0
-  pub counted : tail ≡ tally n (noted seen)
+  pub counted : tail ≤ tally n (noted seen)
   pub in-queue : (t : ℕ) → t < n → noted seen t ≡ true → (q : ℕ) × (q < tail) × (getD queue q 0 ≡ t)
   pub from-queue : (q : ℕ) → q < tail → (getD queue q 0 < n) × (noted seen (getD queue q 0) ≡ true)
 
