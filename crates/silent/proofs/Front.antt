@@ -74,7 +74,7 @@ module _ {n : ℕ} {seen queue : List ℕ} {tail : ℕ} (f : Front n seen queue 
   in-room : tail < length queue
   in-room = omega (arith, f .queue-room, front-room f t l e .0)
 
-  front-new : Front n (set seen t 1) (set queue tail t) (tail + 1)
+  pub front-new : Front n (set seen t 1) (set queue tail t) (tail + 1)
   front-new = record
       { seen-room = simp length-set (f .seen-room)
       ; queue-room = simp length-set (f .queue-room)

@@ -1,4 +1,5 @@
-pub mod Front
 pub mod Hops
 pub mod Leads
 pub mod Rings
+pub mod Front
+pub mod Search
