@@ -2,4 +2,5 @@ pub mod Hops
 pub mod Leads
 pub mod Rings
 pub mod Front
+pub mod Spread
 pub mod Search

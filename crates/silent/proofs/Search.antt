@@ -12,7 +12,7 @@ use Rattle.graph.specs.Tests.{tally, listed}
 use Rattle.graph.specs.Check.{InRange}
 use Rattle.graph.specs.declared.Shape.{Shape}
 use Rattle.graph.proofs.Bools.{clash, decided, eq-or-not, no-test}
-use Rattle.graph.proofs.Tests.{length-listed, getD-listed}
+use Rattle.graph.proofs.Tests.{length-listed, getD-listed, tally-within}
 use Rattle.lts.specs.Star.{stay, go}
 use Rattle.lts.proofs.Star.{one, join}
 use Rattle.silent.specs.Silent.{SilentOf, Leads, leads}
@@ -54,10 +54,10 @@ module _ (n : ℕ) (seen queue : List ℕ) (a : n ≤ length seen) (b : n ≤ le
       }
 
   -- the search begins with s noted
-  pub search-starts : (hs : List ℕ) (s : ℕ) → s < n →
-      Search hs n s seen queue (seenWith clean s) (queueWith clean queue 0 s) 0 (tailWith clean 0 s)
+  pub search-starts : (hs : List ℕ) (s : ℕ) → s < n → {seen₀ seen₁ queue₁ : List ℕ} {tail₁ : ℕ} → seen₀ ≡ clean → seen₁ ≡ seenWith seen₀ s →
+      queue₁ ≡ queueWith seen₀ queue 0 s → tail₁ ≡ tailWith seen₀ 0 s → Search hs n s seen queue seen₁ queue₁ 0 tail₁
   unfolding seenWith queueWith tailWith
-  search-starts hs s l = rw (clean-noted s l) begun where
+  search-starts hs s l z a′ b′ c = rw (a′, b′, c, z, clean-noted s l) begun where
     in-clean : s < length clean
     in-clean = rw (length-cleared seen n a) (omega arith)
 
@@ -72,6 +72,9 @@ module _ (n : ℕ) (seen queue : List ℕ) (a : n ≤ length seen) (b : n ≤ le
         ; seen-length = simp length-set (length-cleared seen n a)
         ; queue-length = simp length-set refl
         }
+
+pub search-tail : {hs : List ℕ} {n s : ℕ} {seen₀ queue₀ seen queue : List ℕ} {head tail : ℕ} → Search hs n s seen₀ queue₀ seen queue head tail → tail ≤ n
+search-tail {n = n} {seen = seen} a = omega (arith, a .front .counted, tally-within (noted seen) n)
 
 module _ {sh : Shape} {hs : List ℕ} (ranged : InRange sh hs) {s : ℕ} {seen₀ queue₀ seen queue : List ℕ} {head tail : ℕ}
     (a : Search hs (sh .states) s seen₀ queue₀ seen queue head tail) where

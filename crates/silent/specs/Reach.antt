@@ -8,7 +8,13 @@ use mathlib.Core.Logic.{_⊎_}
 use lib.ListN.{length, getD, set, drop}
 use lib.Dec.{eqb}
 use Rattle.graph.specs.Tests.{tally, listed}
+use Rattle.graph.specs.Search.{lower}
+use Rattle.graph.specs.declared.Hop.{Hop}
 use Rattle.silent.specs.Silent.{SilentOf, leads}
+
+-- the place past the last silent hop of s, in an ascending list
+unfoldable pub silentPast : List ℕ → ℕ → ℕ
+silentPast hs s = lower hs (record { from = s; label = 1; to = 0 })
 
 -- state t is noted
 unfoldable pub noted : List ℕ → ℕ → Bool
