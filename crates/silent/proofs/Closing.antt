@@ -1,21 +1,20 @@
 -- A state is on a ring exactly when it leads to a state that has a silent hop to it: the walk is cut before its last hop instead of after its first.
 -- Assumes nothing.
-use Prim.Native.Nat.{ℕ, _<_, _≤_}
+use Prim.Native.Nat.{ℕ, _<_}
 use mathlib.Core.Path.{_≡_, refl, sym, ap, _∙_}
 use mathlib.Core.Bool.{Bool, true, false, cond, _&&_}
 use mathlib.Core.List.{List, _++_}
-use native.Mathlib.Omega.{arith}
 use borrow.Author.Tests.{eq-eqb, eqb-true}
 use lib.Dec.{eqb}
-use lib.ListN.{getD, List·getD-append}
+use lib.ListN.{List·getD-append}
 use Rattle.graph.specs.Tests.{any, listed}
 use Rattle.graph.specs.Hops.{count, from, label, to}
 use Rattle.graph.specs.Check.{InRange}
 use Rattle.graph.specs.declared.Shape.{Shape}
 use Rattle.graph.proofs.Bools.{and-left, and-right, and-yes, same-test}
 use Rattle.graph.proofs.Tests.{any-at, any-found, length-listed, getD-listed}
-use Rattle.graph.proofs.Places.{Place, has-place, place-has}
-use Rattle.lts.specs.Star.{Star, stay, go}
+use Rattle.graph.proofs.Places.{has-place, place-has}
+use Rattle.lts.specs.Star.{stay, go}
 use Rattle.lts.proofs.Star.{one, join}
 use Rattle.silent.specs.Silent.{SilentOf, Leads, OnRing, leads, onRing}
 use Rattle.silent.specs.Reach.{noted, reached}
@@ -28,12 +27,12 @@ pub noted-reached : (hs : List ℕ) (n s : ℕ) (rest : List ℕ) (t : ℕ) → 
 unfolding noted reached
 noted-reached hs n s rest t l =
     ap (λ (x : ℕ). eqb x 1) (List·getD-append (listed n bit) rest 0 t (rw (length-listed bit n) l) ∙ getD-listed bit n l) ∙ told (leads hs n s t) where
-  bit : ℕ → ℕ
-  bit t = cond (leads hs n s t) 1 0
+      bit : ℕ → ℕ
+      bit t = cond (leads hs n s t) 1 0
 
-  told : (x : Bool) → eqb (cond x 1 0) 1 ≡ x
-  told true = refl
-  told false = refl
+      told : (x : Bool) → eqb (cond x 1 0) 1 ≡ x
+      told true = refl
+      told false = refl
 
 module _ (hs : List ℕ) where
   -- a walk back to s from the end of one of its hops, cut before its last hop
@@ -60,8 +59,8 @@ module _ {sh : Shape} {hs : List ℕ} (ranged : InRange sh hs) (s : ℕ) (seen r
         let (i, l, d) = any-at (closesAt hs seen s) (count hs) h in
         let a = and-left (eqb (label hs i) 0 && eqb (to hs i) s) (noted seen (from hs i)) d in
         let r : SilentOf hs (from hs i) s =
-            place-has hs (from hs i) 0 s
-            (record { at = i; within = l; from-is = refl; label-is = eqb-true _ _ (and-left (eqb (label hs i) 0) (eqb (to hs i) s) a); to-is = eqb-true _ _ (and-right (eqb (label hs i) 0) (eqb (to hs i) s) a) }) in
+        place-has hs (from hs i) 0 s
+        (record { at = i; within = l; from-is = refl; label-is = eqb-true _ _ (and-left (eqb (label hs i) 0) (eqb (to hs i) s) a); to-is = eqb-true _ _ (and-right (eqb (label hs i) 0) (eqb (to hs i) s) a) }) in
         walk-ring ranged s
         (ring-first hs s (from hs i)
         (leads-walk hs (sh .states) s (from hs i) (sym (noted-leads (from hs i) (ranged .from-in i l)) ∙ and-right (eqb (label hs i) 0 && eqb (to hs i) s) (noted seen (from hs i)) d)) r)

@@ -6,9 +6,9 @@ use mathlib.Core.Bool.{Bool, true, false, not, _||_}
 use mathlib.Core.List.{List}
 use mathlib.Core.Logic.{_⊎_, inl, inr, ⊎-elim}
 use native.Mathlib.Omega.{arith}
-use borrow.Author.Tests.{not-true, not-false}
-use lib.ListN.{length, getD, set, replicate, getD-replicate}
-use Rattle.graph.specs.Tests.{all, tally}
+use borrow.Author.Tests.{not-true}
+use lib.ListN.{length, set, replicate, getD-replicate}
+use Rattle.graph.specs.Tests.{all}
 use Rattle.graph.specs.Hops.{count, to}
 use Rattle.graph.specs.Check.{InRange}
 use Rattle.graph.specs.declared.Shape.{Shape}
@@ -84,15 +84,15 @@ module _ {sh : Shape} {hs : List ℕ} (ranged : InRange sh hs) where
   -- v is ranked
   pub ranked-one : (ranked : List ℕ) (v : ℕ) → Unringed hs (sh .states) ranked → sh .states ≤ length ranked → v < sh .states →
       noted ranked v ≡ false → endsNoted hs ranked v ≡ true → Ranked hs (sh .states) ranked (set ranked v 1) 1
-  ranked-one ranked v u room l e d = record
-      { unringed = λ t k f. ⊎-elim (u t k) (λ q. rw q off) (noted-set-back ranked v t f)
-      ; gained = omega (arith, tally-less (noted ranked) (noted (set ranked v 1)) (sh .states) (λ j k f. noted-set ranked v j within f) l e (noted-set-same ranked v within))
-      } where
-        within : v < length ranked
-        within = omega arith
+  ranked-one ranked v u room l e d = record {
+    unringed = λ t k f. ⊎-elim (u t k) (λ q. rw q off) (noted-set-back ranked v t f);
+    gained = omega (arith, tally-less (noted ranked) (noted (set ranked v 1)) (sh .states) (λ j k f. noted-set ranked v j within f) l e (noted-set-same ranked v within));
+  } where
+    within : v < length ranked
+    within = omega arith
 
-        off : OnRing hs v → ⊥
-        off w = let (t, r, x) = ring-goes-on hs v w in u t (silent-end ranged v t r) (ends-at hs ranked v d t r) x
+    off : OnRing hs v → ⊥
+    off w = let (t, r, x) = ring-goes-on hs v w in u t (silent-end ranged v t r) (ends-at hs ranked v d t r) x
 
   -- all are ranked: no state is on a ring
   pub lowest-none : ((t : ℕ) → t < sh .states → OnRing hs t → ⊥) → sh .states ≡ lowestOnRing sh hs

@@ -5,7 +5,6 @@ use mathlib.Core.Bool.{true}
 use mathlib.Core.Logic.{⊎-elim}
 use native.Mathlib.Omega.{arith}
 use borrow.Author.Needs.{needs}
-use lib.ListN.{length}
 use Rattle.graph.specs.Hops.{to}
 use Rattle.graph.proofs.Bools.{eq-or-not}
 use Rattle.silent.specs.Reach.{noted}
@@ -14,11 +13,6 @@ use Rattle.silent.proofs.Spread.{Range, place-within, end-within}
 use Rattle.silent.proofs.Ranking.{ends-fails, ends-all}
 use Rattle.silent.proofs.rank.ends_ranked.Statement.{statement}
 use Rattle.silent.proofs.rank.ends_ranked.Tie as tie
-use Rattle.silent.proofs.rank.ends_ranked.Reads as reads
-use Rattle.silent.proofs.rank.ends_ranked.Lts as lts
-use Rattle.graph.proofs.hops.to_at.Reads as to-at-reads
-use Rattle.graph.proofs.search.first_of.Reads as first-of-reads
-use Rattle.silent.proofs.reach.silent_past.Reads as silent-past-reads
 
 abbrev Inv-loop : tie.InvT-loop
 Inv-loop hops ranked past i₀ i = (i₀ ≤ i) × ((j : ℕ) → i₀ ≤ j → j < i → noted ranked (to hops j) ≡ true)
@@ -70,7 +64,7 @@ loop-again : tie.Need-loop-again Inv-loop μ-loop
 loop-again c =
     let a = c .before .before .before .before .before in
     let here : noted (start a .args .ranked .now) (to (start a .args .hops .now) (a .loop .i)) ≡ true =
-        rw (← c .before .before .before .to-at .ensures) (noted-yes _ _ (c .if1 .left)) in
+    rw (← c .before .before .before .to-at .ensures) (noted-yes _ _ (c .if1 .left)) in
     (omega arith, λ j l m. ⊎-elim (λ q. rw q here) (λ f. a .loop .inv .1 j l (omega arith)) (eq-or-not j (a .loop .i)))
 
 returns-2 : tie.Need-returns-2 Inv-loop μ-loop

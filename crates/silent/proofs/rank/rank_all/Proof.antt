@@ -1,5 +1,5 @@
 -- `silent::rank::rank_all` meets its contract. The invariant: at least `done` states more are ranked. Assumes nothing.
-use Prim.Native.Nat.{ℕ, _+_, _-_}
+use Prim.Native.Nat.{_+_, _-_}
 use mathlib.Core.Path.{_≡_, refl, _∙_}
 use native.Mathlib.Omega.{arith}
 use borrow.Author.Needs.{needs}
@@ -8,9 +8,6 @@ use Rattle.silent.specs.Ring.{Ranked}
 use Rattle.silent.proofs.Ranking.{ranked-none, ranked-join, ranked-within}
 use Rattle.silent.proofs.rank.rank_all.Statement.{statement}
 use Rattle.silent.proofs.rank.rank_all.Tie as tie
-use Rattle.silent.proofs.rank.rank_all.Reads as reads
-use Rattle.silent.proofs.rank.rank_all.Lts as lts
-use Rattle.silent.proofs.rank.sweep.Reads as sweep-reads
 
 abbrev Inv-loop : tie.InvT-loop
 Inv-loop shape hops ranked₀ n done₀ ranked done =

@@ -1,14 +1,11 @@
 -- `silent::rank::rank_one` meets its contract: v is ranked only where all its silent hops lead to ranked states. Assumes nothing.
-use mathlib.Core.Path.{_≡_, sym, _∙_}
+use mathlib.Core.Path.{sym, _∙_}
 use borrow.Author.Needs.{needs}
 use borrow.Author.Tests.{not-false}
 use Rattle.silent.proofs.Front.{noted-no}
 use Rattle.silent.proofs.Ranking.{ranked-one}
 use Rattle.silent.proofs.rank.rank_one.Statement.{statement}
 use Rattle.silent.proofs.rank.rank_one.Tie as tie
-use Rattle.silent.proofs.rank.rank_one.Reads as reads
-use Rattle.silent.proofs.rank.rank_one.Lts as lts
-use Rattle.silent.proofs.rank.ends_ranked.Reads as ends-ranked-reads
 
 cast-at : tie.Need-cast-at
 cast-at c = search needs

@@ -1,5 +1,5 @@
 -- `silent::rank::sweep` meets its contract. The invariant: at least `got` states more are ranked. Assumes nothing.
-use Prim.Native.Nat.{ℕ, _≤_}
+use Prim.Native.Nat.{_≤_}
 use mathlib.Core.Path.{_≡_, refl, _∙_}
 use native.Mathlib.Omega.{arith}
 use borrow.Author.Needs.{needs}
@@ -8,9 +8,6 @@ use Rattle.silent.specs.Ring.{Ranked}
 use Rattle.silent.proofs.Ranking.{ranked-none, ranked-join, ranked-within}
 use Rattle.silent.proofs.rank.sweep.Statement.{statement}
 use Rattle.silent.proofs.rank.sweep.Tie as tie
-use Rattle.silent.proofs.rank.sweep.Reads as reads
-use Rattle.silent.proofs.rank.sweep.Lts as lts
-use Rattle.silent.proofs.rank.rank_one.Reads as rank-one-reads
 
 abbrev Inv-loop : tie.InvT-loop
 Inv-loop shape hops ranked₀ got₀ v₀ ranked got v =

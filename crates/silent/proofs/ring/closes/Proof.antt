@@ -10,10 +10,6 @@ use Rattle.graph.proofs.Tests.{any-none, any-more, any-found, any-done}
 use Rattle.silent.specs.Ring.{closesAt}
 use Rattle.silent.proofs.ring.closes.Statement.{statement}
 use Rattle.silent.proofs.ring.closes.Tie as tie
-use Rattle.silent.proofs.ring.closes.Reads as reads
-use Rattle.silent.proofs.ring.closes.Lts as lts
-use Rattle.graph.proofs.hops.hop_count.Reads as hop-count-reads
-use Rattle.silent.proofs.ring.closes_at.Reads as closes-at-reads
 
 abbrev Inv-loop : tie.InvT-loop
 Inv-loop shape hops s seen n i₀ i = (n ≡ count hops) × (i ≤ n) × (any i (closesAt hops seen (s .0)) ≡ false)
@@ -32,7 +28,7 @@ closes-at-requires c κs = (c .before .before .before .before .before .pre .0, (
 
 returns : tie.Need-returns Inv-loop μ-loop
 returns c =
-    sym (any-found _ _ (rw (← c .before .before .before .loop .inv .0) (c .before .before .loop-test .taken)) (sym (c .before .closes-at .ensures) ∙ c .if1 .taken))
+    sym (any-found _ _ (rw (← c .before .before .before .loop .inv .0) (c .before .before .loop-test .taken)) (rw (c .before .closes-at .ensures) at (c .if1 .taken)))
 
 add-i : tie.Need-add-i Inv-loop μ-loop
 add-i c = omega (arith, c .before .before .before .loop .inv .0, c .before .before .loop-test .taken, c .before .before .before .before .before .before .before .pre .0 .hops-most)
@@ -43,7 +39,7 @@ loop-less c = omega (arith, c .before .before .loop-test .taken)
 loop-again : tie.Need-loop-again Inv-loop μ-loop
 loop-again c =
     let i = c .before .before .before .loop .inv in
-    (i .0, omega (arith, c .before .before .loop-test .taken), any-more _ _ (i .2) (sym (c .before .closes-at .ensures) ∙ c .if1 .left))
+    (i .0, omega (arith, c .before .before .loop-test .taken), any-more _ _ (i .2) (rw (c .before .closes-at .ensures) at (c .if1 .left)))
 
 returns-2 : tie.Need-returns-2 Inv-loop μ-loop
 returns-2 c =

@@ -1,16 +1,10 @@
 -- `silent::ring::closes_at` meets its contract: the code is the definition. Assumes nothing.
-use mathlib.Core.Path.{_≡_}
 use native.Mathlib.Omega.{arith}
 use borrow.Author.Needs.{needs}
 use Rattle.silent.specs.Reach.{noted}
 use Rattle.silent.specs.Ring.{closesAt}
 use Rattle.silent.proofs.ring.closes_at.Statement.{statement}
 use Rattle.silent.proofs.ring.closes_at.Tie as tie
-use Rattle.silent.proofs.ring.closes_at.Reads as reads
-use Rattle.silent.proofs.ring.closes_at.Lts as lts
-use Rattle.graph.proofs.hops.from_at.Reads as from-at-reads
-use Rattle.graph.proofs.hops.label_at.Reads as label-at-reads
-use Rattle.graph.proofs.hops.to_at.Reads as to-at-reads
 
 from-at-requires : tie.Need-from-at-requires
 from-at-requires c κs = search needs

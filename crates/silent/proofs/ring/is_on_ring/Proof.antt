@@ -1,15 +1,11 @@
 -- `silent::ring::is_on_ring` meets its contract: a ranked state is on no ring, and after a search from s the hops that close tell. Assumes nothing.
-use mathlib.Core.Path.{_≡_, sym, _∙_}
+use mathlib.Core.Path.{sym, _∙_}
 use borrow.Author.Needs.{needs}
 use Rattle.silent.proofs.Front.{noted-yes}
 use Rattle.silent.proofs.Rings.{no-ring-test}
 use Rattle.silent.proofs.Closing.{closes-ring}
 use Rattle.silent.proofs.ring.is_on_ring.Statement.{statement}
 use Rattle.silent.proofs.ring.is_on_ring.Tie as tie
-use Rattle.silent.proofs.ring.is_on_ring.Reads as reads
-use Rattle.silent.proofs.ring.is_on_ring.Lts as lts
-use Rattle.silent.proofs.reach.reach.Reads as reach-reads
-use Rattle.silent.proofs.ring.closes.Reads as closes-reads
 
 cast-at : tie.Need-cast-at
 cast-at c = search needs

@@ -1,15 +1,9 @@
 -- `silent::ring::lowest_on_ring` meets its contract: where all states are ranked there is no ring. Assumes nothing.
-use Prim.Native.Nat.{_≤_}
-use mathlib.Core.Path.{_≡_, sym, _∙_}
 use native.Mathlib.Omega.{arith}
 use borrow.Author.Needs.{needs}
 use Rattle.silent.proofs.Ranking.{unringed-none, ranked-all, lowest-none}
 use Rattle.silent.proofs.ring.lowest_on_ring.Statement.{statement}
 use Rattle.silent.proofs.ring.lowest_on_ring.Tie as tie
-use Rattle.silent.proofs.ring.lowest_on_ring.Reads as reads
-use Rattle.silent.proofs.ring.lowest_on_ring.Lts as lts
-use Rattle.silent.proofs.rank.rank_all.Reads as rank-all-reads
-use Rattle.silent.proofs.ring.lowest_unranked.Reads as lowest-unranked-reads
 
 cast-n : tie.Need-cast-n
 cast-n c = search needs

@@ -9,9 +9,6 @@ use Rattle.graph.proofs.Tests.{least-none, least-more, least-found, least-done}
 use Rattle.silent.specs.Silent.{onRing, lowestOnRing}
 use Rattle.silent.proofs.ring.lowest_unranked.Statement.{statement}
 use Rattle.silent.proofs.ring.lowest_unranked.Tie as tie
-use Rattle.silent.proofs.ring.lowest_unranked.Reads as reads
-use Rattle.silent.proofs.ring.lowest_unranked.Lts as lts
-use Rattle.silent.proofs.ring.is_on_ring.Reads as is-on-ring-reads
 
 abbrev Inv-loop : tie.InvT-loop
 Inv-loop shape hops ranked seen₀ queue₀ n s₀ seen queue s =
@@ -46,7 +43,7 @@ unfolding lowestOnRing
 returns c =
     let i = c .before .before .before .before .before .before .before .loop .inv in
     let below : c .before .before .before .before .before .before .before .loop .s < c .before .before .before .before .before .before .before .before .before .before .before .args .shape .states = omega (arith, i .0, c .before .before .before .before .before .before .loop-test .taken) in
-    sym (least-found _ _ below (i .4) (sym (c .before .before .before .is-on-ring .ensures) ∙ c .if1 .taken))
+    sym (least-found _ _ below (i .4) (rw (c .before .before .before .is-on-ring .ensures) at (c .if1 .taken)))
 
 add-s : tie.Need-add-s Inv-loop μ-loop
 add-s c = omega (arith, c .before .before .before .before .before .before .before .loop .inv .0, c .before .before .before .before .before .before .loop-test .taken, c .before .before .before .before .before .before .before .before .before .before .before .pre .0 .states-most)
@@ -57,7 +54,7 @@ loop-less c = omega (arith, c .before .before .before .before .before .before .l
 loop-again : tie.Need-loop-again Inv-loop μ-loop
 loop-again c =
     let i = c .before .before .before .before .before .before .before .loop .inv in
-    (i .0, omega (arith, c .before .before .before .before .before .before .loop-test .taken), c .before .before .before .is-on-ring .kept .1 .1 .1 .1 .0 ∙ i .2, c .before .before .before .is-on-ring .kept .1 .1 .1 .1 .1 .0 ∙ i .3, least-more _ _ (i .4) (sym (c .before .before .before .is-on-ring .ensures) ∙ c .if1 .left))
+    (i .0, omega (arith, c .before .before .before .before .before .before .loop-test .taken), c .before .before .before .is-on-ring .kept .1 .1 .1 .1 .0 ∙ i .2, c .before .before .before .is-on-ring .kept .1 .1 .1 .1 .1 .0 ∙ i .3, least-more _ _ (i .4) (rw (c .before .before .before .is-on-ring .ensures) at (c .if1 .left)))
 
 returns-2 : tie.Need-returns-2 Inv-loop μ-loop
 unfolding lowestOnRing

@@ -1,13 +1,9 @@
 -- `silent::ring::ring_answer` meets its contract: the two ways out are the two cases of the definition. Assumes nothing.
-use mathlib.Core.Path.{_≡_, refl, sym, _∙_}
 use borrow.Author.Needs.{needs}
 use borrow.Author.Tests.{lt-ltb, le-ltb}
 use Rattle.silent.specs.Silent.{ringless}
 use Rattle.silent.proofs.ring.ring_answer.Statement.{statement}
 use Rattle.silent.proofs.ring.ring_answer.Tie as tie
-use Rattle.silent.proofs.ring.ring_answer.Reads as reads
-use Rattle.silent.proofs.ring.ring_answer.Lts as lts
-use Rattle.silent.proofs.ring.lowest_on_ring.Reads as lowest-on-ring-reads
 
 lowest-on-ring-requires : tie.Need-lowest-on-ring-requires
 lowest-on-ring-requires c κs = search needs
