@@ -1,38 +1,26 @@
 -- A state is on a ring exactly when it leads to a state that has a silent hop to it: the walk is cut before its last hop instead of after its first.
 -- Assumes nothing.
 use Prim.Native.Nat.{ℕ, _<_}
-use mathlib.Core.Path.{_≡_, refl, sym, ap, _∙_}
-use mathlib.Core.Bool.{Bool, true, false, cond, _&&_}
+use mathlib.Core.Path.{_≡_, refl, sym, _∙_}
+use mathlib.Core.Bool.{true, _&&_}
 use mathlib.Core.List.{List, _++_}
 use borrow.Author.Tests.{eq-eqb, eqb-true}
 use lib.Dec.{eqb}
-use lib.ListN.{List·getD-append}
-use Rattle.graph.specs.Tests.{any, listed}
+use Rattle.graph.specs.Tests.{any}
 use Rattle.graph.specs.Hops.{count, from, label, to}
 use Rattle.graph.specs.Check.{InRange}
 use Rattle.graph.specs.declared.Shape.{Shape}
 use Rattle.graph.proofs.Bools.{and-left, and-right, and-yes, same-test}
-use Rattle.graph.proofs.Tests.{any-at, any-found, length-listed, getD-listed}
+use Rattle.graph.proofs.Tests.{any-at, any-found}
 use Rattle.graph.proofs.Places.{has-place, place-has}
 use Rattle.lts.specs.Star.{stay, go}
 use Rattle.lts.proofs.Star.{one, join}
 use Rattle.silent.specs.Silent.{SilentOf, Leads, OnRing, leads, onRing}
 use Rattle.silent.specs.Reach.{noted, reached}
 use Rattle.silent.specs.Ring.{closesAt}
+use Rattle.silent.proofs.Search.{noted-reached}
 use Rattle.silent.proofs.Leads.{leads-walk, walk-leads}
 use Rattle.silent.proofs.Rings.{ring-walk, walk-ring}
-
--- the bytes that a search leaves say which states s leads to
-pub noted-reached : (hs : List ℕ) (n s : ℕ) (rest : List ℕ) (t : ℕ) → t < n → noted (reached hs n s ++ rest) t ≡ leads hs n s t
-unfolding noted reached
-noted-reached hs n s rest t l =
-    ap (λ (x : ℕ). eqb x 1) (List·getD-append (listed n bit) rest 0 t (rw (length-listed bit n) l) ∙ getD-listed bit n l) ∙ told (leads hs n s t) where
-      bit : ℕ → ℕ
-      bit t = cond (leads hs n s t) 1 0
-
-      told : (x : Bool) → eqb (cond x 1 0) 1 ≡ x
-      told true = refl
-      told false = refl
 
 module _ (hs : List ℕ) where
   -- a walk back to s from the end of one of its hops, cut before its last hop

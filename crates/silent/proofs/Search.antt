@@ -6,6 +6,7 @@ use mathlib.Core.Bool.{Bool, true, false, cond}
 use mathlib.Core.List.{List, _++_}
 use mathlib.Core.Logic.{⊎-elim}
 use native.Mathlib.Omega.{arith}
+use lib.Dec.{eqb}
 use lib.ListN.{length, getD, set, take, drop, replicate, length-set, length-replicate, take-append-drop, List·getD-append, getD-replicate}
 use lib.Seq.{ext-getD, length-take-le, getD-take, drop-at, drop-set-lt}
 use Rattle.graph.specs.Tests.{listed}
@@ -136,3 +137,18 @@ module _ {sh : Shape} {hs : List ℕ} (ranged : InRange sh hs) {s : ℕ} {seen�
       fronts = ext-getD 0 _ _ (size ∙ sym (length-listed bit (sh .states)))
           (λ i l. let k : i < sh .states = omega (arith, size) in
           getD-take (sh .states) seen i 0 k ∙ noted-leads m i k ∙ sym (getD-listed bit (sh .states) k))
+
+-- what the bytes that a search leaves say of a state
+module _ (hs : List ℕ) (n s : ℕ) (rest : List ℕ) (t : ℕ) (l : t < n) where
+  pub reached-at : getD (reached hs n s ++ rest) t 0 ≡ cond (leads hs n s t) 1 0
+  unfolding reached
+  reached-at = List·getD-append (listed n bit) rest 0 t (rw (length-listed bit n) l) ∙ getD-listed bit n l where
+    bit : ℕ → ℕ
+    bit t = cond (leads hs n s t) 1 0
+
+  pub noted-reached : noted (reached hs n s ++ rest) t ≡ leads hs n s t
+  unfolding noted
+  noted-reached = ap (λ (x : ℕ). eqb x 1) reached-at ∙ told (leads hs n s t) where
+    told : (x : Bool) → eqb (cond x 1 0) 1 ≡ x
+    told true = refl
+    told false = refl
