@@ -1,4 +1,4 @@
--- Laws of the search's front: clearing the bytes. Assumes nothing.
+-- Laws of the search's front: the bytes cleared, a byte set, and how the front grows when a state is noted. Assumes nothing.
 use Prim.Native.Nat.{ℕ, zero, suc, _+_, _<_, _≤_}
 use mathlib.Core.Path.{_≡_, refl, sym, ap, _∙_}
 use mathlib.Core.Bool.{Bool, true, false, cond}
@@ -9,11 +9,11 @@ use native.Mathlib.Omega.{arith}
 use borrow.Author.Tests.{eqb-true, eq-eqb, ne-eqb}
 use lib.ListN.{length, getD, set, drop, replicate, length-append, length-drop, length-set, length-replicate}
 use lib.Seq.{drop-cons, set-at, getD-set-same, getD-set-other, drop-set-lt}
-use Rattle.silent.specs.Reach.{noted, seenWith, queueWith, tailWith, Front, Grown}
-use Rattle.silent.specs.Silent.{SilentOf}
 use Rattle.graph.specs.Tests.{tally}
 use Rattle.graph.proofs.Bools.{clash, eq-or-not}
 use Rattle.graph.proofs.Tests.{tally-less, tally-within}
+use Rattle.silent.specs.Silent.{SilentOf}
+use Rattle.silent.specs.Reach.{noted, seenWith, queueWith, tailWith, Front, Grown}
 
 -- the first i bytes are 0 and the others are as they were
 module _ (l : List ℕ) where
