@@ -1,3 +1,7 @@
 pub mod Bools
 pub mod Tests
 pub mod Chains
+pub mod Places
+pub mod Ordered
+pub mod Lookup
+pub mod Checked

@@ -1,7 +1,7 @@
 -- What document 01 admits as a graph, and the answers 0 to 4. Assumes nothing: these are definitions.
 use Prim.Native.Nat.{ℕ, _+_, _-_, _%_, _<_, _≤_}
 use mathlib.Core.Path.{_≡_}
-use mathlib.Core.Bool.{Bool, cond, not, _&&_}
+use mathlib.Core.Bool.{Bool, cond, not, _&&_, _||_}
 use mathlib.Core.List.{List}
 use lib.ListN.{length}
 use lib.Dec.{eqb, leb, ltb}
@@ -55,7 +55,7 @@ firstOutside sh hs = least (count hs) (λ (i : ℕ). not (inside sh hs i))
 
 -- row 4: "a hop not above the one before"; the first hop has none before it
 unfoldable pub rises : List ℕ → ℕ → Bool
-rises hs i = cond (eqb i 0) (eqb 0 0) (before (hopAt hs (i - 1)) (hopAt hs i))
+rises hs i = eqb i 0 || before (hopAt hs (i - 1)) (hopAt hs i)
 
 unfoldable pub firstFalling : List ℕ → ℕ
 firstFalling hs = least (count hs) (λ (i : ℕ). not (rises hs i))

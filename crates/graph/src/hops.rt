@@ -4,7 +4,7 @@ use super::Label;
 use super::OldState;
 ghost use mathlib.Core.Path.{_≡_};
 ghost use Prim.Native.Nat.{_<_};
-ghost use Rattle.graph.specs.Hops.{count, whole, from, label, to, hopAt};
+ghost use Rattle.graph.specs.Hops.{count, whole, from, label, to, hopAt, is};
 
 // How many hops the list holds.
 pub fn hop_count(hops: &[u16]) -> usize
@@ -51,4 +51,12 @@ pub fn hop_at(hops: &[u16], i: usize) -> Hop
         label: hops[3 * i + 1],
         to: hops[3 * i + 2],
     }
+}
+
+// Whether the hop at the place is h.
+pub fn is_hop_at(hops: &[u16], i: usize, h: Hop) -> bool
+    requires { ⌜ i < count (now hops) ⌝ }
+    ensures { λ r. ⌜ r ≡ is (now (hops .entry)) (h .from) (h .label) (h .to) i ⌝ }
+{
+    (hops[3 * i] == h.from) & ((hops[3 * i + 1] == h.label) & (hops[3 * i + 2] == h.to))
 }

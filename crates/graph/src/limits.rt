@@ -1,0 +1,125 @@
+// The entry `check`: whether a graph is one that document 01 admits, and if not, by which row and where.
+use super::Answer;
+use super::Shape;
+use super::hops::hop_at;
+use super::hops::hop_count;
+use super::hops::is_whole;
+use super::order::is_before;
+ghost use mathlib.Core.Path.{_≡_};
+ghost use Prim.Native.Nat.{_<_};
+ghost use Rattle.graph.specs.Hops.{count};
+ghost use Rattle.graph.specs.Check.{accepted, refused, countsFit, inside, firstOutside, rises, firstFalling, checkOf};
+
+const MOST_STATES: u32 = 1024;
+
+const MOST_LABELS: u32 = 1024;
+
+const MOST_HOPS: usize = 4096;
+
+pub fn accept() -> Answer
+    ensures { λ r. ⌜ r ≡ accepted ⌝ }
+{
+    Answer {
+        number: 0,
+        table: 1,
+        place: 0,
+    }
+}
+
+pub fn refuse(number: u32, place: usize) -> Answer
+    ensures { λ r. ⌜ r ≡ refused number place ⌝ }
+{
+    Answer {
+        number,
+        table: 1,
+        place,
+    }
+}
+
+// Row 1.
+fn counts_fit(shape: Shape, hops: &[u16]) -> bool
+    ensures { λ r. ⌜ r ≡ countsFit shape (now (hops .entry)) ⌝ }
+{
+    let n = hop_count(hops);
+    let whole = is_whole(hops);
+    (1 <= shape.states)
+        & (shape.states <= MOST_STATES)
+        & (1 <= shape.labels)
+        & (shape.labels <= MOST_LABELS)
+        & (n <= MOST_HOPS)
+        & whole
+}
+
+// Row 3 of one hop.
+fn is_inside(shape: Shape, hops: &[u16], i: usize) -> bool
+    requires { ⌜ i < count (now hops) ⌝ }
+    ensures { λ r. ⌜ r ≡ inside shape (now (hops .entry)) i ⌝ }
+{
+    let hop = hop_at(hops, i);
+    ((hop.from as u32) < shape.states)
+        & ((hop.label as u32) < shape.labels)
+        & ((hop.to as u32) < shape.states)
+}
+
+// Row 3: the first hop out of range, or the number of hops.
+fn first_outside(shape: Shape, hops: &[u16]) -> usize
+    ensures { λ r. ⌜ r ≡ firstOutside shape (now (hops .entry)) ⌝ }
+{
+    let n = hop_count(hops);
+    let mut i = 0;
+    while i < n {
+        if !is_inside(shape, hops, i) {
+            return i;
+        }
+        i += 1;
+    }
+    n
+}
+
+// Row 4 of one hop.
+fn is_rising(hops: &[u16], i: usize) -> bool
+    requires { ⌜ i < count (now hops) ⌝ }
+    ensures { λ r. ⌜ r ≡ rises (now (hops .entry)) i ⌝ }
+{
+    if i == 0 {
+        return true;
+    }
+    is_before(hop_at(hops, i - 1), hop_at(hops, i))
+}
+
+// Row 4: the first hop not above the one before, or the number of hops.
+fn first_falling(hops: &[u16]) -> usize
+    ensures { λ r. ⌜ r ≡ firstFalling (now (hops .entry)) ⌝ }
+{
+    let n = hop_count(hops);
+    let mut i = 0;
+    while i < n {
+        if !is_rising(hops, i) {
+            return i;
+        }
+        i += 1;
+    }
+    n
+}
+
+// The entry. Rows 1 to 4 in their order: a hop out of range anywhere speaks before any hop out of order.
+pub fn check(shape: Shape, hops: &[u16]) -> Answer
+    ensures { λ r. ⌜ r ≡ checkOf shape (now (hops .entry)) ⌝ }
+{
+    if !counts_fit(shape, hops) {
+        return refuse(1, 0);
+    }
+    if shape.states <= shape.initial {
+        return refuse(2, 0);
+    }
+    let n = hop_count(hops);
+    let outside = first_outside(shape, hops);
+    if outside < n {
+        return refuse(3, outside);
+    }
+    let falling = first_falling(hops);
+    if falling < n {
+        return refuse(4, falling);
+    }
+    accept()
+}

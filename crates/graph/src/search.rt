@@ -1,0 +1,68 @@
+// The one search: where a hop stands in an ascending list or would stand, and by it the places of a state's hops.
+use super::Found;
+use super::Hop;
+use super::OldState;
+use super::hops::hop_at;
+use super::hops::hop_count;
+use super::hops::is_hop_at;
+use super::order::is_before;
+ghost use mathlib.Core.Path.{_≡_};
+ghost use Prim.Native.Nat.{_<_};
+ghost use Rattle.graph.specs.Hops.{count};
+ghost use Rattle.graph.specs.Order.{Ascending};
+ghost use Rattle.graph.specs.Search.{lower, placed, firstOf, pastOf};
+
+// The first place whose hop is not before h, or the number of hops: by halving.
+pub fn lower_place(hops: &[u16], h: Hop) -> usize
+    requires { ⌜ Ascending (now hops) ⌝ }
+    ensures { λ r. ⌜ r ≡ lower (now (hops .entry)) h ⌝ }
+{
+    let mut lo = 0;
+    let mut hi = hop_count(hops);
+    while lo < hi {
+        let mid = lo + (hi - lo) / 2;
+        if is_before(hop_at(hops, mid), h) {
+            lo = mid + 1;
+        } else {
+            hi = mid;
+        }
+    }
+    lo
+}
+
+// Where the hop stands, or would stand.
+pub fn find(hops: &[u16], h: Hop) -> Found
+    requires { ⌜ Ascending (now hops) ⌝ }
+    ensures { λ r. ⌜ r ≡ placed (now (hops .entry)) h ⌝ }
+{
+    let at = lower_place(hops, h);
+    if at < hop_count(hops) {
+        if is_hop_at(hops, at, h) {
+            return Found::At(at);
+        }
+    }
+    Found::Gap(at)
+}
+
+// The place of the first hop of s, or where it would stand.
+pub fn first_of(hops: &[u16], s: OldState) -> usize
+    requires { ⌜ Ascending (now hops) ⌝ }
+    ensures { λ r. ⌜ r ≡ firstOf (now (hops .entry)) (s .0) ⌝ }
+{
+    lower_place(
+        hops,
+        Hop {
+            from: s.0,
+            label: 0,
+            to: 0,
+        },
+    )
+}
+
+// The place past the last hop of s.
+pub fn past_of(hops: &[u16], s: OldState) -> usize
+    requires { ⌜ Ascending (now hops) × (s .0 < 65535) ⌝ }
+    ensures { λ r. ⌜ r ≡ pastOf (now (hops .entry)) (s .0) ⌝ }
+{
+    first_of(hops, OldState(s.0 + 1))
+}

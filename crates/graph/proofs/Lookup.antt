@@ -1,0 +1,182 @@
+-- Laws of the search in an ascending list: the places below `lower` hold exactly the earlier hops, the search tells membership, and the
+-- places from `firstOf` up to `pastOf` hold exactly a state's hops. Assumes nothing.
+use Prim.Native.Nat.{ℕ, zero, suc, _+_, _<_, _≤_}
+use mathlib.Core.Path.{_≡_, refl, sym, ap, _∙_, subst}
+use mathlib.Core.Bool.{Bool, true, false, not, _&&_}
+use mathlib.Core.List.{List}
+use mathlib.Core.Logic.{_⊎_, inl, inr, ⊎-elim}
+use native.Mathlib.Nat.{eq-or-lt-of-le, le-refl}
+use native.Mathlib.Omega.{arith}
+use borrow.Author.Tests.{ltb-true, ltb-false, lt-ltb, le-ltb, not-true, not-false}
+use lib.Dec.{ltb}
+use Rattle.graph.specs.Tests.{any, all, least}
+use Rattle.graph.specs.Hops.{count, from, label, to, hopAt, is, has}
+use Rattle.graph.specs.Order.{before, Ascending}
+use Rattle.graph.specs.Search.{lower, found, placed, isAt, firstOf, pastOf}
+use Rattle.graph.specs.declared.Hop.{Hop}
+use Rattle.graph.specs.declared.Found.{Found}
+use Rattle.graph.specs.declared.Found.the-variants.{At, Gap}
+use Rattle.graph.proofs.Bools.{clash, decided, not-yes, not-no, no-test, and-left, and-right, and-no-right, same-test, lt-or-le}
+use Rattle.graph.proofs.Tests.{least-is, least-passes, least-before, least-within, any-found, any-no, all-yes}
+use Rattle.graph.proofs.Places.{is-yes, has-place}
+use Rattle.graph.proofs.Ordered.{Below, before-below, below-before, before-trans, before-itself, ascending-lt}
+
+-- what the binary search knows between lo and hi
+pub record Bracket (hs : List ℕ) (h : Hop) (lo hi : ℕ) : Type 0 where
+  pub lo-le : lo ≤ hi
+  pub hi-le : hi ≤ count hs
+  pub below : (j : ℕ) → j < lo → before (hopAt hs j) h ≡ true
+  pub above : (j : ℕ) → hi ≤ j → j < count hs → before (hopAt hs j) h ≡ false
+
+module _ (hs : List ℕ) (h : Hop) where
+  pub lower-within : lower hs h ≤ count hs
+  unfolding lower
+  lower-within = least-within (λ (i : ℕ). not (before (hopAt hs i) h)) (count hs)
+
+  pub lower-met : {lo hi : ℕ} → Bracket hs h lo hi → hi ≤ lo → lower hs h ≡ lo
+  unfolding lower
+  lower-met {lo} b met =
+      least-is (λ (i : ℕ). not (before (hopAt hs i) h)) (count hs) lo (omega arith) (λ j l. not-yes (b .below j l))
+      (λ l. not-no (b .above lo met l))
+
+  module _ (up : Ascending hs) where
+    -- what comes after a hop that is not before h is not before h
+    after : {i j : ℕ} → i ≤ j → j < count hs → before (hopAt hs i) h ≡ false → before (hopAt hs j) h ≡ false
+    after {i} {j} l m e =
+        ⊎-elim (λ q. subst (λ (n : ℕ). before (hopAt hs n) h ≡ false) q e)
+        (λ k. no-test (before (hopAt hs j) h) (λ d. clash (before-trans (hopAt hs i) (hopAt hs j) h (ascending-lt hs up j k m) d) e))
+        (eq-or-lt-of-le l)
+
+    module _ (lo hi m : ℕ) (b : Bracket hs h lo hi) (lo≤m : lo ≤ m) (m<hi : m < hi) where
+      m<n : m < count hs
+      m<n = omega arith
+
+      earlier : (j : ℕ) → j < m + 1 → before (hopAt hs m) h ≡ true → before (hopAt hs j) h ≡ true
+      earlier j l e = go (decided (before (hopAt hs j) h)) where
+        go : (before (hopAt hs j) h ≡ true) ⊎ (before (hopAt hs j) h ≡ false) → before (hopAt hs j) h ≡ true
+        go (inl d) = d
+        go (inr d) = clash e (after (omega arith) m<n d)
+
+      pub raise : before (hopAt hs m) h ≡ true → Bracket hs h (m + 1) hi
+      raise e = record { lo-le = omega arith; hi-le = b .hi-le; below = λ j l. earlier j l e; above = b .above }
+
+      pub cut : before (hopAt hs m) h ≡ false → Bracket hs h lo m
+      cut e = record { lo-le = lo≤m; hi-le = omega arith; below = b .below; above = λ j l k. after l k e }
+
+    -- the places below `lower` are those of the hops before h
+    pub lower-law : {i : ℕ} → i < count hs → ltb i (lower hs h) ≡ before (hopAt hs i) h
+    unfolding lower
+    lower-law {i} l = ⊎-elim yes no (lt-or-le i (lower hs h)) where
+      test : ℕ → Bool
+      test j = not (before (hopAt hs j) h)
+
+      yes : i < lower hs h → ltb i (lower hs h) ≡ before (hopAt hs i) h
+      yes k = lt-ltb _ _ k ∙ sym (not-false (before (hopAt hs i) h) (least-before test (count hs) k))
+
+      no : lower hs h ≤ i → ltb i (lower hs h) ≡ before (hopAt hs i) h
+      no k = le-ltb _ _ k ∙ sym (after k l (not-true (before (hopAt hs (lower hs h)) h) (least-passes test (count hs) (omega arith))))
+
+    -- a hop that stands in the list stands where the search looks
+    pub lower-at : {p : ℕ} → p < count hs → hopAt hs p ≡ h → lower hs h ≡ p
+    lower-at {p} l e = ⊎-elim over (λ k. omega (arith, not-over)) (lt-or-le (lower hs h) p) where
+      not-over : lower hs h ≤ p
+      not-over = ltb-false _ _ (lower-law l ∙ (rw e (before-itself h)))
+
+      over : lower hs h < p → lower hs h ≡ p
+      over k =
+          let m : lower hs h < count hs = omega arith in
+          clash (rw e at (ascending-lt hs up p k l)) (sym (lower-law m) ∙ le-ltb _ _ (le-refl (lower hs h)))
+
+    pub placed-at : {p : ℕ} → p < count hs → hopAt hs p ≡ h → placed hs h ≡ At p
+    unfolding placed
+    placed-at {p} l e =
+        rw (lower-at l e, lt-ltb _ _ l, is-yes hs (h .from) (h .label) (h .to) p (ap (λ (x : Hop). x .from) e) (ap (λ (x : Hop). x .label) e) (ap (λ (x : Hop). x .to) e))
+
+  -- the ways out of `find`, where r is the place that was searched for
+  module _ {r : ℕ} (e : r ≡ lower hs h) where
+    pub find-there : r < count hs → is hs (h .from) (h .label) (h .to) r ≡ true → At r ≡ placed hs h
+    unfolding placed
+    find-there l f = rw (← e, lt-ltb _ _ l, f)
+
+    pub find-other : is hs (h .from) (h .label) (h .to) r ≡ false → Gap r ≡ placed hs h
+    unfolding placed
+    find-other f = rw (← e, and-no-right (ltb r (count hs)) f)
+
+    pub find-end : count hs ≤ r → Gap r ≡ placed hs h
+    unfolding placed
+    find-end l = rw (← e, le-ltb _ _ l)
+
+  -- what the search answers holds
+  pub at-place : {p : ℕ} → placed hs h ≡ At p → (p < count hs) × (is hs (h .from) (h .label) (h .to) p ≡ true)
+  unfolding placed
+  at-place {p} e = go (ltb (lower hs h) (count hs) && is hs (h .from) (h .label) (h .to) (lower hs h)) refl e where
+    go : (x : Bool) → (ltb (lower hs h) (count hs) && is hs (h .from) (h .label) (h .to) (lower hs h)) ≡ x →
+        found x (lower hs h) ≡ At p → (p < count hs) × (is hs (h .from) (h .label) (h .to) p ≡ true)
+    go true d f =
+        let q : lower hs h ≡ p = cc in
+        rw (← q) (ltb-true _ _ (and-left (ltb (lower hs h) (count hs)) _ d), and-right (ltb (lower hs h) (count hs)) _ d)
+    go false d f = let z : _≡_ {A = ℕ} 0 1 = cc in absurd (omega arith)
+
+  pub at-has : {p : ℕ} → placed hs h ≡ At p → has hs (h .from) (h .label) (h .to) ≡ true
+  unfolding has
+  at-has e = let (l, f) = at-place e in any-found (is hs (h .from) (h .label) (h .to)) (count hs) l f
+
+  -- in an ascending list the search tells whether the graph has the hop
+  pub placed-has : Ascending hs → isAt (placed hs h) ≡ has hs (h .from) (h .label) (h .to)
+  placed-has up =
+      same-test (isAt (placed hs h)) (has hs (h .from) (h .label) (h .to)) (told (placed hs h) refl)
+      (λ e. let q = has-place hs (h .from) (h .label) (h .to) e in rw (placed-at up (q .within) (λ i. record { from = q .from-is i; label = q .label-is i; to = q .to-is i }))) where
+        told : (x : Found) → placed hs h ≡ x → isAt x ≡ true → has hs (h .from) (h .label) (h .to) ≡ true
+        told (At p) d e = at-has d
+        told (Gap p) d e = clash e refl
+
+  pub gap-has : {p : ℕ} → Ascending hs → placed hs h ≡ Gap p → has hs (h .from) (h .label) (h .to) ≡ false
+  gap-has up e = sym (placed-has up) ∙ ap isAt e
+
+-- the hops of a state
+module _ (hs : List ℕ) (up : Ascending hs) where
+  pub first-law : (s : ℕ) {i : ℕ} → i < count hs → ltb i (firstOf hs s) ≡ ltb (from hs i) s
+  unfolding firstOf
+  first-law s {i} l = lower-law hs h up l ∙ same-test (before (hopAt hs i) h) (ltb (from hs i) s) (λ e. only (before-below (hopAt hs i) h e)) (λ e. below-before (hopAt hs i) h (inl (ltb-true _ _ e))) where
+    h : Hop
+    h = record { from = s; label = 0; to = 0 }
+
+    only : Below (hopAt hs i) h → ltb (from hs i) s ≡ true
+    only (inl k) = lt-ltb _ _ k
+    only (inr (e, inl k)) = absurd (omega arith)
+    only (inr (e, inr (f, k))) = absurd (omega arith)
+
+  pub first-within : (s : ℕ) → firstOf hs s ≤ count hs
+  unfolding firstOf
+  first-within s = lower-within hs (record { from = s; label = 0; to = 0 })
+
+  -- a hop of s stands from firstOf on and before pastOf
+  pub range-holds : (s : ℕ) {i : ℕ} → i < count hs → from hs i ≡ s → (firstOf hs s ≤ i) × (i < pastOf hs s)
+  unfolding pastOf
+  range-holds s {i} l e =
+      (ltb-false _ _ (first-law s l ∙ le-ltb (from hs i) s (omega arith)), ltb-true _ _ (first-law (s + 1) l ∙ lt-ltb (from hs i) (s + 1) (omega arith)))
+
+  pub range-only : (s : ℕ) {i : ℕ} → i < count hs → firstOf hs s ≤ i → i < pastOf hs s → from hs i ≡ s
+  unfolding pastOf
+  range-only s {i} l lo hi =
+      let a : s ≤ from hs i = ltb-false _ _ (sym (first-law s l) ∙ le-ltb _ _ lo) in
+      let b : from hs i < s + 1 = ltb-true _ _ (sym (first-law (s + 1) l) ∙ lt-ltb _ _ hi) in
+      omega arith
+
+  pub past-within : (s : ℕ) → pastOf hs s ≤ count hs
+  unfolding pastOf
+  past-within s = first-within (s + 1)
+
+-- a test over the list that only the places of a range can pass, or that all others pass
+module _ (p : ℕ → Bool) (n lo hi : ℕ) where
+  pub any-range : ((j : ℕ) → j < n → p j ≡ true → (lo ≤ j) × (j < hi)) → ((j : ℕ) → lo ≤ j → j < hi → p j ≡ false) → any n p ≡ false
+  any-range out inn = any-no p n (λ j l. go j l (decided (p j))) where
+    go : (j : ℕ) → j < n → (p j ≡ true) ⊎ (p j ≡ false) → p j ≡ false
+    go j l (inl e) = let (a, b) = out j l e in inn j a b
+    go j l (inr e) = e
+
+  pub all-range : ((j : ℕ) → j < n → p j ≡ false → (lo ≤ j) × (j < hi)) → ((j : ℕ) → lo ≤ j → j < hi → p j ≡ true) → all n p ≡ true
+  all-range out inn = all-yes p n (λ j l. go j l (decided (p j))) where
+    go : (j : ℕ) → j < n → (p j ≡ true) ⊎ (p j ≡ false) → p j ≡ true
+    go j l (inl e) = e
+    go j l (inr e) = let (a, b) = out j l e in inn j a b

@@ -1,0 +1,131 @@
+-- The order of hops is a strict total order, so that in an ascending list an earlier place holds an earlier hop. Assumes nothing.
+use Prim.Native.Nat.{ℕ, zero, suc, _+_, _<_, _≤_}
+use mathlib.Core.Path.{_≡_, sym, _∙_, subst, subst⁻¹}
+use mathlib.Core.Bool.{Bool, true, false, _&&_, _||_}
+use mathlib.Core.List.{List}
+use mathlib.Core.Logic.{_⊎_, inl, inr, ⊎-elim}
+use native.Mathlib.Nat.{eq-or-lt-of-le, le-of-suc-le-suc, not-suc-le-zero}
+use native.Mathlib.Numerals.{add-one}
+use native.Mathlib.Omega.{arith}
+use borrow.Author.Tests.{ltb-true, lt-ltb, le-ltb, eqb-true, eq-eqb, ne-eqb}
+use lib.Dec.{ltb, eqb}
+use Rattle.graph.specs.Hops.{count, from, label, to, hopAt}
+use Rattle.graph.specs.Order.{before, Ascending}
+use Rattle.graph.specs.declared.Hop.{Hop}
+use Rattle.graph.proofs.Bools.{clash, and-yes, and-left, and-right, or-left, or-right, or-yes, no-test, lt-or-le}
+
+-- the order as a statement
+abbrev pub Below : Hop → Hop → Type 0
+Below a b =
+    (a .from < b .from) ⊎ ((a .from ≡ b .from) × ((a .label < b .label) ⊎ ((a .label ≡ b .label) × (a .to < b .to))))
+
+pub before-below : (a b : Hop) → before a b ≡ true → Below a b
+unfolding before
+before-below a b e = go (or-yes (ltb (a .from) (b .from)) _ e) where
+  last : (eqb (a .label) (b .label) && ltb (a .to) (b .to)) ≡ true → (a .label ≡ b .label) × (a .to < b .to)
+  last d = (eqb-true _ _ (and-left (eqb (a .label) (b .label)) _ d), ltb-true _ _ (and-right (eqb (a .label) (b .label)) _ d))
+
+  labels : (ltb (a .label) (b .label) ≡ true) ⊎ ((eqb (a .label) (b .label) && ltb (a .to) (b .to)) ≡ true) →
+      (a .label < b .label) ⊎ ((a .label ≡ b .label) × (a .to < b .to))
+  labels (inl d) = inl (ltb-true _ _ d)
+  labels (inr d) = inr (last d)
+
+  go : (ltb (a .from) (b .from) ≡ true) ⊎
+      ((eqb (a .from) (b .from) && (ltb (a .label) (b .label) || (eqb (a .label) (b .label) && ltb (a .to) (b .to)))) ≡ true) →
+      Below a b
+  go (inl d) = inl (ltb-true _ _ d)
+  go (inr d) =
+      inr (eqb-true _ _ (and-left (eqb (a .from) (b .from)) _ d), labels (or-yes (ltb (a .label) (b .label)) _ (and-right (eqb (a .from) (b .from)) _ d)))
+
+pub below-before : (a b : Hop) → Below a b → before a b ≡ true
+unfolding before
+below-before a b (inl l) = or-left _ (lt-ltb _ _ l)
+below-before a b (inr (e, inl l)) = or-right (ltb (a .from) (b .from)) (and-yes (eq-eqb _ _ e) (or-left _ (lt-ltb _ _ l)))
+below-before a b (inr (e, inr (f, l))) =
+    or-right (ltb (a .from) (b .from))
+    (and-yes (eq-eqb _ _ e) (or-right (ltb (a .label) (b .label)) (and-yes (eq-eqb _ _ f) (lt-ltb _ _ l))))
+
+below-trans : (a b c : Hop) → Below a b → Below b c → Below a c
+below-trans a b c (inl l) (inl m) = inl (omega arith)
+below-trans a b c (inl l) (inr (f, q)) = inl (omega arith)
+below-trans a b c (inr (e, p)) (inl m) = inl (omega arith)
+below-trans a b c (inr (e, inl l)) (inr (f, inl m)) = inr (e ∙ f, inl (omega arith))
+below-trans a b c (inr (e, inl l)) (inr (f, inr (g, m))) = inr (e ∙ f, inl (omega arith))
+below-trans a b c (inr (e, inr (d, l))) (inr (f, inl m)) = inr (e ∙ f, inl (omega arith))
+below-trans a b c (inr (e, inr (d, l))) (inr (f, inr (g, m))) = inr (e ∙ f, inr (d ∙ g, omega arith))
+
+below-self : (a b : Hop) → Below a b → Below b a → ⊥
+below-self a b (inl l) (inl m) = omega arith
+below-self a b (inl l) (inr (f, q)) = omega arith
+below-self a b (inr (e, p)) (inl m) = omega arith
+below-self a b (inr (e, inl l)) (inr (f, inl m)) = omega arith
+below-self a b (inr (e, inl l)) (inr (f, inr (g, m))) = omega arith
+below-self a b (inr (e, inr (d, l))) (inr (f, inl m)) = omega arith
+below-self a b (inr (e, inr (d, l))) (inr (f, inr (g, m))) = omega arith
+
+pub before-trans : (a b c : Hop) → before a b ≡ true → before b c ≡ true → before a c ≡ true
+before-trans a b c p q = below-before a c (below-trans a b c (before-below a b p) (before-below b c q))
+
+pub before-not-back : (a b : Hop) → before a b ≡ true → before b a ≡ false
+before-not-back a b p = no-test (before b a) (λ q. below-self a b (before-below a b p) (before-below b a q))
+
+pub before-itself : (a : Hop) → before a a ≡ false
+before-itself a = no-test (before a a) (λ q. below-self a a (before-below a a q) (before-below a a q))
+
+-- of two hops neither of which is before the other, the numbers are the same
+trichotomy : (m n : ℕ) → (m < n) ⊎ ((m ≡ n) ⊎ (n < m))
+trichotomy m n = go (lt-or-le m n) (lt-or-le n m) where
+  go : (m < n) ⊎ (n ≤ m) → (n < m) ⊎ (m ≤ n) → (m < n) ⊎ ((m ≡ n) ⊎ (n < m))
+  go (inl l) k = inl l
+  go (inr l) (inl k) = inr (inr k)
+  go (inr l) (inr k) = inr (inl (omega arith))
+
+pub before-total : (a b : Hop) → before a b ≡ false → before b a ≡ false → a ≡ b
+before-total a b p q = froms (trichotomy (a .from) (b .from)) where
+  no : Below a b → a ≡ b
+  no d = clash (below-before a b d) p
+
+  back : Below b a → a ≡ b
+  back d = clash (below-before b a d) q
+
+  tos : a .from ≡ b .from → a .label ≡ b .label → (a .to < b .to) ⊎ ((a .to ≡ b .to) ⊎ (b .to < a .to)) → a ≡ b
+  tos e f (inl l) = no (inr (e, inr (f, l)))
+  tos e f (inr (inl g)) = λ i. record { from = e i; label = f i; to = g i }
+  tos e f (inr (inr l)) = back (inr (sym e, inr (sym f, l)))
+
+  labels : a .from ≡ b .from → (a .label < b .label) ⊎ ((a .label ≡ b .label) ⊎ (b .label < a .label)) → a ≡ b
+  labels e (inl l) = no (inr (e, inl l))
+  labels e (inr (inl f)) = tos e f (trichotomy (a .to) (b .to))
+  labels e (inr (inr l)) = back (inr (sym e, inl l))
+
+  froms : (a .from < b .from) ⊎ ((a .from ≡ b .from) ⊎ (b .from < a .from)) → a ≡ b
+  froms (inl l) = no (inl l)
+  froms (inr (inl e)) = labels e (trichotomy (a .label) (b .label))
+  froms (inr (inr l)) = back (inl l)
+
+-- in an ascending list an earlier place holds an earlier hop
+module _ (hs : List ℕ) (up : Ascending hs) where
+  next : (j : ℕ) → suc j < count hs → before (hopAt hs j) (hopAt hs (suc j)) ≡ true
+  unfolding Ascending
+  next j l = subst (λ (n : ℕ). before (hopAt hs j) (hopAt hs n) ≡ true) (add-one j) (up j (omega arith))
+
+  pub ascending-lt : (j : ℕ) {i : ℕ} → i < j → j < count hs → before (hopAt hs i) (hopAt hs j) ≡ true
+  ascending-lt zero l m = absurd (not-suc-le-zero l)
+  ascending-lt (suc j) {i} l m =
+      ⊎-elim (λ q. subst⁻¹ (λ (n : ℕ). before (hopAt hs n) (hopAt hs (suc j)) ≡ true) q (next j m))
+      (λ k. before-trans (hopAt hs i) (hopAt hs j) (hopAt hs (suc j)) (ascending-lt j k (omega arith)) (next j m))
+      (eq-or-lt-of-le (le-of-suc-le-suc l))
+
+  -- a place is told by its hop
+  pub ascending-place : {i j : ℕ} → i < count hs → j < count hs → hopAt hs i ≡ hopAt hs j → i ≡ j
+  ascending-place {i} {j} l m e = go (trichotomy i j) where
+    go : (i < j) ⊎ ((i ≡ j) ⊎ (j < i)) → i ≡ j
+    go (inl k) = clash (ascending-lt j k m) (rw e (before-itself (hopAt hs j)))
+    go (inr (inl q)) = q
+    go (inr (inr k)) = clash (ascending-lt i k l) (rw e (before-itself (hopAt hs j)))
+
+  pub ascending-from : {i j : ℕ} → i ≤ j → j < count hs → from hs i ≤ from hs j
+  ascending-from {i} {j} h l = ⊎-elim (λ q. rw q (omega arith)) (λ m. go (before-below (hopAt hs i) (hopAt hs j) (ascending-lt j m l))) (eq-or-lt-of-le h) where
+    go : Below (hopAt hs i) (hopAt hs j) → from hs i ≤ from hs j
+    go (inl k) = omega arith
+    go (inr (e, k)) = omega arith

@@ -1,0 +1,64 @@
+-- Laws of the flat hop list: what a place holds, and that the graph has a hop exactly when some place holds it. Assumes nothing.
+use Prim.Native.Nat.{ℕ, zero, suc, _+_, _*_, _/_, _<_, _≤_}
+use mathlib.Core.Path.{_≡_, refl, sym, ap, _∙_}
+use mathlib.Core.Bool.{Bool, true, false, _&&_}
+use mathlib.Core.List.{List, [], _∷_}
+use native.Mathlib.Omega.{arith}
+use borrow.Author.Tests.{eq-eqb, eqb-true}
+use lib.ListN.{length, getD}
+use lib.Dec.{eqb}
+use Rattle.graph.specs.Tests.{any}
+use Rattle.graph.specs.Hops.{count, from, label, to, hopAt, flat, is, has}
+use Rattle.graph.specs.declared.Hop.{Hop}
+use Rattle.graph.proofs.Bools.{and-yes, and-left, and-right}
+use Rattle.graph.proofs.Tests.{any-found, any-at}
+
+module _ (hs : List ℕ) (s a t i : ℕ) where
+  pub is-yes : from hs i ≡ s → label hs i ≡ a → to hs i ≡ t → is hs s a t i ≡ true
+  unfolding is
+  is-yes p q r = rw (eq-eqb _ _ p, eq-eqb _ _ q, eq-eqb _ _ r)
+
+  pub is-from : is hs s a t i ≡ true → from hs i ≡ s
+  unfolding is
+  is-from e = eqb-true _ _ (and-left (eqb (from hs i) s) _ e)
+
+  pub is-label : is hs s a t i ≡ true → label hs i ≡ a
+  unfolding is
+  is-label e = eqb-true _ _ (and-left (eqb (label hs i) a) _ (and-right (eqb (from hs i) s) _ e))
+
+  pub is-to : is hs s a t i ≡ true → to hs i ≡ t
+  unfolding is
+  is-to e = eqb-true _ _ (and-right (eqb (label hs i) a) _ (and-right (eqb (from hs i) s) _ e))
+
+-- the hop at a place is a hop of the graph
+pub has-at : (hs : List ℕ) {i : ℕ} → i < count hs → has hs (from hs i) (label hs i) (to hs i) ≡ true
+unfolding has
+has-at hs {i} l = any-found _ (count hs) l (is-yes hs _ _ _ i refl refl refl)
+
+-- the place of a hop of the graph
+pub record Place (hs : List ℕ) (s a t : ℕ) : Type 0 where
+  pub at : ℕ
+  pub within : at < count hs
+  pub from-is : from hs at ≡ s
+  pub label-is : label hs at ≡ a
+  pub to-is : to hs at ≡ t
+
+pub has-place : (hs : List ℕ) (s a t : ℕ) → has hs s a t ≡ true → Place hs s a t
+unfolding has
+has-place hs s a t e =
+    let (i, l, h) = any-at (is hs s a t) (count hs) e in
+    record { at = i; within = l; from-is = is-from hs s a t i h; label-is = is-label hs s a t i h; to-is = is-to hs s a t i h }
+
+pub place-has : (hs : List ℕ) (s a t : ℕ) → Place hs s a t → has hs s a t ≡ true
+unfolding has
+place-has hs s a t p = any-found _ (count hs) (p .within) (is-yes hs s a t (p .at) (p .from-is) (p .label-is) (p .to-is))
+
+-- the flat list of a list of hops holds those hops
+module _ where
+  pub length-flat : (xs : List Hop) → length (flat xs) ≡ 3 * length xs
+  unfolding flat
+  length-flat [] = refl
+  length-flat (x ∷ xs) = let h : length (flat xs) ≡ 3 * length xs = length-flat xs in omega arith
+
+  pub count-flat : (xs : List Hop) → count (flat xs) ≡ length xs
+  count-flat xs = let h : length (flat xs) ≡ 3 * length xs = length-flat xs in omega arith
