@@ -8,8 +8,9 @@ use mathlib.Core.Logic.{_⊎_, inl, inr, ⊎-elim}
 use lib.Dec.{eqb}
 use borrow.Author.Tests.{eq-eqb, ne-eqb, eqb-true}
 use Rattle.graph.specs.Tests.{all, any}
-use Rattle.graph.specs.Hops.{count, from, label, to, is, has}
+use Rattle.graph.specs.Hops.{count, from, label, to, has}
 use Rattle.graph.proofs.Bools.{clash, not-yes, not-no, and-yes, and-left, and-right, or-left, or-right, or-yes, eq-or-not}
+use Rattle.graph.proofs.Places.{Place, has-at, has-place, place-has}
 use Rattle.graph.proofs.Tests.{all-at, all-yes, any-at, any-found}
 use Rattle.confluence.specs.Rounds.{Pairs, closing, leaves, answer, answers, answered, tried, closes}
 
@@ -38,21 +39,6 @@ module _ (u : Pairs) (s3 s4 : ℕ) where
   closing-says e = ⊎-elim (λ h. inl (eqb-true s3 s4 h)) (λ h. inr h) (or-yes (eqb s3 s4) (u s3 s4) e)
 
 module _ (hs : List ℕ) where
-  -- a hop that the graph has stands at some place, and the hop at a place is one that it has
-  pub has-place : (s a t : ℕ) → has hs s a t ≡ true → (i : ℕ) × (i < count hs) × (from hs i ≡ s) × (label hs i ≡ a) × (to hs i ≡ t)
-  unfolding has is
-  has-place s a t e =
-      let (i, l, h) = any-at (is hs s a t) (count hs) e in
-      let g = and-right (eqb (from hs i) s) (eqb (label hs i) a && eqb (to hs i) t) h in
-      (i, l, eqb-true (from hs i) s (and-left (eqb (from hs i) s) (eqb (label hs i) a && eqb (to hs i) t) h),
-      eqb-true (label hs i) a (and-left (eqb (label hs i) a) (eqb (to hs i) t) g),
-      eqb-true (to hs i) t (and-right (eqb (label hs i) a) (eqb (to hs i) t) g))
-
-  pub has-at : (i : ℕ) → i < count hs → {s a t : ℕ} → from hs i ≡ s → label hs i ≡ a → to hs i ≡ t → has hs s a t ≡ true
-  unfolding has is
-  has-at i l {s} {a} {t} p q r =
-      any-found (is hs s a t) (count hs) l (and-yes (eq-eqb (from hs i) s p) (and-yes (eq-eqb (label hs i) a q) (eq-eqb (to hs i) t r)))
-
   pub leaves-says : (s a j : ℕ) → leaves hs s a j ≡ true → (from hs j ≡ s) × (label hs j ≡ a)
   unfolding leaves
   leaves-says s a j e =
@@ -75,8 +61,8 @@ module _ (hs : List ℕ) where
 
     pub answers-yes : (s2 a s3 : ℕ) → Answered hs (In u) s2 a s3 → answers hs u s2 a s3 ≡ true
     answers-yes s2 a s3 (s4, inl h, z) =
-        let (j, l, f, g, t) = has-place s2 a s4 h in
-        answers-hop s2 a s3 l (leaves-yes j f g) (rw t (closing-yes u s3 s4 z))
+        let p = has-place hs s2 a s4 h in
+        answers-hop s2 a s3 (p .within) (leaves-yes (p .at) (p .from-is) (p .label-is)) (rw (p .to-is) (closing-yes u s3 s4 z))
     answers-yes s2 a s3 (s4, inr (q, e), z) = answers-still s2 a s3 q (rw e at (closing-yes u s3 s4 z))
 
     pub answers-says : (s2 a s3 : ℕ) → answers hs u s2 a s3 ≡ true → Answered hs (In u) s2 a s3
@@ -89,18 +75,18 @@ module _ (hs : List ℕ) where
       go (inr h) =
           let (j, l, w) = any-at (answer hs u s2 a s3) (count hs) h in
           let (f, g) = leaves-says s2 a j (and-left (leaves hs s2 a j) (closing u s3 (to hs j)) w) in
-          (to hs j, inl (has-at j l f g refl), closing-says u s3 (to hs j) (and-right (leaves hs s2 a j) (closing u s3 (to hs j)) w))
+          (to hs j, inl (place-has hs s2 a (to hs j) (record { at = j; within = l; from-is = f; label-is = g; to-is = refl })), closing-says u s3 (to hs j) (and-right (leaves hs s2 a j) (closing u s3 (to hs j)) w))
 
     -- X
     pub closes-says : (s1 s2 : ℕ) → closes hs u s1 s2 ≡ true → Closed hs (In u) s1 s2
     unfolding closes tried answered
     closes-says s1 s2 e a s3 h =
-        let (i, l, f, g, t) = has-place s1 a s3 h in
-        answers-says s2 a s3 (go i f g t (or-yes (not (eqb (from hs i) s1)) (answered hs u s2 i) (all-at (tried hs u s1 s2) (count hs) e l))) where
-          go : (i : ℕ) → from hs i ≡ s1 → label hs i ≡ a → to hs i ≡ s3 → (not (eqb (from hs i) s1) ≡ true) ⊎ (answered hs u s2 i ≡ true) →
-              answers hs u s2 a s3 ≡ true
-          go i f g t (inl n) = clash n (not-yes (eq-eqb (from hs i) s1 f))
-          go i f g t (inr y) = rw (g, t) at y
+        let p = has-place hs s1 a s3 h in
+        answers-says s2 a s3 (go p (or-yes (not (eqb (from hs (p .at)) s1)) (answered hs u s2 (p .at))
+        (all-at (tried hs u s1 s2) (count hs) e (p .within)))) where
+          go : (p : Place hs s1 a s3) → (not (eqb (from hs (p .at)) s1) ≡ true) ⊎ (answered hs u s2 (p .at) ≡ true) → answers hs u s2 a s3 ≡ true
+          go p (inl n) = clash n (not-yes (eq-eqb (from hs (p .at)) s1 (p .from-is)))
+          go p (inr y) = rw (p .label-is, p .to-is) at y
 
     pub closes-yes : (s1 s2 : ℕ) → Closed hs (In u) s1 s2 → closes hs u s1 s2 ≡ true
     unfolding closes tried answered
@@ -108,7 +94,7 @@ module _ (hs : List ℕ) where
       go : (i : ℕ) → i < count hs → (from hs i ≡ s1) ⊎ (from hs i ≡ s1 → ⊥) → tried hs u s1 s2 i ≡ true
       go i l (inl f) =
           or-right (not (eqb (from hs i) s1))
-          (answers-yes s2 (label hs i) (to hs i) (c (label hs i) (to hs i) (has-at i l f refl refl)))
+          (answers-yes s2 (label hs i) (to hs i) (c (label hs i) (to hs i) (rw f at (has-at hs l))))
       go i l (inr n) = or-left (answered hs u s2 i) (not-no (ne-eqb (from hs i) s1 n))
 
     -- the test and the condition say the same

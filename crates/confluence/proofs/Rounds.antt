@@ -8,9 +8,10 @@ use lib.Dec.{eqb}
 use borrow.Author.Tests.{eq-eqb, eqb-true}
 use Rattle.graph.specs.Hops.{count, from, label, to, has}
 use Rattle.graph.proofs.Bools.{and-yes, and-left, and-right, same-test}
+use Rattle.graph.proofs.Places.{has-place}
 use Rattle.graph.proofs.Chains.{Still, same-from}
 use Rattle.confluence.specs.Rounds.{closes, survives}
-use Rattle.confluence.proofs.Closing.{In, has-place, has-at, closes-mono}
+use Rattle.confluence.proofs.Closing.{In, closes-mono}
 
 module _ (hs : List ℕ) where
   -- what survives is a silent hop
@@ -53,10 +54,10 @@ module _ (hs : List ℕ) where
   -- what a set of places says of the hops themselves
   by-places : (j k : ℕ) → ((i : ℕ) → i < count hs → chain j i ≡ chain k i) → (s t : ℕ) → In (survives hs j) s t → In (survives hs k) s t
   by-places j k f s t e =
-      let (i, l, p, q, r) = has-place hs s 0 t (survives-silent j s t e) in
-      let there : survives hs j (from hs i) (to hs i) ≡ true = rw (p, r) e in
-      rw (p, r) at (and-left (survives hs k (from hs i) (to hs i)) (eqb (label hs i) 0)
-      (sym (f i l) ∙ and-yes there (eq-eqb (label hs i) 0 q)))
+      let p = has-place hs s 0 t (survives-silent j s t e) in
+      let there : survives hs j (from hs (p .at)) (to hs (p .at)) ≡ true = rw (p .from-is, p .to-is) e in
+      rw (p .from-is, p .to-is) at (and-left (survives hs k (from hs (p .at)) (to hs (p .at))) (eqb (label hs (p .at)) 0)
+      (sym (f (p .at) (p .within)) ∙ and-yes there (eq-eqb (label hs (p .at)) 0 (p .label-is))))
 
   rests : (k : ℕ) → Still (count hs) chain k → Still (count hs) chain (suc k)
   rests k h i l =
