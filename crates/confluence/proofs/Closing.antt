@@ -2,15 +2,15 @@
 -- `u s t ≡ true`. So it only grows with the set. Assumes nothing.
 use Prim.Native.Nat.{ℕ, _<_}
 use mathlib.Core.Path.{_≡_, refl, sym, ap, _∙_}
-use mathlib.Core.Bool.{Bool, true, false, not, _&&_, _||_}
+use mathlib.Core.Bool.{Bool, true, false, _&&_, _||_}
 use mathlib.Core.List.{List}
 use mathlib.Core.Logic.{_⊎_, inl, inr, ⊎-elim}
 use lib.Dec.{eqb}
 use borrow.Author.Tests.{eq-eqb, ne-eqb, eqb-true}
 use Rattle.graph.specs.Tests.{all, any}
 use Rattle.graph.specs.Hops.{count, from, label, to, has}
-use Rattle.graph.proofs.Bools.{clash, not-yes, not-no, and-yes, and-left, and-right, or-left, or-right, or-yes, eq-or-not}
-use Rattle.graph.proofs.Places.{Place, has-at, has-place, place-has}
+use Rattle.graph.proofs.Bools.{and-yes, and-left, and-right, or-left, or-right, or-yes, eq-or-not}
+use Rattle.graph.proofs.Places.{has-at, has-place, place-has}
 use Rattle.graph.proofs.Tests.{all-at, all-yes, any-at, any-found}
 use Rattle.confluence.specs.Rounds.{Pairs, closing, leaves, answer, answers, answered, tried, closes}
 
@@ -37,6 +37,14 @@ module _ (u : Pairs) (s3 s4 : ℕ) where
   pub closing-says : closing u s3 s4 ≡ true → (s3 ≡ s4) ⊎ In u s3 s4
   unfolding closing
   closing-says e = ⊎-elim (λ h. inl (eqb-true s3 s4 h)) (λ h. inr h) (or-yes (eqb s3 s4) (u s3 s4) e)
+
+  -- the same as equations, for the two ways of the code
+  pub closing-same : s3 ≡ s4 → closing u s3 s4 ≡ true
+  closing-same e = closing-yes (inl e)
+
+  pub closing-other : (s3 ≡ s4 → ⊥) → closing u s3 s4 ≡ u s3 s4
+  unfolding closing
+  closing-other n = rw (ne-eqb s3 s4 n)
 
 module _ (hs : List ℕ) where
   pub leaves-says : (s a j : ℕ) → leaves hs s a j ≡ true → (from hs j ≡ s) × (label hs j ≡ a)
@@ -77,25 +85,45 @@ module _ (hs : List ℕ) where
           let (f, g) = leaves-says s2 a j (and-left (leaves hs s2 a j) (closing u s3 (to hs j)) w) in
           (to hs j, inl (place-has hs s2 a (to hs j) (record { at = j; within = l; from-is = f; label-is = g; to-is = refl })), closing-says u s3 (to hs j) (and-right (leaves hs s2 a j) (closing u s3 (to hs j)) w))
 
+    -- the same of the hop at place j, labelled a to s3, for the two ways of the code
+    module _ (s2 j : ℕ) {a s3 : ℕ} (p : a ≡ label hs j) (q : s3 ≡ to hs j) where
+      pub answered-still : a ≡ 0 → closing u s3 s2 ≡ true → answered hs u s2 j ≡ true
+      unfolding answered
+      answered-still z e = rw (← p, ← q) (answers-still s2 a s3 z e)
+
+      pub answered-else : (a ≡ 0 → closing u s3 s2 ≡ false) → any (count hs) (answer hs u s2 a s3) ≡ answered hs u s2 j
+      unfolding answered answers
+      answered-else f = rw (← p, ← q) (go (eqb a 0) refl) where
+        go : (t : Bool) → eqb a 0 ≡ t → any (count hs) (answer hs u s2 a s3) ≡ ((t && closing u s3 s2) || any (count hs) (answer hs u s2 a s3))
+        go true e = rw (f (eqb-true a 0 e))
+        go false e = refl
+
+    -- the hop at place j, if it leaves s1, is tried
+    module _ (s1 s2 j : ℕ) where
+      pub tried-own : from hs j ≡ s1 → tried hs u s1 s2 j ≡ answered hs u s2 j
+      unfolding tried
+      tried-own e = rw (eq-eqb (from hs j) s1 e)
+
+      pub tried-other : (from hs j ≡ s1 → ⊥) → tried hs u s1 s2 j ≡ true
+      unfolding tried
+      tried-other n = rw (ne-eqb (from hs j) s1 n)
+
     -- X
     pub closes-says : (s1 s2 : ℕ) → closes hs u s1 s2 ≡ true → Closed hs (In u) s1 s2
-    unfolding closes tried answered
+    unfolding closes answered
     closes-says s1 s2 e a s3 h =
         let p = has-place hs s1 a s3 h in
-        answers-says s2 a s3 (go p (or-yes (not (eqb (from hs (p .at)) s1)) (answered hs u s2 (p .at))
-        (all-at (tried hs u s1 s2) (count hs) e (p .within)))) where
-          go : (p : Place hs s1 a s3) → (not (eqb (from hs (p .at)) s1) ≡ true) ⊎ (answered hs u s2 (p .at) ≡ true) → answers hs u s2 a s3 ≡ true
-          go p (inl n) = clash n (not-yes (eq-eqb (from hs (p .at)) s1 (p .from-is)))
-          go p (inr y) = rw (p .label-is, p .to-is) at y
+        let y : answered hs u s2 (p .at) ≡ true =
+        sym (tried-own s1 s2 (p .at) (p .from-is)) ∙ all-at (tried hs u s1 s2) (count hs) e (p .within) in
+        answers-says s2 a s3 (rw (p .label-is, p .to-is) at y)
 
     pub closes-yes : (s1 s2 : ℕ) → Closed hs (In u) s1 s2 → closes hs u s1 s2 ≡ true
-    unfolding closes tried answered
+    unfolding closes answered
     closes-yes s1 s2 c = all-yes (tried hs u s1 s2) (count hs) (λ i l. go i l (eq-or-not (from hs i) s1)) where
       go : (i : ℕ) → i < count hs → (from hs i ≡ s1) ⊎ (from hs i ≡ s1 → ⊥) → tried hs u s1 s2 i ≡ true
       go i l (inl f) =
-          or-right (not (eqb (from hs i) s1))
-          (answers-yes s2 (label hs i) (to hs i) (c (label hs i) (to hs i) (rw f at (has-at hs l))))
-      go i l (inr n) = or-left (answered hs u s2 i) (not-no (ne-eqb (from hs i) s1 n))
+          tried-own s1 s2 i f ∙ answers-yes s2 (label hs i) (to hs i) (c (label hs i) (to hs i) (rw f at (has-at hs l)))
+      go i l (inr n) = tried-other s1 s2 i n
 
     -- the test and the condition say the same
     pub closes-iff : (s1 s2 : ℕ) → (closes hs u s1 s2 ≡ true → Closed hs (In u) s1 s2) × (Closed hs (In u) s1 s2 → closes hs u s1 s2 ≡ true)

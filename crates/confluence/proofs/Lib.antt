@@ -1,3 +1,5 @@
 pub mod Closing
 pub mod Rounds
 pub mod Marked
+pub mod Rows
+pub mod Held
