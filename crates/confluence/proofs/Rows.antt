@@ -8,20 +8,21 @@ use mathlib.Core.Logic.{_⊎_, inl, inr, ⊎-elim}
 use native.Mathlib.Nat.{eq-or-lt-of-le, le-refl}
 use native.Mathlib.Omega.{arith}
 use lib.ListN.{length, getD, set, drop, length-append, length-drop}
-use lib.Seq.{drop-cons, set-at}
+use lib.Seq.{drop-cons, set-at, getD-set-same, getD-set-other}
 use native.Mathlib.Numerals.{add-one}
 use lib.Dec.{ltb}
 use borrow.Author.Tests.{ltb-true, lt-ltb, le-ltb}
 use Rattle.graph.specs.Tests.{any, listed}
 use Rattle.graph.specs.Hops.{count, from, label, to, hopAt}
 use Rattle.graph.specs.Order.{Ascending}
+use Rattle.graph.specs.Check.{most-states}
 use Rattle.graph.specs.Search.{firstOf, pastOf}
 use Rattle.graph.proofs.Bools.{and-yes, and-left, and-no-right, no-test, lt-or-le}
 use Rattle.graph.proofs.Tests.{all-yes, all-fails, any-found, length-listed}
 use Rattle.graph.proofs.Ordered.{Below, before-below, ascending-lt}
 use Rattle.graph.proofs.Lookup.{first-law, first-within, range-holds, range-only, any-range}
 use Rattle.confluence.specs.Rounds.{Pairs, closing, leaves, answer, answered, tried, closes}
-use Rattle.confluence.specs.Sweep.{Row, Skipped}
+use Rattle.confluence.specs.Sweep.{Table, Row, Skipped}
 use Rattle.confluence.proofs.Closing.{leaves-says, leaves-yes, tried-own, tried-other}
 
 -- one place more of a range
@@ -38,6 +39,14 @@ unfolding listed
 listed-more f ms {i = i} l d q e =
     e ∙ rw (d, q, add-one, drop-cons ms i 0 l, set-at (listed i f) (getD ms i 0) (drop (suc i) ms) (f i) i (length-listed f i))
     (sym (append-assoc (listed i f) (f i ∷ []) (drop (suc i) ms)))
+
+-- one element more of a table of f
+pub filled-more : (f : ℕ → ℕ) (xs : List ℕ) {s v : ℕ} → s < length xs → v ≡ f s → ((t : ℕ) → t < s → getD xs t 0 ≡ f t) →
+    (t : ℕ) → t < s + 1 → getD (set xs s v) t 0 ≡ f t
+filled-more f xs {s} {v} l e g t m = go (lt-or-le t s) where
+  go : (t < s) ⊎ (s ≤ t) → getD (set xs s v) t 0 ≡ f t
+  go (inl n) = getD-set-other xs s t v 0 (λ q. omega arith) ∙ g t n
+  go (inr n) = let q : t ≡ s = omega arith in rw q (getD-set-same xs s v 0 l ∙ e)
 
 pub length-so-far : (f : ℕ → ℕ) (ms : List ℕ) {new : List ℕ} (i : ℕ) → i ≤ length ms → new ≡ listed i f ++ drop i ms → length new ≡ length ms
 length-so-far f ms i l e = ap length e ∙ simp (length-append, length-listed, length-drop) (omega arith)
@@ -105,6 +114,16 @@ module _ (hs : List ℕ) (up : Ascending hs) where
         absurd (omega (arith, ltb-true (firstOf hs (s + 1)) (firstOf hs (s + 1))
         (first-law hs up (s + 1) k ∙ lt-ltb (from hs (firstOf hs (s + 1))) (s + 1) (omega (arith, first-below s l)))))
     go (inr l) = l
+
+  -- the hops before the first of s1 are not tried
+  pub tried-before : (u : Pairs) (s1 s2 : ℕ) {j : ℕ} → j ≡ firstOf hs s1 → (k : ℕ) → k < j → tried hs u s1 s2 k ≡ true
+  tried-before u s1 s2 e k l =
+      tried-other hs u s1 s2 k (λ q. let h : from hs k < s1 = first-below s1 (omega arith) in absurd (omega arith))
+
+-- what the table says of a state
+pub start-is : (hs st : List ℕ) → Table hs st → (x : ℕ) {y r : ℕ} → x ≡ y → y ≤ most-states → r ≡ getD st x 0 → r ≡ firstOf hs y
+unfolding Table
+start-is hs st t x {y} q l e = e ∙ rw q (t y l)
 
 -- Two states' hops walked side by side: j goes over those of s1, up to `end`, and `at` over those of s2, up to `past`. The labels that `at`
 -- has passed are below every label that j has still to come to.
@@ -195,11 +214,7 @@ module _ (hs : List ℕ) (up : Ascending hs) (s1 s2 end past : ℕ) where
           }
 
   module _ (u : Pairs) where
-    -- the hops before the first of s1 are not tried; each that the walk passes is; and none from `end` on
-    pub tried-before : {j : ℕ} → j ≡ firstOf hs s1 → (k : ℕ) → k < j → tried hs u s1 s2 k ≡ true
-    tried-before e k l =
-        tried-other hs u s1 s2 k (λ q. let h : from hs k < s1 = first-below hs up s1 (omega arith) in absurd (omega arith))
-
+    -- no hop from `end` on is tried, and the one at j is
     pub tried-done : {at j : ℕ} → Walk hs s1 s2 end past at j → end ≤ j → ((k : ℕ) → k < j → tried hs u s1 s2 k ≡ true) → closes hs u s1 s2 ≡ true
     unfolding closes pastOf
     tried-done {at} {j} w l f = all-yes (tried hs u s1 s2) (count hs) (λ k m. ⊎-elim (λ a. f k a) (λ a. tried-other hs u s1 s2 k (after k m a)) (lt-or-le k j)) where

@@ -65,18 +65,18 @@ pub record Skipped (hs : List ℕ) (at past a r : ℕ) : Type 0 where
   pub passed : (k : ℕ) → at ≤ k → k < r → label hs k < a
   pub stopped : r < past → a ≤ label hs r
 
--- what testing the hop at place i leaves: its mark goes if it does not close, and nothing else changes; r counts the mark that went
+-- what testing the hop at place i leaves: its mark goes if it does not close; r is 1 if it went, and else 0
 pub record Tested (hs ms : List ℕ) (i : ℕ) (new : List ℕ) (r : ℕ) : Type 0 where
   pub marking : Marking hs new
   pub beyond : drop (count hs) new ≡ drop (count hs) ms
-  pub fewer : markCount hs new + r ≡ markCount hs ms
+  pub fewer : markCount hs new + r ≤ markCount hs ms
   pub same : r ≡ 0 → (new ≡ ms) × Stands hs ms i
 
--- what a sweep leaves that has come to place n: r counts the marks that went, and if none did each marked hop it passed closes
+-- what a sweep leaves that has come to place n: r marks went, and if none did each marked hop that it passed closes
 pub record Swept (hs ms : List ℕ) (n : ℕ) (new : List ℕ) (r : ℕ) : Type 0 where
   pub marking : Marking hs new
   pub beyond : drop (count hs) new ≡ drop (count hs) ms
-  pub fewer : markCount hs new + r ≡ markCount hs ms
+  pub fewer : markCount hs new + r ≤ markCount hs ms
   pub same : r ≡ 0 → (new ≡ ms) × ((i : ℕ) → i < n → Stands hs ms i)
 
 -- the marks that sweeps begin with: 1 for a silent hop, 0 for a visible one

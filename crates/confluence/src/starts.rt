@@ -38,11 +38,12 @@ fn pass(hops: &[u16], at: usize, s: usize) -> usize
     i
 }
 
-// Fills the table.
-pub fn fill_starts(hops: &[u16], starts: &mut [u16; 1025])
+// The table.
+pub fn starts_of(hops: &[u16]) -> [u16; 1025]
     requires { ⌜ Ready (now hops) ⌝ }
-    ensures { λ r. ⌜ Table (now (hops .entry)) (now (starts .exit)) ⌝ }
+    ensures { λ r. ⌜ Table (now (hops .entry)) r ⌝ }
 {
+    let mut starts = [0u16; 1025];
     let mut at = 0;
     let mut s = 0;
     while s < 1025 {
@@ -50,4 +51,5 @@ pub fn fill_starts(hops: &[u16], starts: &mut [u16; 1025])
         at = pass(hops, at, s);
         s += 1;
     }
+    starts
 }

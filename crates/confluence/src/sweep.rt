@@ -4,7 +4,7 @@
 use graph::hops::hop_count;
 use graph::hops::label_at;
 use super::closes::closes_at;
-use super::starts::fill_starts;
+use super::starts::starts_of;
 
 ghost use mathlib.Core.Path.{_≡_};
 ghost use mathlib.Core.List.{_++_};
@@ -78,8 +78,7 @@ pub fn mark_all(hops: &[u16], marks: &mut [u8])
     requires { ⌜ Ready (now hops) ⌝ ∗ ⌜ count (now hops) ≤ length (now marks) ⌝ }
     ensures { λ r. ⌜ now (marks .exit) ≡ marksOf (now (hops .entry)) ++ drop (count (now (hops .entry))) (now (marks .entry)) ⌝ }
 {
-    let mut starts = [0u16; 1025];
-    fill_starts(hops, &mut starts);
+    let starts = starts_of(hops);
     start_marks(hops, marks);
     settle(hops, &starts, marks);
 }

@@ -22,13 +22,16 @@ returns c =
     (sym (c .before .is-closed .ensures) ∙ c .if2 .taken))
 
 hop-answers-requires : tie.Need-hop-answers-requires
-hop-answers-requires c κs = ?
+hop-answers-requires c κs =
+    let st = c .before .before .before .before .before .before in
+    (st .pre .0, (st .pre .1 .0, rw (c .before .before .before .label-at .ensures) (st .pre .1 .1 .1)))
 
 returns-2 : tie.Need-returns-2
 returns-2 c =
     let st = c .before .before .before in
     c .hop-answers .ensures ∙
-    answered-else _ _ _ _ (st .before .label-at .ensures) (st .to-at .ensures) (⊎-elim (λ w. ?) (λ w. ?) (c .before .if1 .came))
+    answered-else _ _ _ _ (st .before .label-at .ensures) (st .to-at .ensures) 
+    (⊎-elim (λ w q. sym (w .2 .ensures) ∙ w .3 .left) (λ w q. absurd (w .left q)) (c .before .if1 .came))
 
 pub is-answered-spec : {M : Type 1} → statement M
 is-answered-spec =
