@@ -163,6 +163,9 @@ module _ (hs : List ℕ) where
             let (d, g) = t .same (omega arith) in
             (d ∙ e, below-more _ i f (rw e at g))
 
+  pub swept-rests : {ms new : List ℕ} {n r : ℕ} → Swept hs ms n new r → r ≡ 0 → (i : ℕ) → i < n → Stands hs new i
+  swept-rests s q i l = let (e, f) = s .same q in rw e (f i l)
+
   module _ {ms : List ℕ} (up : Ascending hs) (m : Marking hs ms) (rest : (i : ℕ) → i < count hs → Stands hs ms i) where
     settled-confluent : ConfluentSet hs (In (heldBy hs ms))
     unfolding Stands has
@@ -224,7 +227,7 @@ module _ (hs : List ℕ) where
 
   -- the marks that sweeps begin with
   module _ (ms out : List ℕ) (room : count hs ≤ length out) (e : ms ≡ listed (count hs) (firstMark hs) ++ drop (count hs) out) where
-    first-beyond : drop (count hs) ms ≡ drop (count hs) out
+    pub first-beyond : drop (count hs) ms ≡ drop (count hs) out
     first-beyond = rw e (drop-at (listed (count hs) (firstMark hs)) (drop (count hs) out) (count hs) (length-listed (firstMark hs) (count hs)))
 
     first-is : (i : ℕ) → i < count hs → getD ms i 0 ≡ firstMark hs i
@@ -245,4 +248,4 @@ module _ (hs : List ℕ) where
           holds s t h =
               let p = has-place hs s 0 t (marked-confluent hs .silent s t h) in
               held-yes hs ms s t (p .within) (is-yes hs s 0 t (p .at) (p .from-is) (p .label-is) (p .to-is))
-              (eq-eqb (getD ms (p .at)) 1 (first-is (p .at) (p .within) ∙ sym (first-silent hs (p .at) (p .label-is))))
+              (eq-eqb (getD ms (p .at) 0) 1 (first-is (p .at) (p .within) ∙ sym (first-silent hs (p .at) (p .label-is))))

@@ -1,13 +1,13 @@
 -- `confluence::sweep::settle` meets its contract: the marks hold the marked set, and a sweep that takes nothing leaves a confluent set.
 -- Assumes nothing.
 use Prim.Native.Nat.{ℕ, _+_, _<_, _≤_}
-use mathlib.Core.Path.{_≡_, refl, sym, _∙_}
+use mathlib.Core.Path.{_≡_, refl, _∙_}
 use native.Mathlib.Omega.{arith}
 use borrow.Author.Needs.{needs}
 use lib.ListN.{length, drop}
 use Rattle.graph.specs.Hops.{count}
 use Rattle.confluence.specs.Sweep.{markCount, Marking, Stands}
-use Rattle.confluence.proofs.Held.{settled-marks}
+use Rattle.confluence.proofs.Held.{swept-rests, settled-marks}
 use Rattle.confluence.proofs.sweep.settle.Statement.{statement}
 use Rattle.confluence.proofs.sweep.settle.Tie as tie
 
@@ -28,16 +28,21 @@ sweep-requires c κs =
     (st .pre .0, (st .pre .1 .0, c .before .before .loop .inv .1))
 
 loop-less : tie.Need-loop-less Inv-loop μ-loop
-loop-less c = ?
+loop-less c = omega (arith, c .before .before .sweep .ensures .fewer)
 
 loop-again : tie.Need-loop-again Inv-loop μ-loop
-loop-again c = ?
+loop-again c =
+    let v = c .before .before .before .before .before .loop .inv in
+    let s = c .before .before .sweep .ensures in
+    (c .before .before .sweep .kept .1 .1 .0 ∙ v .0, s .marking, s .beyond ∙ v .2, swept-rests _ s)
 
 same-length : tie.Need-same-length Inv-loop μ-loop
 same-length c = c .before .loop .inv .0
 
 returns : tie.Need-returns Inv-loop μ-loop
-returns c = ?
+returns c =
+    let v = c .before .loop .inv in
+    settled-marks _ (c .before .before .before .before .pre .0 .ascending) (v .1) (v .3 (omega arith)) _ (v .2)
 
 pub settle-spec : {M : Type 1} → statement M
 settle-spec =

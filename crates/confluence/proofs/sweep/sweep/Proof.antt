@@ -1,6 +1,6 @@
 -- `confluence::sweep::sweep` meets its contract, test by test. Assumes nothing.
 use Prim.Native.Nat.{_-_, _≤_}
-use mathlib.Core.Path.{_≡_, refl, sym, _∙_}
+use mathlib.Core.Path.{_≡_, refl, _∙_}
 use native.Mathlib.Omega.{arith}
 use borrow.Author.Needs.{needs}
 use lib.ListN.{length}
@@ -29,7 +29,10 @@ test-at-requires c κs =
     (st .pre .0, (st .pre .1 .0, (c .before .before .loop .inv .3 .marking, omega arith)))
 
 add-lost : tie.Need-add-lost Inv-loop μ-loop
-add-lost c = ?
+add-lost c =
+    let st = c .before .before .before .before .before .before .before .before .before in
+    let s = swept-more (st .args .hops .now) (c .before .before .before .before .before .loop .inv .3) (c .before .before .test-at .ensures) in
+    omega (arith, s .fewer, count-within (st .args .hops .now) (st .args .marks .now), st .pre .0 .hops-most)
 
 add-i : tie.Need-add-i Inv-loop μ-loop
 add-i c = search needs
@@ -38,13 +41,17 @@ loop-less : tie.Need-loop-less Inv-loop μ-loop
 loop-less c = search needs
 
 loop-again : tie.Need-loop-again Inv-loop μ-loop
-loop-again c = ?
+loop-again c =
+    let v = c .before .before .before .before .before .loop .inv in
+    (v .0, omega arith, c .before .before .test-at .kept .1 .1 .0 ∙ v .2, swept-more _ (v .3) (c .before .before .test-at .ensures))
 
 same-length : tie.Need-same-length Inv-loop μ-loop
 same-length c = c .before .loop .inv .2
 
 returns : tie.Need-returns Inv-loop μ-loop
-returns c = ?
+returns c =
+    let e : c .before .loop .i ≡ count (c .before .before .before .before .before .args .hops .now) = omega arith in
+    rw e at (c .before .loop .inv .3)
 
 pub sweep-spec : {M : Type 1} → statement M
 sweep-spec =
