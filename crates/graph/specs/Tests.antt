@@ -1,7 +1,8 @@
 -- Tests of every number below a bound, by which everything over a hop list is said: all pass, any passes, the least that passes, how many pass;
--- and the list of a function's values below a bound.
+-- and the list and the sum of a function's values below a bound.
 -- Assumes nothing: these are definitions.
-use Prim.Native.Nat.{ℕ, zero, suc, _+_}
+use Prim.Native.Nat.{ℕ, zero, suc, _+_, _<_}
+use mathlib.Core.Path.{_≡_}
 use mathlib.Core.Bool.{Bool, true, false, cond, _&&_, _||_}
 use mathlib.Core.List.{List, [], _∷_, _++_}
 use lib.Dec.{ltb}
@@ -19,6 +20,12 @@ unfoldable pub least : ℕ → (ℕ → Bool) → ℕ
 least zero p = zero
 least (suc n) p = cond (ltb (least n p) n) (least n p) (cond (p n) n (suc n))
 
+-- i is the first number below n that fails p
+pub record FirstFailing (n : ℕ) (p : ℕ → Bool) (i : ℕ) : Type 0 where
+  pub within : i < n
+  pub fails : p i ≡ false
+  pub passed : (j : ℕ) → j < i → p j ≡ true
+
 -- how many numbers below n pass p
 unfoldable pub tally : ℕ → (ℕ → Bool) → ℕ
 tally zero p = zero
@@ -28,3 +35,8 @@ tally (suc n) p = cond (p n) 1 0 + tally n p
 unfoldable pub listed : ℕ → (ℕ → ℕ) → List ℕ
 listed zero f = []
 listed (suc n) f = listed n f ++ (f n ∷ [])
+
+-- the sum of f 0, f 1, .. up to f (n - 1)
+unfoldable pub total : ℕ → (ℕ → ℕ) → ℕ
+total zero f = zero
+total (suc n) f = f n + total n f

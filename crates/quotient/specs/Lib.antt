@@ -1,0 +1,3 @@
+pub mod Representative
+pub mod Short
+pub mod Reduce
