@@ -3,3 +3,4 @@ pub mod Rounds
 pub mod Marked
 pub mod Rows
 pub mod Held
+pub mod Entry

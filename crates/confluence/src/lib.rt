@@ -2,3 +2,4 @@
 pub mod starts; // starts.rt: the table of first places
 pub mod closes; // closes.rt: whether a marked hop closes
 pub mod sweep; // sweep.rt: marking by sweeps in place
+pub mod mark; // mark.rt: the entry `mark`
