@@ -1,13 +1,13 @@
 -- What the tests `closing`, `answers` and `closes` say, and the other way round: `closes hs u` is document 01's condition with "in U" read as
 -- `u s t ≡ true`. So it only grows with the set. Assumes nothing.
 use Prim.Native.Nat.{ℕ, _<_}
-use mathlib.Core.Path.{_≡_, refl, sym, ap, _∙_}
+use mathlib.Core.Path.{_≡_, refl, sym, _∙_}
 use mathlib.Core.Bool.{Bool, true, false, _&&_, _||_}
 use mathlib.Core.List.{List}
 use mathlib.Core.Logic.{_⊎_, inl, inr, ⊎-elim}
 use lib.Dec.{eqb}
 use borrow.Author.Tests.{eq-eqb, ne-eqb, eqb-true}
-use Rattle.graph.specs.Tests.{all, any}
+use Rattle.graph.specs.Tests.{any}
 use Rattle.graph.specs.Hops.{count, from, label, to, has}
 use Rattle.graph.proofs.Bools.{and-yes, and-left, and-right, or-left, or-right, or-yes, eq-or-not}
 use Rattle.graph.proofs.Places.{has-at, has-place, place-has}
@@ -49,9 +49,10 @@ module _ (u : Pairs) (s3 s4 : ℕ) where
 module _ (hs : List ℕ) where
   pub leaves-says : (s a j : ℕ) → leaves hs s a j ≡ true → (from hs j ≡ s) × (label hs j ≡ a)
   unfolding leaves
-  leaves-says s a j e =
-      (eqb-true (from hs j) s (and-left (eqb (from hs j) s) (eqb (label hs j) a) e),
-      eqb-true (label hs j) a (and-right (eqb (from hs j) s) (eqb (label hs j) a) e))
+  leaves-says s a j e = (
+    eqb-true (from hs j) s (and-left (eqb (from hs j) s) (eqb (label hs j) a) e),
+    eqb-true (label hs j) a (and-right (eqb (from hs j) s) (eqb (label hs j) a) e),
+  )
 
   pub leaves-yes : {s a : ℕ} (j : ℕ) → from hs j ≡ s → label hs j ≡ a → leaves hs s a j ≡ true
   unfolding leaves
@@ -77,9 +78,11 @@ module _ (hs : List ℕ) where
     unfolding answers answer
     answers-says s2 a s3 e = go (or-yes (eqb a 0 && closing u s3 s2) (any (count hs) (answer hs u s2 a s3)) e) where
       go : ((eqb a 0 && closing u s3 s2) ≡ true) ⊎ (any (count hs) (answer hs u s2 a s3) ≡ true) → Answered hs (In u) s2 a s3
-      go (inl h) =
-          (s2, inr (eqb-true a 0 (and-left (eqb a 0) (closing u s3 s2) h), refl),
-          closing-says u s3 s2 (and-right (eqb a 0) (closing u s3 s2) h))
+      go (inl h) = (
+        s2,
+        inr (eqb-true a 0 (and-left (eqb a 0) (closing u s3 s2) h), refl),
+        closing-says u s3 s2 (and-right (eqb a 0) (closing u s3 s2) h),
+      )
       go (inr h) =
           let (j, l, w) = any-at (answer hs u s2 a s3) (count hs) h in
           let (f, g) = leaves-says s2 a j (and-left (leaves hs s2 a j) (closing u s3 (to hs j)) w) in

@@ -1,9 +1,8 @@
 -- The answer of `mark` row by row, and what its acceptance gives: an admitted graph, with room for one mark a hop. Assumes nothing.
 use Prim.Native.Nat.{ℕ, _<_, _≤_}
-use mathlib.Core.Path.{_≡_, refl, sym, ap, _∙_}
+use mathlib.Core.Path.{_≡_, refl, sym, _∙_}
 use mathlib.Core.Bool.{Bool, true, false, cond}
 use mathlib.Core.List.{List, _++_}
-use mathlib.Core.Logic.{_⊎_, inl, inr}
 use native.Mathlib.Omega.{arith}
 use lib.ListN.{length, drop}
 use lib.Dec.{eqb, leb}
@@ -43,7 +42,7 @@ admitted-ready a =
       ascending = a .ascending;
       hops-most = a .hops-most;
       from-in = λ i l. omega (arith, a .range .from-in i l, a .states-most);
-      to-in = λ i l. omega (arith, a .range .to-in i l, a .states-most)
+      to-in = λ i l. omega (arith, a .range .to-in i l, a .states-most);
     }
 
 module _ (sh : Shape) (hs out : List ℕ) where

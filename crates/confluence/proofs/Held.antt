@@ -11,7 +11,7 @@ use lib.Seq.{getD-set-same, getD-set-other, drop-set-lt, drop-at, getD-take, len
 use lib.Dec.{eqb}
 use borrow.Author.Tests.{eqb-true, eq-eqb, ne-eqb}
 use borrow.Author.Count.{below-more}
-use Rattle.graph.specs.Tests.{any, listed}
+use Rattle.graph.specs.Tests.{listed}
 use Rattle.graph.specs.Hops.{count, from, label, to, is, has}
 use Rattle.graph.specs.Order.{Ascending}
 use Rattle.graph.specs.Search.{placed}
@@ -62,7 +62,7 @@ module _ (hs ms : List ℕ) where
         ascending-place hs up l m (λ k. record {
           from = (is-from hs s a t i p ∙ sym (is-from hs s a t j q)) k;
           label = (is-label hs s a t i p ∙ sym (is-label hs s a t j q)) k;
-          to = (is-to hs s a t i p ∙ sym (is-to hs s a t j q)) k
+          to = (is-to hs s a t i p ∙ sym (is-to hs s a t j q)) k;
         })
 
     -- so its mark is whether the set holds it
@@ -129,7 +129,7 @@ module _ (hs : List ℕ) where
             marking = record { room = simp length-set (m .room); bits = bits; silent = λ j k e. m .silent j k (off-only j e); holds = holds };
             beyond = drop-set-lt (count hs) ms i 0 l;
             fewer = omega (arith, tally-less (isMarked (set ms i 0)) (isMarked ms) (count hs) (λ j k e. off-only j e) l off-here (on-or-off l n));
-            same = λ q. absurd (omega arith)
+            same = λ q. absurd (omega arith);
           } where
             bits : (j : ℕ) → j < count hs → (getD (set ms i 0) j 0 ≡ 0) ⊎ (getD (set ms i 0) j 0 ≡ 1)
             bits j k = go (eq-or-not j i) where
@@ -155,7 +155,7 @@ module _ (hs : List ℕ) where
         marking = t .marking;
         beyond = t .beyond ∙ s .beyond;
         fewer = omega (arith, s .fewer, t .fewer);
-        same = same
+        same = same;
       } where
         same : lost + r ≡ 0 → (new ≡ ms) × ((j : ℕ) → j < i + 1 → Stands hs ms j)
         same q =
@@ -172,7 +172,7 @@ module _ (hs : List ℕ) where
     settled-confluent =
         record {
           silent = λ s t e. let (i, l, h, o) = held-says hs ms s t e in any-found (is hs s 0 t) (count hs) l h;
-          closed = closed
+          closed = closed;
         } where
           closed : (s t : ℕ) → heldBy hs ms s t ≡ true → Closed hs (In (heldBy hs ms)) s t
           closed s t e =
@@ -242,7 +242,7 @@ module _ (hs : List ℕ) where
           room = rw (length-so-far (firstMark hs) out (count hs) room e) room;
           bits = λ i l. ⊎-elim (λ q. inr (first-is i l ∙ sym (first-silent hs i q))) (λ n. inl (first-is i l ∙ sym (first-visible hs i n))) (eq-or-not (label hs i) 0);
           silent = λ i l o. ⊎-elim (λ q. q) (λ n. absurd (omega (arith, eqb-true (getD ms i 0) 1 o, first-is i l, first-visible hs i n))) (eq-or-not (label hs i) 0);
-          holds = holds
+          holds = holds;
         } where
           holds : (s t : ℕ) → marked hs s t ≡ true → heldBy hs ms s t ≡ true
           holds s t h =

@@ -1,12 +1,11 @@
 -- The marked set is the greatest confluent set, the union of all of them, and what survives every number of rounds. Assumes nothing.
 use Prim.Native.Nat.{ℕ, zero, suc, _+_}
-use mathlib.Core.Path.{_≡_, refl, sym, _∙_}
-use mathlib.Core.Bool.{Bool, true}
+use mathlib.Core.Path.{_≡_, sym, _∙_}
+use mathlib.Core.Bool.{true}
 use mathlib.Core.List.{List}
-use mathlib.Core.Logic.{_⊎_, inl, inr}
 use native.Mathlib.Omega.{arith}
 use Rattle.lts.specs.Sense.{R1}
-use Rattle.graph.specs.Hops.{count, has}
+use Rattle.graph.specs.Hops.{count}
 use Rattle.silent.specs.Silent.{HopOf}
 use Rattle.confluence.specs.Rounds.{survives, marked, ConfluentSet}
 use Rattle.confluence.proofs.Closing.{In, closes-says, closes-yes, closed-mono}
@@ -18,7 +17,7 @@ module _ (hs : List ℕ) where
   marked-confluent =
       record {
         silent = survives-silent hs (count hs);
-        closed = λ s1 s2 e. closes-says hs (survives hs (count hs)) s1 s2 (survives-closes hs (count hs) s1 s2 (again s1 s2 e))
+        closed = λ s1 s2 e. closes-says hs (survives hs (count hs)) s1 s2 (survives-closes hs (count hs) s1 s2 (again s1 s2 e));
       } where
         one-more : 1 + count hs ≡ suc (count hs)
         one-more = omega arith
@@ -54,7 +53,7 @@ module _ (hs : List ℕ) where
   union-confluent I U c =
       record {
         silent = λ s t (i, m). c i .silent s t m;
-        closed = λ s1 s2 (i, m). closed-mono hs (λ s t w. (i, w)) s1 s2 (c i .closed s1 s2 m)
+        closed = λ s1 s2 (i, m). closed-mono hs (λ s t w. (i, w)) s1 s2 (c i .closed s1 s2 m);
       }
 
   -- strong confluence is the sense R1 of the theory over any relation

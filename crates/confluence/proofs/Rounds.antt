@@ -1,11 +1,11 @@
 -- The rounds of marking: each is within the one before, and none changes anything once there have been as many as hops, since a round that
 -- changes nothing is the last to do so and any other takes out a hop. Assumes nothing.
 use Prim.Native.Nat.{ℕ, zero, suc, _+_, _<_}
-use mathlib.Core.Path.{_≡_, refl, sym, ap, _∙_}
-use mathlib.Core.Bool.{Bool, true, false, _&&_}
+use mathlib.Core.Path.{_≡_, sym, _∙_}
+use mathlib.Core.Bool.{Bool, true, _&&_}
 use mathlib.Core.List.{List}
 use lib.Dec.{eqb}
-use borrow.Author.Tests.{eq-eqb, eqb-true}
+use borrow.Author.Tests.{eq-eqb}
 use Rattle.graph.specs.Hops.{count, from, label, to, has}
 use Rattle.graph.proofs.Bools.{and-yes, and-left, and-right, same-test}
 use Rattle.graph.proofs.Places.{has-place}

@@ -1,8 +1,8 @@
 -- Where a state's hops lie in an ascending list: the table of first places gives their range, labels do not fall in it, and those of one
 -- label lie together. Assumes nothing.
 use Prim.Native.Nat.{ℕ, suc, _+_, _<_, _≤_}
-use mathlib.Core.Path.{_≡_, refl, sym, ap, _∙_}
-use mathlib.Core.Bool.{Bool, true, false, _&&_}
+use mathlib.Core.Path.{_≡_, sym, ap, _∙_}
+use mathlib.Core.Bool.{true, false}
 use mathlib.Core.List.{List, [], _∷_, _++_, append-assoc}
 use mathlib.Core.Logic.{_⊎_, inl, inr, ⊎-elim}
 use native.Mathlib.Nat.{eq-or-lt-of-le, le-refl}
@@ -10,8 +10,7 @@ use native.Mathlib.Omega.{arith}
 use lib.ListN.{length, getD, set, drop, length-append, length-drop}
 use lib.Seq.{drop-cons, set-at, getD-set-same, getD-set-other}
 use native.Mathlib.Numerals.{add-one}
-use lib.Dec.{ltb}
-use borrow.Author.Tests.{ltb-true, lt-ltb, le-ltb}
+use borrow.Author.Tests.{ltb-true, lt-ltb}
 use Rattle.graph.specs.Tests.{any, listed}
 use Rattle.graph.specs.Hops.{count, from, label, to, hopAt}
 use Rattle.graph.specs.Order.{Ascending}
@@ -111,8 +110,11 @@ module _ (hs : List ℕ) (up : Ascending hs) where
     go : (firstOf hs (s + 1) < firstOf hs s) ⊎ (firstOf hs s ≤ firstOf hs (s + 1)) → firstOf hs s ≤ firstOf hs (s + 1)
     go (inl l) =
         let k : firstOf hs (s + 1) < count hs = omega (arith, first-within hs up s) in
-        absurd (omega (arith, ltb-true (firstOf hs (s + 1)) (firstOf hs (s + 1))
-        (first-law hs up (s + 1) k ∙ lt-ltb (from hs (firstOf hs (s + 1))) (s + 1) (omega (arith, first-below s l)))))
+        absurd (omega (
+          arith,
+          ltb-true (firstOf hs (s + 1)) (firstOf hs (s + 1))
+              (first-law hs up (s + 1) k ∙ lt-ltb (from hs (firstOf hs (s + 1))) (s + 1) (omega (arith, first-below s l))),
+        ))
     go (inr l) = l
 
   -- the hops before the first of s1 are not tried
@@ -147,7 +149,7 @@ module _ (hs : List ℕ) (up : Ascending hs) (s1 s2 end past : ℕ) where
         j-in = omega (arith, first-next hs up s1);
         at-from = omega arith;
         at-in = omega (arith, first-next hs up s2);
-        behind = λ k l m i n o. absurd (omega arith)
+        behind = λ k l m i n o. absurd (omega arith);
       }
 
   module _ {at j : ℕ} (w : Walk hs s1 s2 end past at j) (l : j < end) where
@@ -179,7 +181,7 @@ module _ (hs : List ℕ) (up : Ascending hs) (s1 s2 end past : ℕ) where
             j-in = w .j-in;
             at-from = omega (arith, w .at-from, sk .after);
             at-in = sk .before;
-            behind = λ k a b i m n. ⊎-elim (λ c. w .behind k a c i m n) (λ c. omega (arith, sk .passed k c b, later i m n)) (lt-or-le k at)
+            behind = λ k a b i m n. ⊎-elim (λ c. w .behind k a c i m n) (λ c. omega (arith, sk .passed k c b, later i m n)) (lt-or-le k at);
           }
 
       -- the hops of s2 from r on are those of j's label or above
@@ -210,7 +212,7 @@ module _ (hs : List ℕ) (up : Ascending hs) (s1 s2 end past : ℕ) where
             j-in = omega arith;
             at-from = walk-skip .at-from;
             at-in = walk-skip .at-in;
-            behind = λ k a b i m n. walk-skip .behind k a b i (omega arith) n
+            behind = λ k a b i m n. walk-skip .behind k a b i (omega arith) n;
           }
 
   module _ (u : Pairs) where

@@ -1,16 +1,15 @@
 // Whether a silent hop closes with the set that the marks are: document 01's condition, each hop tried once and its answers looked for
 // among the hops of the same label only.
-use graph::hops::from_at;
-use graph::hops::label_at;
-use graph::hops::to_at;
-use graph::search::find;
+use super::starts::start_of;
+use super::starts::wide;
 use graph::Found;
 use graph::Hop;
 use graph::Label;
 use graph::OldState;
-use super::starts::start_of;
-use super::starts::wide;
-
+use graph::hops::from_at;
+use graph::hops::label_at;
+use graph::hops::to_at;
+use graph::search::find;
 ghost use mathlib.Core.Path.{_≡_};
 ghost use Prim.Native.Nat.{_+_, _<_, _≤_};
 ghost use lib.ListN.{length};
@@ -120,7 +119,16 @@ pub fn closes_at(hops: &[u16], starts: &[u16; 1025], marks: &[u8], i: usize) -> 
     let mut j = start_of(starts, s1);
     while j < end {
         at = skip(hops, at, past, label_at(hops, j));
-        if !is_answered(hops, marks, Rest { state: s2, at: at, past: past }, j) {
+        if !is_answered(
+            hops,
+            marks,
+            Rest {
+                state: s2,
+                at: at,
+                past: past,
+            },
+            j,
+        ) {
             return false;
         }
         j += 1;

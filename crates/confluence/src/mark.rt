@@ -1,4 +1,5 @@
 // The entry `mark`: the marks of a graph without rings, or the row that refuses it.
+use super::sweep::mark_all;
 use graph::Answer;
 use graph::Shape;
 use graph::hops::hop_count;
@@ -6,8 +7,6 @@ use graph::limits::accept;
 use graph::limits::check;
 use graph::limits::refuse;
 use silent::ring::ring_answer;
-use super::sweep::mark_all;
-
 ghost use mathlib.Core.Path.{_≡_};
 ghost use Rattle.confluence.specs.Mark.{markAnswer, markOutput};
 

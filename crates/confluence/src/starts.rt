@@ -1,9 +1,8 @@
 // The table of first places: for each state the place where its hops begin, found once in a pass over the list.
 use graph::hops::from_at;
 use graph::hops::hop_count;
-
 ghost use mathlib.Core.Path.{_≡_};
-ghost use Prim.Native.Nat.{_+_, _<_, _≤_};
+ghost use Prim.Native.Nat.{_+_, _<_};
 ghost use lib.ListN.{getD};
 ghost use Rattle.graph.specs.Search.{firstOf};
 ghost use Rattle.confluence.specs.Sweep.{Table, Ready};

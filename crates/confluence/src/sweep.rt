@@ -1,14 +1,13 @@
 // Marking by sweeps in place. The marks start at 1 for every silent hop; a sweep goes over the places in list order, and a marked hop that
 // no longer closes loses its mark at once; sweeps go on until one takes nothing. The marks hold the marked set throughout, and are a
 // confluent set when they rest.
-use graph::hops::hop_count;
-use graph::hops::label_at;
 use super::closes::closes_at;
 use super::starts::starts_of;
-
+use graph::hops::hop_count;
+use graph::hops::label_at;
 ghost use mathlib.Core.Path.{_≡_};
 ghost use mathlib.Core.List.{_++_};
-ghost use Prim.Native.Nat.{_+_, _<_, _≤_};
+ghost use Prim.Native.Nat.{_<_, _≤_};
 ghost use lib.ListN.{length, drop};
 ghost use Rattle.graph.specs.Tests.{listed};
 ghost use Rattle.graph.specs.Hops.{count};

@@ -1,10 +1,10 @@
 -- `confluence::closes::hop_answers` meets its contract: no hop passed closes s3. Assumes nothing.
-use Prim.Native.Nat.{ℕ, _+_, _-_, _<_, _≤_}
+use Prim.Native.Nat.{ℕ, _-_, _<_, _≤_}
 use mathlib.Core.Path.{_≡_, sym, _∙_}
 use mathlib.Core.Bool.{false}
 use native.Mathlib.Omega.{arith}
 use borrow.Author.Needs.{needs}
-use Rattle.graph.specs.Hops.{count, label, to}
+use Rattle.graph.specs.Hops.{to}
 use Rattle.confluence.specs.Rounds.{closing}
 use Rattle.confluence.specs.Sweep.{heldBy}
 use Rattle.confluence.proofs.Rows.{range-more, row-answers, row-ends}
@@ -52,9 +52,11 @@ loop-less c = omega arith
 
 loop-again : tie.Need-loop-again Inv-loop μ-loop
 loop-again c =
-    let e = sym (c .before .is-closed .ensures) ∙ c .if2 .left in
-    (omega arith, range-more (c .before .before .before .before .before .before .before .before .loop .inv .1)
-    (rw (c .before .before .to-at .ensures) at e))
+    let e = sym (c .before .is-closed .ensures) ∙ c .if2 .left in (
+      omega arith,
+      range-more (c .before .before .before .before .before .before .before .before .loop .inv .1)
+          (rw (c .before .before .to-at .ensures) at e),
+    )
 
 returns-3 : tie.Need-returns-3 Inv-loop μ-loop
 returns-3 c =

@@ -30,7 +30,7 @@ returns-2 : tie.Need-returns-2
 returns-2 c =
     let st = c .before .before .before in
     c .hop-answers .ensures ∙
-    answered-else _ _ _ _ (st .before .label-at .ensures) (st .to-at .ensures) 
+    answered-else _ _ _ _ (st .before .label-at .ensures) (st .to-at .ensures)
     (⊎-elim (λ w q. sym (w .2 .ensures) ∙ w .3 .left) (λ w q. absurd (w .left q)) (c .before .if1 .came))
 
 pub is-answered-spec : {M : Type 1} → statement M

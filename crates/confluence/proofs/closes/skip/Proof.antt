@@ -1,9 +1,8 @@
 -- `confluence::closes::skip` meets its contract: each place passed has a label below a. Assumes nothing.
-use Prim.Native.Nat.{ℕ, _+_, _-_, _<_, _≤_}
-use mathlib.Core.Path.{_≡_}
+use Prim.Native.Nat.{ℕ, _-_, _<_, _≤_}
 use native.Mathlib.Omega.{arith}
 use borrow.Author.Needs.{needs}
-use Rattle.graph.specs.Hops.{count, label}
+use Rattle.graph.specs.Hops.{label}
 use Rattle.confluence.proofs.Rows.{range-more}
 use Rattle.confluence.proofs.closes.skip.Statement.{statement}
 use Rattle.confluence.proofs.closes.skip.Tie as tie

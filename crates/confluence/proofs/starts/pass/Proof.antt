@@ -21,9 +21,11 @@ hop-count-requires c κs = search needs
 
 loop-holds : tie.Need-loop-holds Inv-loop μ-loop
 loop-holds c =
-    let st = c .before .before in
-    (c .hop-count .ensures, omega (arith, first-within (st .args .hops .now) (st .pre .0 .ascending) (st .args .s)),
-    λ j l. omega (arith, first-below (st .args .hops .now) (st .pre .0 .ascending) (st .args .s) {j = j} (omega (arith, l, st .pre .1))))
+    let st = c .before .before in (
+      c .hop-count .ensures,
+      omega (arith, first-within (st .args .hops .now) (st .pre .0 .ascending) (st .args .s)),
+      λ j l. omega (arith, first-below (st .args .hops .now) (st .pre .0 .ascending) (st .args .s) {j = j} (omega (arith, l, st .pre .1))),
+    )
 
 from-at-requires : tie.Need-from-at-requires Inv-loop μ-loop
 from-at-requires c κs = search needs

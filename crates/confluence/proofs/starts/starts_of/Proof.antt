@@ -1,8 +1,7 @@
 -- `confluence::starts::starts_of` meets its contract: the elements below s are filled, and `at` is where the hops of s begin. Assumes nothing.
-use Prim.Native.Nat.{ℕ, _+_, _-_, _<_, _≤_}
-use mathlib.Core.Path.{_≡_, sym, _∙_}
+use Prim.Native.Nat.{ℕ, _-_, _<_, _≤_}
+use mathlib.Core.Path.{_≡_}
 use native.Mathlib.Omega.{arith}
-use borrow.Author.Needs.{needs}
 use lib.ListN.{length, getD, length-set, length-replicate}
 use Rattle.graph.specs.Search.{firstOf}
 use Rattle.graph.proofs.Lookup.{first-within}
@@ -19,13 +18,16 @@ abbrev μ-loop : tie.MeasureT-loop
 μ-loop hops starts₀ at₀ s₀ starts at s = 1025 - s
 
 loop-holds : tie.Need-loop-holds Inv-loop μ-loop
-loop-holds c = 
-    let st = c .before in
-    (length-replicate {A = ℕ} 1025 0, omega arith, first-is (st .args .hops .now) (st .pre .ascending) 0 (omega arith) (λ j l. absurd (omega arith)) (λ l. omega arith),
-    λ t l. absurd (omega arith))
+loop-holds c =
+    let st = c .before in (
+      length-replicate {A = ℕ} 1025 0,
+      omega arith,
+      first-is (st .args .hops .now) (st .pre .ascending) 0 (omega arith) (λ j l. absurd (omega arith)) (λ l. omega arith),
+      λ t l. absurd (omega arith),
+    )
 
 cast-starts : tie.Need-cast-starts Inv-loop μ-loop
-cast-starts c = 
+cast-starts c =
     let st = c .before .before .before in
     omega (arith, first-within (st .args .hops .now) (st .pre .ascending) (c .before .loop .s), st .pre .hops-most)
 
@@ -45,7 +47,7 @@ loop-less : tie.Need-loop-less Inv-loop μ-loop
 loop-less c = omega arith
 
 loop-again : tie.Need-loop-again Inv-loop μ-loop
-loop-again c = 
+loop-again c =
     let v = c .before .before .loop .inv in
     (simp length-set (v .0), omega arith, c .pass .ensures, filled-more (firstOf (c .before .before .before .before .args .hops .now)) (c .before .before .loop .starts) (omega arith) (v .2) (v .3))
 

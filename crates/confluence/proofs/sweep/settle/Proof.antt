@@ -1,9 +1,8 @@
 -- `confluence::sweep::settle` meets its contract: the marks hold the marked set, and a sweep that takes nothing leaves a confluent set.
 -- Assumes nothing.
-use Prim.Native.Nat.{ℕ, _+_, _<_, _≤_}
+use Prim.Native.Nat.{ℕ, _+_, _<_}
 use mathlib.Core.Path.{_≡_, refl, _∙_}
 use native.Mathlib.Omega.{arith}
-use borrow.Author.Needs.{needs}
 use lib.ListN.{length, drop}
 use Rattle.graph.specs.Hops.{count}
 use Rattle.confluence.specs.Sweep.{markCount, Marking, Stands}

@@ -1,5 +1,5 @@
 -- `confluence::sweep::start_marks` meets its contract: the places passed hold their first marks, the others what they held. Assumes nothing.
-use Prim.Native.Nat.{ℕ, _+_, _-_, _<_, _≤_}
+use Prim.Native.Nat.{_-_, _≤_}
 use mathlib.Core.Path.{_≡_, refl, sym, _∙_}
 use mathlib.Core.Logic.{⊎-elim}
 use mathlib.Core.List.{_++_}
@@ -7,7 +7,7 @@ use native.Mathlib.Omega.{arith}
 use borrow.Author.Needs.{needs}
 use lib.ListN.{length, drop}
 use Rattle.graph.specs.Tests.{listed}
-use Rattle.graph.specs.Hops.{count, label}
+use Rattle.graph.specs.Hops.{count}
 use Rattle.confluence.specs.Sweep.{firstMark}
 use Rattle.confluence.proofs.Held.{first-silent, first-visible}
 use Rattle.confluence.proofs.Rows.{listed-more, length-so-far}
@@ -50,10 +50,13 @@ loop-less c = omega arith
 loop-again : tie.Need-loop-again Inv-loop μ-loop
 loop-again c =
     let v = c .before .before .before .before .loop .inv in
-    let a = c .before .before .label-at .ensures in
-    (v .0, v .1, omega arith,
-    ⊎-elim (λ w. listed-more _ _ (omega arith) (v .3) (first-silent _ _ (sym a ∙ w .0 .taken)) (w .1))
-    (λ w. listed-more _ _ (omega arith) (v .3) (first-visible _ _ (λ q. w .0 .left (a ∙ q))) (w .1)) (c .if1 .came))
+    let a = c .before .before .label-at .ensures in (
+      v .0,
+      v .1,
+      omega arith,
+      ⊎-elim (λ w. listed-more _ _ (omega arith) (v .3) (first-silent _ _ (sym a ∙ w .0 .taken)) (w .1))
+          (λ w. listed-more _ _ (omega arith) (v .3) (first-visible _ _ (λ q. w .0 .left (a ∙ q))) (w .1)) (c .if1 .came),
+    )
 
 same-length : tie.Need-same-length Inv-loop μ-loop
 same-length c = length-so-far _ _ (c .before .loop .i) (omega arith) (c .before .loop .inv .3)

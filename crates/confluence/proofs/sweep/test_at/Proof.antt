@@ -2,7 +2,6 @@
 use mathlib.Core.Path.{sym, _∙_}
 use native.Mathlib.Omega.{arith}
 use borrow.Author.Needs.{needs}
-use lib.ListN.{length-set}
 use Rattle.confluence.proofs.Held.{tested-off, tested-closes, tested-lost}
 use Rattle.confluence.proofs.sweep.test_at.Statement.{statement}
 use Rattle.confluence.proofs.sweep.test_at.Tie as tie
