@@ -27,7 +27,7 @@ use Rattle.confluence.specs.Mark.{markOf, marksOf}
 use Rattle.confluence.specs.Sweep.{isMarked, heldAt, heldBy, markCount, Marking, Stands, Tested, Swept, firstMark}
 use Rattle.confluence.proofs.Closing.{In, Closed, closes-says, closes-yes, closed-mono}
 use Rattle.confluence.proofs.Marked.{marked-confluent, marked-greatest}
-use Rattle.confluence.proofs.Rows.{length-so-far}
+use Rattle.confluence.proofs.Writing.{length-so-far}
 
 -- the silent hop from s to t
 abbrev pub silentHop : ℕ → ℕ → Hop

@@ -1,23 +1,21 @@
 -- Where a state's hops lie in an ascending list: the table of first places gives their range, labels do not fall in it, and those of one
 -- label lie together. Assumes nothing.
-use Prim.Native.Nat.{ℕ, suc, _+_, _<_, _≤_}
-use mathlib.Core.Path.{_≡_, sym, ap, _∙_}
+use Prim.Native.Nat.{ℕ, _+_, _<_, _≤_}
+use mathlib.Core.Path.{_≡_, sym, _∙_}
 use mathlib.Core.Bool.{true, false}
-use mathlib.Core.List.{List, [], _∷_, _++_, append-assoc}
+use mathlib.Core.List.{List}
 use mathlib.Core.Logic.{_⊎_, inl, inr, ⊎-elim}
 use native.Mathlib.Nat.{eq-or-lt-of-le, le-refl}
 use native.Mathlib.Omega.{arith}
-use lib.ListN.{length, getD, set, drop, length-append, length-drop}
-use lib.Seq.{drop-cons, set-at, getD-set-same, getD-set-other}
-use native.Mathlib.Numerals.{add-one}
+use lib.ListN.{getD}
 use borrow.Author.Tests.{ltb-true, lt-ltb}
-use Rattle.graph.specs.Tests.{any, listed}
+use Rattle.graph.specs.Tests.{any}
 use Rattle.graph.specs.Hops.{count, from, label, to, hopAt}
 use Rattle.graph.specs.Order.{Ascending}
 use Rattle.graph.specs.Check.{most-states}
 use Rattle.graph.specs.Search.{firstOf, pastOf}
 use Rattle.graph.proofs.Bools.{and-yes, and-left, and-no-right, no-test, lt-or-le}
-use Rattle.graph.proofs.Tests.{all-yes, all-fails, any-found, length-listed}
+use Rattle.graph.proofs.Tests.{all-yes, all-fails, any-found}
 use Rattle.graph.proofs.Ordered.{Below, before-below, ascending-lt}
 use Rattle.graph.proofs.Lookup.{first-law, first-within, range-holds, range-only, any-range}
 use Rattle.confluence.specs.Rounds.{Pairs, closing, leaves, answer, answered, tried, closes}
@@ -30,25 +28,6 @@ range-more {P} {at} {k} f h j l m = go (lt-or-le j k) where
   go : (j < k) ⊎ (k ≤ j) → P j
   go (inl n) = f j l n
   go (inr n) = let q : j ≡ k = omega arith in rw q h
-
--- one element more of a list that is written from the front
-pub listed-more : (f : ℕ → ℕ) (ms : List ℕ) {old new : List ℕ} {i v : ℕ} → i < length ms → old ≡ listed i f ++ drop i ms → v ≡ f i →
-    new ≡ set old i v → new ≡ listed (i + 1) f ++ drop (i + 1) ms
-unfolding listed
-listed-more f ms {i = i} l d q e =
-    e ∙ rw (d, q, add-one, drop-cons ms i 0 l, set-at (listed i f) (getD ms i 0) (drop (suc i) ms) (f i) i (length-listed f i))
-    (sym (append-assoc (listed i f) (f i ∷ []) (drop (suc i) ms)))
-
--- one element more of a table of f
-pub filled-more : (f : ℕ → ℕ) (xs : List ℕ) {s v : ℕ} → s < length xs → v ≡ f s → ((t : ℕ) → t < s → getD xs t 0 ≡ f t) →
-    (t : ℕ) → t < s + 1 → getD (set xs s v) t 0 ≡ f t
-filled-more f xs {s} {v} l e g t m = go (lt-or-le t s) where
-  go : (t < s) ⊎ (s ≤ t) → getD (set xs s v) t 0 ≡ f t
-  go (inl n) = getD-set-other xs s t v 0 (λ q. omega arith) ∙ g t n
-  go (inr n) = let q : t ≡ s = omega arith in rw q (getD-set-same xs s v 0 l ∙ e)
-
-pub length-so-far : (f : ℕ → ℕ) (ms : List ℕ) {new : List ℕ} (i : ℕ) → i ≤ length ms → new ≡ listed i f ++ drop i ms → length new ≡ length ms
-length-so-far f ms i l e = ap length e ∙ simp (length-append, length-listed, length-drop) (omega arith)
 
 module _ (hs : List ℕ) (up : Ascending hs) where
   pub ascending-label : {i j : ℕ} → i ≤ j → j < count hs → from hs i ≡ from hs j → label hs i ≤ label hs j

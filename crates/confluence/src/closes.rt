@@ -124,8 +124,8 @@ pub fn closes_at(hops: &[u16], starts: &[u16; 1025], marks: &[u8], i: usize) -> 
             marks,
             Rest {
                 state: s2,
-                at: at,
-                past: past,
+                at,
+                past,
             },
             j,
         ) {

@@ -7,6 +7,7 @@ ghost use lib.ListN.{getD};
 ghost use Rattle.graph.specs.Search.{firstOf};
 ghost use Rattle.confluence.specs.Sweep.{Table, Ready};
 
+// A number read from the list or the table, as a place or an index.
 pub fn wide(x: u16) -> usize
     ensures { λ r. ⌜ r ≡ x ⌝ }
 {
@@ -37,7 +38,7 @@ fn pass(hops: &[u16], at: usize, s: usize) -> usize
     i
 }
 
-// The table.
+// The table: a place for each state that can be, and one past the last.
 pub fn starts_of(hops: &[u16]) -> [u16; 1025]
     requires { ⌜ Ready (now hops) ⌝ }
     ensures { λ r. ⌜ Table (now (hops .entry)) r ⌝ }

@@ -19,9 +19,9 @@ fn start_marks(hops: &[u16], marks: &mut [u8])
     requires { ⌜ count (now hops) ≤ length (now marks) ⌝ }
     ensures { λ r. ⌜ now (marks .exit) ≡ listed (count (now (hops .entry))) (firstMark (now (hops .entry))) ++ drop (count (now (hops .entry))) (now (marks .entry)) ⌝ }
 {
-    let n = hop_count(hops);
+    let past = hop_count(hops);
     let mut i = 0;
-    while i < n {
+    while i < past {
         if label_at(hops, i).0 == 0 {
             marks[i] = 1;
         } else {

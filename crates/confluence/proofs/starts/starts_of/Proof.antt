@@ -6,7 +6,8 @@ use lib.ListN.{length, getD, length-set, length-replicate}
 use Rattle.graph.specs.Search.{firstOf}
 use Rattle.graph.proofs.Lookup.{first-within}
 use Rattle.confluence.specs.Sweep.{Table}
-use Rattle.confluence.proofs.Rows.{filled-more, first-is}
+use Rattle.confluence.proofs.Rows.{first-is}
+use Rattle.confluence.proofs.Writing.{filled-more}
 use Rattle.confluence.proofs.starts.starts_of.Statement.{statement}
 use Rattle.confluence.proofs.starts.starts_of.Tie as tie
 

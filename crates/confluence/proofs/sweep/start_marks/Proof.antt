@@ -10,16 +10,16 @@ use Rattle.graph.specs.Tests.{listed}
 use Rattle.graph.specs.Hops.{count}
 use Rattle.confluence.specs.Sweep.{firstMark}
 use Rattle.confluence.proofs.Held.{first-silent, first-visible}
-use Rattle.confluence.proofs.Rows.{listed-more, length-so-far}
+use Rattle.confluence.proofs.Writing.{listed-more, length-so-far}
 use Rattle.confluence.proofs.sweep.start_marks.Statement.{statement}
 use Rattle.confluence.proofs.sweep.start_marks.Tie as tie
 
 abbrev Inv-loop : tie.InvT-loop
-Inv-loop hops marks₀ n i₀ marks i =
-    (n ≡ count hops) × (n ≤ length marks₀) × (i ≤ n) × (marks ≡ listed i (firstMark hops) ++ drop i marks₀)
+Inv-loop hops marks₀ past i₀ marks i =
+    (past ≡ count hops) × (past ≤ length marks₀) × (i ≤ past) × (marks ≡ listed i (firstMark hops) ++ drop i marks₀)
 
 abbrev μ-loop : tie.MeasureT-loop
-μ-loop hops marks₀ n i₀ marks i = n - i
+μ-loop hops marks₀ past i₀ marks i = past - i
 
 hop-count-requires : tie.Need-hop-count-requires Inv-loop μ-loop
 hop-count-requires c κs = search needs
