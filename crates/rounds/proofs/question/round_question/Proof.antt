@@ -1,0 +1,23 @@
+use borrow.Author.Needs.{needs}
+use Rattle.rounds.proofs.question.round_question.Statement.{statement}
+use Rattle.rounds.proofs.question.round_question.Tie as tie
+
+question-answer-requires : tie.Need-question-answer-requires
+question-answer-requires c κs = search needs
+
+returns : tie.Need-returns
+returns c = search needs
+
+survives-rounds-requires : tie.Need-survives-rounds-requires
+survives-rounds-requires c κs = search needs
+
+cast-t9 : tie.Need-cast-t9
+cast-t9 c = search needs
+
+returns-2 : tie.Need-returns-2
+returns-2 c = search needs
+
+pub round-question-spec : {M : Type 1} → statement M
+round-question-spec =
+    tie.close
+    (tie.spec question-answer-requires returns survives-rounds-requires cast-t9 returns-2)
