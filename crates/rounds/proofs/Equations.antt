@@ -69,10 +69,10 @@ module _ (hs : List ℕ) (up : Ascending hs) (u : Pairs) where
       none-answers =
           any-range (answer hs u s2 a s3) (count hs) (labelledFrom hs s2 a) (labelledPast hs s2 a)
           (λ q l e. labelled-holds hs up s2 a l (own q e .0) (own q e .1)) (λ q lo hi. and-no-right (leaves hs s2 a q) (f q lo (omega arith))) where
-        own : (q : ℕ) → answer hs u s2 a s3 q ≡ true → (from hs q ≡ s2) × (label hs q ≡ a)
-        own q e =
-            let d = and-left (leaves hs s2 a q) _ e in
-            (eqb-true _ _ (and-left (eqb (from hs q) s2) _ d), eqb-true _ _ (and-right (eqb (from hs q) s2) _ d))
+            own : (q : ℕ) → answer hs u s2 a s3 q ≡ true → (from hs q ≡ s2) × (label hs q ≡ a)
+            own q e =
+                let d = and-left (leaves hs s2 a q) _ e in
+                (eqb-true _ _ (and-left (eqb (from hs q) s2) _ d), eqb-true _ _ (and-right (eqb (from hs q) s2) _ d))
 
       pub answers-still : a ≡ 0 → closing u s3 s2 ≡ answers hs u s2 a s3
       unfolding answers

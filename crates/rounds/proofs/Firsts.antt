@@ -94,9 +94,10 @@ module _ (hs : List ℕ) (up : Ascending hs) where
   module _ (s a : ℕ) where
     pub labelled-holds : {i : ℕ} → i < count hs → from hs i ≡ s → label hs i ≡ a → (labelledFrom hs s a ≤ i) × (i < labelledPast hs s a)
     unfolding labelledFrom labelledPast
-    labelled-holds {i} l p q =
-        (ltb-false _ _ (lower-law hs (start s a) up l ∙ no-test (before (hopAt hs i) (start s a)) (λ e. go (before-below (hopAt hs i) (start s a) e))),
-          ltb-true _ _ (lower-law hs (start s (a + 1)) up l ∙ below-before (hopAt hs i) (start s (a + 1)) (inr (p, inl (omega arith))))) where
+    labelled-holds {i} l p q = (
+      ltb-false _ _ (lower-law hs (start s a) up l ∙ no-test (before (hopAt hs i) (start s a)) (λ e. go (before-below (hopAt hs i) (start s a) e))),
+      ltb-true _ _ (lower-law hs (start s (a + 1)) up l ∙ below-before (hopAt hs i) (start s (a + 1)) (inr (p, inl (omega arith)))),
+    ) where
       go : Below (hopAt hs i) (start s a) → ⊥
       go (inl m) = omega arith
       go (inr (e, inl m)) = omega arith
@@ -106,11 +107,11 @@ module _ (hs : List ℕ) (up : Ascending hs) where
     unfolding labelledFrom labelledPast
     labelled-only {i} l lo hi =
         go (before-below (hopAt hs i) (start s (a + 1)) (sym (lower-law hs (start s (a + 1)) up l) ∙ lt-ltb _ _ hi)) (sym (lower-law hs (start s a) up l) ∙ le-ltb _ _ lo) where
-      go : Below (hopAt hs i) (start s (a + 1)) → before (hopAt hs i) (start s a) ≡ false → (from hs i ≡ s) × (label hs i ≡ a)
-      go (inl m) e = clash (below-before (hopAt hs i) (start s a) (inl m)) e
-      go (inr (p, inl m)) e =
-          (p, ⊎-elim (λ k. clash (below-before (hopAt hs i) (start s a) (inr (p, inl k))) e) (λ k. omega arith) (lt-or-le (label hs i) a))
-      go (inr (p, inr (q, m))) e = absurd (omega arith)
+          go : Below (hopAt hs i) (start s (a + 1)) → before (hopAt hs i) (start s a) ≡ false → (from hs i ≡ s) × (label hs i ≡ a)
+          go (inl m) e = clash (below-before (hopAt hs i) (start s a) (inl m)) e
+          go (inr (p, inl m)) e =
+              (p, ⊎-elim (λ k. clash (below-before (hopAt hs i) (start s a) (inr (p, inl k))) e) (λ k. omega arith) (lt-or-le (label hs i) a))
+          go (inr (p, inr (q, m))) e = absurd (omega arith)
 
     pub labelled-within : labelledPast hs s a ≤ count hs
     unfolding labelledFrom labelledPast

@@ -25,7 +25,7 @@ const SURVIVES: u8 = 2;
 const ROW: usize = 4096;
 
 // X: does the silent hop at place i survive k rounds?
-pub fn x(hops: &[u16], firsts: &[usize], i: usize, k: usize, known: &mut [u8]) -> bool
+pub(crate) fn x(hops: &[u16], firsts: &[usize], i: usize, k: usize, known: &mut [u8]) -> bool
     requires asks { ⌜ (i < count (now hops)) × (label (now hops) i ≡ 0) ⌝ }
     requires ready { ⌜ Ready (now hops) (now firsts) (now known) k ⌝ }
     ensures { λ r. ⌜ (r ≡ survives (now (hops .entry)) k (from (now (hops .entry)) i) (to (now (hops .entry)) i)) × Right (now (hops .entry)) (now (known .exit)) ⌝ }
@@ -57,7 +57,14 @@ pub fn x(hops: &[u16], firsts: &[usize], i: usize, k: usize, known: &mut [u8]) -
 }
 
 // Y: is the hop at place i, tried against a silent hop to s2, answered from s2 with a closing that survives k rounds?
-pub fn y(hops: &[u16], firsts: &[usize], i: usize, s2: OldState, k: usize, known: &mut [u8]) -> bool
+pub(crate) fn y(
+    hops: &[u16],
+    firsts: &[usize],
+    i: usize,
+    s2: OldState,
+    k: usize,
+    known: &mut [u8],
+) -> bool
     requires asks { ⌜ (i < count (now hops)) × (s2 .0 < 1024) ⌝ }
     requires ready { ⌜ Ready (now hops) (now firsts) (now known) k ⌝ }
     ensures { λ r. ⌜ (r ≡ answered (now (hops .entry)) (survives (now (hops .entry)) k) (s2 .0) i) × Right (now (hops .entry)) (now (known .exit)) ⌝ }
@@ -73,11 +80,22 @@ pub fn y(hops: &[u16], firsts: &[usize], i: usize, s2: OldState, k: usize, known
         }
         j += 1;
     }
-    if a.0 == 0 { z(hops, firsts, s3, s2, k, known) } else { false }
+    if a.0 == 0 {
+        z(hops, firsts, s3, s2, k, known)
+    } else {
+        false
+    }
 }
 
 // Z, the closing: is s3 the state s4, or does the silent hop s3 to s4 survive k rounds?
-pub fn z(hops: &[u16], firsts: &[usize], s3: OldState, s4: OldState, k: usize, known: &mut [u8]) -> bool
+pub(crate) fn z(
+    hops: &[u16],
+    firsts: &[usize],
+    s3: OldState,
+    s4: OldState,
+    k: usize,
+    known: &mut [u8],
+) -> bool
     requires asks { ⌜ s3 .0 < 1024 ⌝ }
     requires ready { ⌜ Ready (now hops) (now firsts) (now known) k ⌝ }
     ensures { λ r. ⌜ (r ≡ closing (survives (now (hops .entry)) k) (s3 .0) (s4 .0)) × Right (now (hops .entry)) (now (known .exit)) ⌝ }

@@ -17,7 +17,7 @@ ghost use Rattle.rounds.specs.Index.{most-firsts, Indexed, labelledFrom,
 // A place for each state that a graph can have, and the one past the last.
 const FIRSTS: usize = 1025;
 
-pub fn note_firsts(hops: &[u16], firsts: &mut [usize])
+pub(crate) fn note_firsts(hops: &[u16], firsts: &mut [usize])
     requires { ⌜ Ascending (now hops) × (length (now firsts) ≡ most-firsts) ⌝ }
     ensures { λ _. ⌜ Indexed (now (hops .entry)) (now (firsts .exit)) ⌝ }
 {
@@ -29,7 +29,7 @@ pub fn note_firsts(hops: &[u16], firsts: &mut [usize])
 }
 
 // The first place of the hops of s, and the one past the last.
-pub fn first_place(firsts: &[usize], s: OldState) -> usize
+pub(crate) fn first_place(firsts: &[usize], s: OldState) -> usize
     requires { ⌜ s .0 < length (now firsts) ⌝ }
     ensures { λ r. ⌜ r ≡ getD (now (firsts .entry)) (s .0) 0 ⌝ }
 {
@@ -37,7 +37,7 @@ pub fn first_place(firsts: &[usize], s: OldState) -> usize
     firsts[at]
 }
 
-pub fn past_place(firsts: &[usize], s: OldState) -> usize
+pub(crate) fn past_place(firsts: &[usize], s: OldState) -> usize
     requires { ⌜ s .0 + 1 < length (now firsts) ⌝ }
     ensures { λ r. ⌜ r ≡ getD (now (firsts .entry)) (s .0 + 1) 0 ⌝ }
 {
@@ -55,7 +55,7 @@ fn lower_of(hops: &[u16], firsts: &[usize], h: Hop) -> usize
 }
 
 // The first place of the hops of s labelled a, and the one past the last.
-pub fn labelled_from(hops: &[u16], firsts: &[usize], s: OldState, a: Label) -> usize
+pub(crate) fn labelled_from(hops: &[u16], firsts: &[usize], s: OldState, a: Label) -> usize
     requires { ⌜ Indexed (now hops) (now firsts) × (s .0 < 1024) ⌝ }
     ensures { λ r. ⌜ r ≡ labelledFrom (now (hops .entry)) (s .0) (a .0) ⌝ }
 {
@@ -70,7 +70,7 @@ pub fn labelled_from(hops: &[u16], firsts: &[usize], s: OldState, a: Label) -> u
     )
 }
 
-pub fn labelled_past(hops: &[u16], firsts: &[usize], s: OldState, a: Label) -> usize
+pub(crate) fn labelled_past(hops: &[u16], firsts: &[usize], s: OldState, a: Label) -> usize
     requires { ⌜ Indexed (now hops) (now firsts) × (s .0 < 1024) × (a .0 < 1024) ⌝ }
     ensures { λ r. ⌜ r ≡ labelledPast (now (hops .entry)) (s .0) (a .0) ⌝ }
 {
@@ -78,7 +78,7 @@ pub fn labelled_past(hops: &[u16], firsts: &[usize], s: OldState, a: Label) -> u
 }
 
 // Where the silent hop s to t stands, or would stand.
-pub fn silent_place(hops: &[u16], firsts: &[usize], s: OldState, t: OldState) -> Found
+pub(crate) fn silent_place(hops: &[u16], firsts: &[usize], s: OldState, t: OldState) -> Found
     requires { ⌜ Indexed (now hops) (now firsts) × (s .0 < 1024) ⌝ }
     ensures { λ r. ⌜ r ≡ placed (now (hops .entry)) (silentHop (s .0) (t .0)) ⌝ }
 {

@@ -22,20 +22,25 @@ const MOST_ROUNDS: u32 = 4;
 fn check_place(hops: &[u16], place: usize) -> Answer
     ensures { λ r. ⌜ r ≡ silentPlace (now (hops .entry)) place ⌝ }
 {
-    if place < hop_count(hops) {
-        let a = label_at(hops, place);
-        if a.0 == 0 {
-            return accept();
-        }
+    if hop_count(hops) <= place {
+        return refuse(9, 0);
     }
-    refuse(9, 0)
+    let a = label_at(hops, place);
+    if a.0 != 0 {
+        return refuse(9, 0);
+    }
+    accept()
 }
 
 // Row 10.
 fn check_rounds(rounds: u32) -> Answer
     ensures { λ r. ⌜ r ≡ fewRounds rounds ⌝ }
 {
-    if rounds <= MOST_ROUNDS { accept() } else { refuse(10, 0) }
+    if rounds <= MOST_ROUNDS {
+        accept()
+    } else {
+        refuse(10, 0)
+    }
 }
 
 // The first row that speaks.

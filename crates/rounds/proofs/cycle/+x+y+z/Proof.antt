@@ -161,9 +161,9 @@ x-returns-4 t c =
     let b = c .before .before .before .before .before .before in
     let v = c .before .before .before .y .ensures in
     let e =
-        survives-more _ _ _ (s .pre .1 .0 .0) (s .pre .1 .0 .1) (c .before .before .before .before .before .before .before .before .before .before .before .before .before .before .if1 .left) (c .before .before .before .before .before .before .before .before .before .to-at .ensures)
-        (closes-no _ (s .pre .1 .1 .index .ascending) _ _ _ (b .loop .inv .0) (c .before .before .before .before .before .loop-test .taken) (b .loop .inv .1)
-        (sym (v .0) ∙ not-true _ (c .if4 .taken))) in
+    survives-more _ _ _ (s .pre .1 .0 .0) (s .pre .1 .0 .1) (c .before .before .before .before .before .before .before .before .before .before .before .before .before .before .if1 .left) (c .before .before .before .before .before .before .before .before .before .to-at .ensures)
+    (closes-no _ (s .pre .1 .1 .index .ascending) _ _ _ (b .loop .inv .0) (c .before .before .before .before .before .loop-test .taken) (b .loop .inv .1)
+    (sym (v .0) ∙ not-true _ (c .if4 .taken))) in
     (e, note _ _ (v .1) (s .args .k) (s .args .i) false (omega arith) (omega arith) e)
 
 x-add-j : (t : ℕ) → x-lts.Need-add-j (x-calls t) (x-at t) x.Post x-Inv-loop x-μ-loop
@@ -189,8 +189,8 @@ x-returns-5 t c =
     let s = c .before .before .before .before .before .before .before .before .before .before .before .before .before in
     let b = c .before .loop .inv in
     let e =
-        survives-more _ _ _ (s .pre .1 .0 .0) (s .pre .1 .0 .1) (c .before .before .before .before .before .before .before .before .before .if1 .left) (c .before .before .before .before .to-at .ensures)
-        (closes-yes _ (s .pre .1 .1 .index .ascending) _ _ _ (b .0) (c .loop-test .left) (b .2)) in
+    survives-more _ _ _ (s .pre .1 .0 .0) (s .pre .1 .0 .1) (c .before .before .before .before .before .before .before .before .before .if1 .left) (c .before .before .before .before .to-at .ensures)
+    (closes-yes _ (s .pre .1 .1 .index .ascending) _ _ _ (b .0) (c .loop-test .left) (b .2)) in
     (e, note _ _ (b .3) (s .args .k) (s .args .i) true (omega arith) (omega arith) e)
 
 abbrev y-Inv-loop : y-lts.InvT-loop
@@ -285,13 +285,12 @@ y-same-length-3 : (t : ℕ) → y-lts.Need-same-length-3 (y-calls t) (y-at t) y.
 y-same-length-3 t c = omega arith
 
 y-returns-3 : (t : ℕ) → y-lts.Need-returns-3 (y-calls t) (y-at t) y.Post y-Inv-loop y-μ-loop
-y-returns-3 t c =
-    (
-      answered-at _ _ _ _ (c .before .before .before .before .before .before .before .label-at .ensures) (c .before .before .before .before .before .before .to-at .ensures)
-          (answers-no _ (c .before .before .before .before .before .before .before .before .before .before .before .pre .1 .1 .index .ascending) _ _ _ _ (c .before .before .before .before .before .labelled-past .ensures) (c .before .before .loop-test .left) (c .before .before .before .loop .inv .1)
-          (c .if2 .left)),
-      c .before .before .before .loop .inv .2,
-    )
+y-returns-3 t c = (
+  answered-at _ _ _ _ (c .before .before .before .before .before .before .before .label-at .ensures) (c .before .before .before .before .before .before .to-at .ensures)
+      (answers-no _ (c .before .before .before .before .before .before .before .before .before .before .before .pre .1 .1 .index .ascending) _ _ _ _ (c .before .before .before .before .before .labelled-past .ensures) (c .before .before .loop-test .left) (c .before .before .before .loop .inv .1)
+      (c .if2 .left)),
+  c .before .before .before .loop .inv .2,
+)
 
 z-returns : (t : ℕ) → z-lts.Need-returns (z-calls t) (z-at t) z.Post
 z-returns t c = (closing-same _ _ _ (c .if1 .taken), c .before .before .before .before .before .before .pre .1 .1 .right)
