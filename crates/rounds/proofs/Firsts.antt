@@ -1,8 +1,8 @@
 -- Laws of the first places: a state's places bracket the search of its hops, and the places of one label hold exactly the hops of that
 -- label. Assumes nothing.
 use Prim.Native.Nat.{ℕ, _+_, _<_, _≤_}
-use mathlib.Core.Path.{_≡_, refl, sym, ap, _∙_}
-use mathlib.Core.Bool.{Bool, true, false}
+use mathlib.Core.Path.{_≡_, sym, _∙_}
+use mathlib.Core.Bool.{true, false}
 use mathlib.Core.List.{List}
 use mathlib.Core.Logic.{_⊎_, inl, inr, ⊎-elim}
 use native.Mathlib.Omega.{arith}
@@ -11,7 +11,7 @@ use lib.ListN.{length, getD, set}
 use lib.Seq.{getD-set-same, getD-set-other}
 use Rattle.graph.specs.Hops.{count, from, label, to, hopAt}
 use Rattle.graph.specs.Order.{before, Ascending}
-use Rattle.graph.specs.Search.{lower, Bracket, firstOf, pastOf}
+use Rattle.graph.specs.Search.{Bracket, firstOf, pastOf}
 use Rattle.graph.specs.Check.{Admitted}
 use Rattle.graph.specs.declared.Hop.{Hop}
 use Rattle.graph.specs.declared.Shape.{Shape}
@@ -55,7 +55,7 @@ abbrev start : ℕ → ℕ → Hop
 start s a = record { from = s; label = a; to = 0 }
 
 module _ (hs : List ℕ) (up : Ascending hs) where
-  pub first-past : (s : ℕ) → firstOf hs s ≤ pastOf hs s
+  first-past : (s : ℕ) → firstOf hs s ≤ pastOf hs s
   unfolding pastOf
   first-past s = go (lt-or-le (firstOf hs (s + 1)) (firstOf hs s)) where
     go : (firstOf hs (s + 1) < firstOf hs s) ⊎ (firstOf hs s ≤ firstOf hs (s + 1)) → firstOf hs s ≤ firstOf hs (s + 1)

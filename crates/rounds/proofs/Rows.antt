@@ -16,7 +16,6 @@ use Rattle.graph.proofs.Bools.{eq-or-not, and-left, and-right, and-no-right}
 use Rattle.graph.proofs.Checked.{check-admitted}
 use Rattle.confluence.specs.Rounds.{survives}
 use Rattle.rounds.specs.Question.{most-rounds, silentPlace, fewRounds, questionAnswer, questionOf}
-use Rattle.rounds.specs.declared.RoundAnswer.{RoundAnswer}
 
 -- a row that does not speak
 silent-row : (n : ℕ) (b : Bool) → cond b accepted (refused (suc n) 0) .number ≡ 0 → b ≡ true

@@ -3,17 +3,16 @@
 use Prim.Native.Nat.{ℕ, _<_, _≤_, _+_, _*_, _-_}
 use borrow.Author.Needs.{needs}
 use borrow.Author.Tests.{not-true, not-false}
-use mathlib.Core.Path.{_≡_, refl, sym, ap, _∙_}
+use mathlib.Core.Path.{_≡_, refl, sym, _∙_}
 use mathlib.Core.Bool.{true, false}
-use mathlib.Core.Logic.{⊎-elim}
 use native.Mathlib.Omega.{arith}
 use lib.ListN.{length, length-set}
 use Rattle.graph.specs.Hops.{count, from, label, to}
 use Rattle.graph.specs.Search.{firstOf, pastOf}
 use Rattle.graph.proofs.Lookup.{past-within}
 use Rattle.confluence.specs.Rounds.{closing, answered, survives}
-use Rattle.rounds.specs.Index.{labelledFrom, labelledPast}
-use Rattle.rounds.specs.Known.{Right, Ready}
+use Rattle.rounds.specs.Index.{labelledFrom}
+use Rattle.rounds.specs.Known.{Right}
 use Rattle.rounds.proofs.Firsts.{Through, through-none, through-more, first-noted, past-noted, labelled-within, from-low, label-low, to-low}
 use Rattle.rounds.proofs.Noted.{told, note}
 use Rattle.rounds.proofs.Equations.{closes-yes, closes-no, answers-hop, answers-still, answers-no, answered-at, closing-same, found-silent, closing-at, closing-none, survives-none, survives-more}

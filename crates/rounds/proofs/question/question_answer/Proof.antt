@@ -1,6 +1,5 @@
 -- `rounds::question::question_answer` meets its contract: the first row that speaks. Assumes nothing.
 use borrow.Author.Needs.{needs}
-use mathlib.Core.Path.{_∙_}
 use Rattle.rounds.proofs.Rows.{answer-checked, answer-placed, answer-rounds}
 use Rattle.rounds.proofs.question.question_answer.Statement.{statement}
 use Rattle.rounds.proofs.question.question_answer.Tie as tie
