@@ -1,1 +1,3 @@
 pub mod Resting
+pub mod Numbers
+pub mod Insertion
