@@ -2,7 +2,7 @@
 -- lies past the front stays. Assumes nothing.
 use Prim.Native.Nat.{ℕ, zero, suc, _+_, _-_, _*_, _/_, _<_, _≤_}
 use mathlib.Core.Path.{_≡_, refl, sym, ap, _∙_, subst}
-use mathlib.Core.List.{List, [], _∷_, _++_, append-assoc}
+use mathlib.Core.List.{List, [], _∷_, _++_, append-assoc, append-nil}
 use mathlib.Core.Logic.{⊎-elim}
 use native.Mathlib.Nat.{eq-or-lt-of-le, le-of-suc-le-suc, not-suc-le-zero}
 use native.Mathlib.Numerals.{add-one}
@@ -47,6 +47,10 @@ module _ (rest : List ℕ) where
       ap (λ (m : List ℕ). set m (3 * suc i + 2) (h .to)) (set-later (x .from) (x .label) (x .to) _ (3 * i + 1) {i = 3 * suc i + 1} (omega arith) (h .label)) ∙
       set-later (x .from) (x .label) (x .to) _ (3 * i + 2) {i = 3 * suc i + 2} (omega arith) (h .to) ∙
       ap (λ (m : List ℕ). x .from ∷ x .label ∷ x .to ∷ m) (put-flat h xs (le-of-suc-le-suc l))
+
+-- the same with nothing past the hops
+pub hop-at-flat : (xs : List Hop) {i : ℕ} → i < length xs → hopAt (flat xs) i ≡ getD xs i nowhere
+hop-at-flat xs {i} l = ap (λ (m : List ℕ). hopAt m i) (sym (append-nil (flat xs))) ∙ hop-flat [] xs l
 
 flat-append : (xs ys : List Hop) → flat (xs ++ ys) ≡ flat xs ++ flat ys
 unfolding flat

@@ -1,3 +1,4 @@
 pub mod Resting
 pub mod Numbers
 pub mod Insertion
+pub mod Images
