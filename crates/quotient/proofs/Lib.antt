@@ -2,3 +2,4 @@ pub mod Resting
 pub mod Numbers
 pub mod Insertion
 pub mod Images
+pub mod Reduces
