@@ -17,7 +17,8 @@ use Rattle.graph.proofs.Places.{Place, has-at, has-place, place-has, length-fla
 use Rattle.graph.proofs.Fronts.{nowhere, hop-at-flat}
 use Rattle.quotient.specs.Representative.{resting, newOf, mapOf}
 use Rattle.quotient.specs.Short.{image, insert, gathered, shortHops}
-use Rattle.quotient.proofs.Insertion.{Rising, Among, insert-rising, insert-grows, insert-new, insert-keeps, insert-only, rising-lt}
+use Rattle.quotient.specs.Tables.{Rising}
+use Rattle.quotient.proofs.Insertion.{Among, insert-rising, insert-grows, insert-new, insert-keeps, insert-only, rising-lt}
 
 -- a flat list has the hops of the list that it is made of
 module _ (n a m : ℕ) where
