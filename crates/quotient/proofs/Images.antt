@@ -17,8 +17,9 @@ use Rattle.graph.proofs.Places.{Place, has-at, has-place, place-has, length-fla
 use Rattle.graph.proofs.Fronts.{nowhere, hop-at-flat}
 use Rattle.quotient.specs.Representative.{resting, newOf, mapOf}
 use Rattle.quotient.specs.Short.{image, insert, gathered, shortHops}
-use Rattle.quotient.specs.Tables.{Rising}
-use Rattle.quotient.proofs.Insertion.{Among, insert-rising, insert-grows, insert-new, insert-keeps, insert-only, rising-lt}
+use Rattle.quotient.specs.Tables.{Rising, collected}
+use Rattle.quotient.proofs.Collected.{collected-rising, collected-within}
+use Rattle.quotient.proofs.Insertion.{Among, insert-new, insert-keeps, insert-only, rising-lt}
 
 -- a flat list has the hops of the list that it is made of
 module _ (n a m : ℕ) where
@@ -57,34 +58,10 @@ rising-ascending xs o i l =
     rw (hop-at-flat xs {i = i} (omega arith), hop-at-flat xs {i = i + 1} (omega arith)) (rising-lt xs {i = i} {j = i + 1} o (omega arith) k)
 
 module _ (sh : Shape) (hs : List ℕ) where
-  -- the ways of one more hop
-  pub gathered-none : gathered sh hs 0 ≡ []
-  unfolding gathered
-  gathered-none = refl
-
-  pub gathered-takes : (n : ℕ) → resting hs (from hs n) ≡ true → gathered sh hs (n + 1) ≡ insert (image sh hs n) (gathered sh hs n)
-  unfolding gathered
-  gathered-takes n e = rw (add-one n, e)
-
-  pub gathered-skips : (n : ℕ) → resting hs (from hs n) ≡ false → gathered sh hs (n + 1) ≡ gathered sh hs n
-  unfolding gathered
-  gathered-skips n e = rw (add-one n, e)
-
-  pub gathered-rising : (n : ℕ) → Rising (gathered sh hs n)
-  unfolding gathered Rising
-  gathered-rising zero = tt
-  gathered-rising (suc n) = go (resting hs (from hs n)) (gathered-rising n) where
-    go : (x : Bool) → Rising (gathered sh hs n) → Rising (cond x (insert (image sh hs n) (gathered sh hs n)) (gathered sh hs n))
-    go true o = insert-rising (image sh hs n) (gathered sh hs n) o
-    go false o = o
-
-  pub gathered-within : (n : ℕ) → length (gathered sh hs n) ≤ n
-  unfolding gathered
-  gathered-within zero = omega arith
-  gathered-within (suc n) = go (resting hs (from hs n)) (gathered-within n) where
-    go : (x : Bool) → length (gathered sh hs n) ≤ n → length (cond x (insert (image sh hs n) (gathered sh hs n)) (gathered sh hs n)) ≤ suc n
-    go true l = omega (arith, insert-grows (image sh hs n) (gathered sh hs n))
-    go false l = omega arith
+  gathered-is : (n : ℕ) → gathered sh hs n ≡ collected (λ (i : ℕ). resting hs (from hs i)) (image sh hs) n
+  unfolding gathered collected
+  gathered-is zero = refl
+  gathered-is (suc n) = rw (gathered-is n)
 
   -- h is the image of a hop among the first n that leaves a representative
   abbrev Imaged : ℕ → Hop → Type 0
@@ -118,11 +95,11 @@ module _ (sh : Shape) (hs : List ℕ) where
 
   pub short-ascending : Ascending (flat (shortHops sh hs))
   unfolding shortHops
-  short-ascending = rising-ascending (gathered sh hs (count hs)) (gathered-rising (count hs))
+  short-ascending = rising-ascending (gathered sh hs (count hs)) (rw (gathered-is (count hs)) (collected-rising (λ (i : ℕ). resting hs (from hs i)) (image sh hs) (count hs)))
 
   pub short-within : length (shortHops sh hs) ≤ count hs
   unfolding shortHops
-  short-within = gathered-within (count hs)
+  short-within = rw (gathered-is (count hs)) (collected-within (λ (i : ℕ). resting hs (from hs i)) (image sh hs) (count hs))
 
   -- a hop of the short graph is the image of a hop of a representative
   abbrev pub ShortHop : ℕ → ℕ → ℕ → Type 0

@@ -6,3 +6,4 @@ pub mod Reduces
 pub mod Filling
 pub mod Nexts
 pub mod Gaps
+pub mod Collected
