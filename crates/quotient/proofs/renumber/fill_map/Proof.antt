@@ -3,7 +3,7 @@ use Prim.Native.Nat.{ℕ, _<_, _≤_, _-_}
 use mathlib.Core.Path.{_≡_, refl, sym, ap, _∙_}
 use mathlib.Core.List.{_++_}
 use native.Mathlib.Omega.{arith}
-use lib.ListN.{length, drop}
+use lib.ListN.{length, getD, drop}
 use Rattle.graph.specs.Tests.{listed}
 use Rattle.quotient.specs.Tables.{numbered}
 use Rattle.quotient.proofs.Filling.{listed-more, length-so-far}
@@ -27,16 +27,19 @@ cast-t9 : tie.Need-cast-t9 Inv-loop μ-loop
 cast-t9 c = search needs
 
 follow-requires : tie.Need-follow-requires Inv-loop μ-loop
-follow-requires c κs = ?
+follow-requires c κs = (omega arith, (omega arith, c .before .before .before .before .pre .1 .1 .1))
 
 map-at-requires : tie.Need-map-at-requires Inv-loop μ-loop
-map-at-requires c κs = ?
+map-at-requires c κs =
+    let st = c .before .before .before .before .before in
+    omega (arith, c .follow .ensures, stepped-in (st .args .next .now) (st .args .states) (st .pre .1 .1 .1) (st .args .states) (c .before .before .loop .s) (omega arith))
 
 mul-map : tie.Need-mul-map Inv-loop μ-loop
-mul-map c = ?
+mul-map c = omega arith
 
 slice-write-map : tie.Need-slice-write-map Inv-loop μ-loop
-slice-write-map c = ?
+slice-write-map c =
+    omega (arith, length-so-far _ _ (c .before .before .before .loop .s) (omega arith) (c .before .before .before .loop .inv .2))
 
 add-s : tie.Need-add-s Inv-loop μ-loop
 add-s c = search needs
@@ -45,13 +48,21 @@ loop-less : tie.Need-loop-less Inv-loop μ-loop
 loop-less c = search needs
 
 loop-again : tie.Need-loop-again Inv-loop μ-loop
-loop-again c = ?
+unfolding numbered
+loop-again c =
+    let v = c .before .before .before .loop .inv in
+    let st = c .before .before .before .before .before .before in
+    (omega arith, omega arith,
+      listed-more (numbered (st .args .next .now) (st .args .news .now) (st .args .states)) (st .args .map .now) (omega arith) (v .2)
+      (c .map-at .ensures ∙ ap (λ (k : ℕ). getD (st .args .news .now) k 0) (c .before .follow .ensures)) refl)
 
 same-length : tie.Need-same-length Inv-loop μ-loop
 same-length c = length-so-far _ _ (c .before .loop .s) (omega arith) (c .before .loop .inv .2)
 
 returns : tie.Need-returns Inv-loop μ-loop
-returns c = ?
+returns c =
+    let q : c .before .loop .s ≡ c .before .before .before .before .args .states = omega arith in
+    rw q at (c .before .loop .inv .2)
 
 pub fill-map-spec : {M : Type 1} → statement M
 fill-map-spec =
