@@ -3,7 +3,8 @@ pub mod Numbers
 pub mod Insertion
 pub mod Images
 pub mod Reduces
-pub mod Filling
 pub mod Nexts
 pub mod Gaps
 pub mod Collected
+pub mod Reduced
+pub mod Tabled

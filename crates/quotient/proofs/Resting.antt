@@ -133,8 +133,8 @@ module _ (hs : List ℕ) where
         unfolding repOf
         rep-rests = record { down = followed-down (sh .states); rest = λ s. resting-normal _ (rep-resting s) }
 
-        pub representative : (s : ℕ) → IsRepresentative hs s (repOf sh hs s)
-        representative s = record {
+        pub rep-represents : (s : ℕ) → IsRepresentative hs s (repOf sh hs s)
+        rep-represents s = record {
           joined = star→joined (rep-rests .down s);
           rests = rep-rests .rest s;
           only = λ q j n. sym (rep-normal marked-weakly rep-rests n) ∙ sym (joined→rep marked-weakly rep-rests j);

@@ -1,0 +1,44 @@
+use borrow.Author.Needs.{needs}
+use Rattle.quotient.proofs.entry.answer_of.Statement.{statement}
+use Rattle.quotient.proofs.entry.answer_of.Tie as tie
+
+check-requires : tie.Need-check-requires
+check-requires c κs = search needs
+
+returns : tie.Need-returns
+returns c = search needs
+
+ring-answer-requires : tie.Need-ring-answer-requires
+ring-answer-requires c κs = search needs
+
+returns-2 : tie.Need-returns-2
+returns-2 c = search needs
+
+cast-if3 : tie.Need-cast-if3
+cast-if3 c = search needs
+
+refuse-requires : tie.Need-refuse-requires
+refuse-requires c κs = search needs
+
+returns-3 : tie.Need-returns-3
+returns-3 c = search needs
+
+accept-requires : tie.Need-accept-requires
+accept-requires c κs = search needs
+
+returns-4 : tie.Need-returns-4
+returns-4 c = search needs
+
+pub answer-of-spec : {M : Type 1} → statement M
+answer-of-spec =
+    tie.close
+    (tie.spec
+    check-requires
+    returns
+    ring-answer-requires
+    returns-2
+    cast-if3
+    refuse-requires
+    returns-3
+    accept-requires
+    returns-4)
