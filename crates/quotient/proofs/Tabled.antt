@@ -5,17 +5,20 @@ use mathlib.Core.Path.{_≡_, refl, sym, ap, _∙_}
 use mathlib.Core.Bool.{Bool, true, false, cond}
 use mathlib.Core.List.{List, [], _∷_, _++_}
 use native.Mathlib.Omega.{arith}
-use lib.ListN.{length, getD, length-append, List·getD-append}
+use lib.ListN.{length, getD, drop, length-append, List·getD-append}
 use lib.Dec.{eqb}
 use Rattle.graph.specs.Tests.{tally, listed}
-use Rattle.graph.specs.Hops.{count, from, label, to}
-use Rattle.graph.specs.Check.{most-states, InRange}
+use Rattle.graph.specs.Hops.{count, from, label, to, flat, over}
+use Rattle.graph.specs.Check.{most-states, accepted}
+use Rattle.graph.specs.declared.Answer.{Answer}
 use Rattle.graph.specs.declared.Hop.{Hop}
 use Rattle.graph.specs.declared.Shape.{Shape}
 use Rattle.graph.proofs.Tests.{tally-same, length-listed, getD-listed}
 use Rattle.confluence.specs.Mark.{markOf, marksOf}
 use Rattle.quotient.specs.Representative.{resting, onward, followed, newOf, repOf, mapOf}
-use Rattle.quotient.specs.Short.{image, insert, gathered, mapList}
+use Rattle.quotient.specs.Short.{image, insert, gathered, shortHops, shortShape, mapList}
+use Rattle.quotient.specs.Reduce.{reduction, written}
+use Rattle.quotient.specs.declared.Reduction.{Reduction}
 use Rattle.quotient.specs.Tables.{Reducible, Marks, Onward, Closed, stays, stepped, numbered, imaged, collected, shortBy}
 use Rattle.quotient.proofs.Resting.{onward-in, followed-in}
 use Rattle.quotient.proofs.Reduced.{rests-stays, map-rests}
@@ -84,3 +87,39 @@ module _ {sh : Shape} {hs : List ℕ} (red : Reducible sh hs) (next : List ℕ) 
           go : (x : Bool) → resting hs (from hs n) ≡ x → cond x (insert (imaged hs map n) (gathered sh hs n)) (gathered sh hs n) ≡ cond x (insert (image sh hs n) (gathered sh hs n)) (gathered sh hs n)
           go true e = ap (λ (h : Hop). insert h (gathered sh hs n)) (tabled-image n l e)
           go false e = refl
+
+-- what `accepted_reduction` leaves and returns: the table of next states, the new numbers, the map from old to new and the short hops are at hand
+module _ {sh : Shape} {hs : List ℕ} (red : Reducible sh hs) (next : List ℕ) (on : Onward hs next) (news : List ℕ)
+    (fill : (s : ℕ) → s ≤ most-states → getD news s 0 ≡ tally s (stays next)) (old : List ℕ) {map : List ℕ}
+    (e : map ≡ listed (sh .states) (numbered next news (sh .states)) ++ drop (sh .states) old)
+  where
+    map-list : map ≡ mapList sh hs ++ drop (sh .states) old
+    map-list = rw e (ap (λ (m : List ℕ). m ++ drop (sh .states) old) (tabled-list red next on news fill))
+
+    pub reduced-map : map ≡ written accepted (mapList sh hs) old
+    unfolding mapList
+    reduced-map = rw (length-listed (mapOf sh hs) (sh .states)) map-list
+
+    map-holds : (s : ℕ) → s < sh .states → getD map s 0 ≡ mapOf sh hs s
+    unfolding mapList
+    map-holds s l =
+        rw map-list
+        (List·getD-append (listed (sh .states) (mapOf sh hs)) (drop (sh .states) old) 0 s (rw (length-listed (mapOf sh hs) (sh .states)) l) ∙ getD-listed (mapOf sh hs) (sh .states) l)
+
+    pub reduced-short : (out : List ℕ) {short : List ℕ} → short ≡ over (shortBy hs next map (count hs)) out → short ≡ written accepted (flat (shortHops sh hs)) out
+    unfolding over shortHops
+    reduced-short out f = f ∙ ap (λ (xs : List Hop). flat xs ++ drop (length (flat xs)) out) (tabled-short red next on map map-holds (count hs) (omega arith))
+
+    pub reduced-returns : {a : Answer} {initial n : ℕ} → a ≡ accepted → initial ≡ getD map (sh .initial) 0 → n ≡ length (shortBy hs next map (count hs)) →
+        _≡_ {A = Reduction} (record { answer = a; shape = record { states = getD news (sh .states) 0; labels = sh .labels; initial = initial }; hops = n })
+        (reduction sh hs accepted)
+    unfolding shortShape shortHops
+    reduced-returns p q f = λ d. record {
+      answer = p d;
+      shape = record {
+        states = tabled-new red next on news fill (sh .states) (red .admitted .states-most) d;
+        labels = sh .labels;
+        initial = (q ∙ map-holds (sh .initial) (red .admitted .initial-in)) d;
+      };
+      hops = (f ∙ ap length (tabled-short red next on map map-holds (count hs) (omega arith))) d;
+    }

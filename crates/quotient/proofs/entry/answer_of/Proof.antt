@@ -26,13 +26,17 @@ refuse-requires : tie.Need-refuse-requires
 refuse-requires c κs = search needs
 
 returns-3 : tie.Need-returns-3
-returns-3 c = ?
+returns-3 c =
+    c .refuse .ensures ∙
+    answer-narrow _ _ _ _ (c .before .before .before .before .before .before .before .before .check .ensures) (c .before .before .before .before .before .before .if1 .left) (c .before .before .before .before .before .ring-answer .ensures) (c .before .before .before .if2 .left) (c .before .if3 .taken)
 
 accept-requires : tie.Need-accept-requires
 accept-requires c κs = search needs
 
 returns-4 : tie.Need-returns-4
-returns-4 c = ?
+returns-4 c =
+    c .accept .ensures ∙
+    answer-accepts _ _ _ _ (c .before .before .before .before .before .before .before .before .check .ensures) (c .before .before .before .before .before .before .if1 .left) (c .before .before .before .before .before .ring-answer .ensures) (c .before .before .before .if2 .left) (c .before .if3 .left)
 
 pub answer-of-spec : {M : Type 1} → statement M
 answer-of-spec =

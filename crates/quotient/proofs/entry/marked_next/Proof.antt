@@ -14,7 +14,9 @@ slice-aggregate-next-states : tie.Need-slice-aggregate-next-states
 slice-aggregate-next-states c = search needs
 
 next-states-requires : tie.Need-next-states-requires
-next-states-requires c κs = ?
+next-states-requires c κs =
+    let st = c .before .before .before .before .before in
+    (marks-front _ _ _ (c .before .before .mark-all .ensures), st .pre .from-in)
 
 returns : tie.Need-returns
 returns c = search needs
