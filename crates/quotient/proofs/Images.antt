@@ -2,18 +2,16 @@
 use Prim.Native.Nat.{ℕ, zero, suc, _+_, _<_, _≤_}
 use mathlib.Core.Path.{_≡_, refl, sym, ap, _∙_, subst}
 use mathlib.Core.Bool.{Bool, true, false, cond}
-use mathlib.Core.List.{List, [], _∷_, _++_}
-use mathlib.Core.Logic.{_⊎_, inl, inr, ⊎-elim, _↔_}
+use mathlib.Core.List.{List, [], _∷_}
+use mathlib.Core.Logic.{inl, inr, ⊎-elim, _↔_}
 use native.Mathlib.Nat.{eq-or-lt-of-le, le-of-suc-le-suc, not-suc-le-zero}
-use native.Mathlib.Numerals.{add-one}
 use native.Mathlib.Omega.{arith}
 use lib.ListN.{length, getD}
 use Rattle.graph.specs.Hops.{count, from, label, to, hopAt, flat, has}
-use Rattle.graph.specs.Order.{before, Ascending}
+use Rattle.graph.specs.Order.{Ascending}
 use Rattle.graph.specs.declared.Hop.{Hop}
 use Rattle.graph.specs.declared.Shape.{Shape}
-use Rattle.graph.proofs.Bools.{clash, decided}
-use Rattle.graph.proofs.Places.{Place, has-at, has-place, place-has, length-flat, count-flat}
+use Rattle.graph.proofs.Places.{has-at, has-place, place-has, count-flat}
 use Rattle.graph.proofs.Fronts.{nowhere, hop-at-flat}
 use Rattle.quotient.specs.Representative.{resting, newOf, mapOf}
 use Rattle.quotient.specs.Short.{image, insert, gathered, shortHops}

@@ -4,21 +4,20 @@ use Prim.Native.Nat.{ℕ, zero, suc, _+_, _-_, _<_, _≤_}
 use mathlib.Core.Path.{_≡_, refl, sym, ap, _∙_, subst}
 use mathlib.Core.Bool.{Bool, true, false, cond, _&&_}
 use mathlib.Core.List.{List}
-use mathlib.Core.Logic.{_⊎_, inl, inr, ⊎-elim}
+use mathlib.Core.Logic.{⊎-elim}
 use native.Mathlib.Nat.{eq-or-lt-of-le, sub-zero}
 use native.Mathlib.Omega.{arith}
-use borrow.Author.Tests.{eqb-true, eq-eqb, ne-eqb}
+use borrow.Author.Tests.{eq-eqb, ne-eqb}
 use lib.ListN.{length, getD, set, length-set}
 use lib.Seq.{getD-set-same, getD-set-other}
 use lib.Dec.{eqb}
-use Rattle.graph.specs.Tests.{any, least}
 use Rattle.graph.specs.Hops.{count, from, label, to}
-use Rattle.graph.proofs.Bools.{clash, decided, eq-or-not, not-yes, not-no, and-yes, and-no-left, and-no-right}
+use Rattle.graph.proofs.Bools.{eq-or-not, not-yes, not-no, and-yes, and-no-left, and-no-right}
 use Rattle.graph.proofs.Tests.{any-no, any-found, least-is}
 use Rattle.confluence.specs.Rounds.{marked}
 use Rattle.confluence.specs.Mark.{markOf}
-use Rattle.quotient.specs.Representative.{markedFrom, resting, onward, followed}
-use Rattle.quotient.specs.Tables.{Onward, Closed, noted, stays, stepped}
+use Rattle.quotient.specs.Representative.{markedFrom, resting, onward}
+use Rattle.quotient.specs.Tables.{Closed, noted, stepped}
 use Rattle.quotient.proofs.Resting.{rests-onward, moves-onward}
 
 -- none of the places from i on and before k has a marked hop of s

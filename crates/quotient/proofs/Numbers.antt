@@ -1,14 +1,14 @@
 -- New numbers rise with old ones, so that no two representatives share one, and each is below how many there are. Assumes nothing.
 use Prim.Native.Nat.{ℕ, zero, suc, _+_, _<_, _≤_}
-use mathlib.Core.Path.{_≡_, refl, sym, ap, _∙_}
+use mathlib.Core.Path.{_≡_, refl}
 use mathlib.Core.Bool.{Bool, true, false, cond}
 use mathlib.Core.List.{List}
 use mathlib.Core.Logic.{_⊎_, inl, inr, ⊎-elim}
-use native.Mathlib.Nat.{eq-or-lt-of-le, le-of-suc-le-suc, not-suc-le-zero}
+use native.Mathlib.Nat.{eq-or-lt-of-le, le-of-suc-le-suc}
 use native.Mathlib.Numerals.{add-one}
 use native.Mathlib.Omega.{arith}
 use Rattle.graph.specs.Tests.{tally}
-use Rattle.graph.proofs.Bools.{clash, lt-or-le}
+use Rattle.graph.proofs.Bools.{lt-or-le}
 use Rattle.quotient.specs.Representative.{resting, newOf}
 
 module _ (p : ℕ → Bool) where

@@ -5,7 +5,6 @@ use mathlib.Core.Path.{_≡_}
 use mathlib.Core.Bool.{true}
 use mathlib.Core.List.{List}
 use lib.Dec.{eqb}
-use Rattle.graph.specs.Tests.{tally}
 use Rattle.graph.specs.Hops.{flat}
 use Rattle.graph.specs.Check.{Admitted}
 use Rattle.graph.specs.declared.Shape.{Shape}
@@ -13,9 +12,8 @@ use Rattle.graph.proofs.Tests.{tally-within}
 use Rattle.lts.specs.Reduction.{Reduces}
 use Rattle.silent.specs.Silent.{HopOf, leads}
 use Rattle.silent.proofs.Rings.{rank, rank-falls-accepted}
-use Rattle.confluence.specs.Rounds.{ConfluentSet}
 use Rattle.confluence.proofs.Marked.{marked-confluent}
-use Rattle.quotient.specs.Representative.{MarkedHop, IsRepresentative, resting, onward, newOf, repOf, mapOf}
+use Rattle.quotient.specs.Representative.{IsRepresentative, resting, onward, newOf, repOf, mapOf}
 use Rattle.quotient.specs.Short.{shortHops, shortShape}
 use Rattle.quotient.specs.Tables.{Reducible}
 use Rattle.quotient.proofs.Resting.{resting-stays, rep-represents}

@@ -1,11 +1,10 @@
 -- The short graph is admitted, and the map to it keeps branching bisimilarity: it loses no hop and makes none up. Assumes nothing.
 use Prim.Native.Nat.{ℕ, _<_, _≤_}
-use mathlib.Core.Path.{_≡_, refl, sym, ap, _∙_, subst}
+use mathlib.Core.Path.{_≡_, refl, ap, subst}
 use mathlib.Core.Bool.{true}
 use mathlib.Core.List.{List}
 use mathlib.Core.Logic.{_⊎_, inl, inr}
 use native.Mathlib.Omega.{arith}
-use lib.ListN.{length}
 use Rattle.graph.specs.Tests.{tally}
 use Rattle.graph.specs.Hops.{count, from, label, to, flat, has}
 use Rattle.graph.specs.Check.{InRange, Admitted}

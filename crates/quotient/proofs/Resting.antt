@@ -2,19 +2,19 @@
 -- of the state's class. The marked set is taken as any confluent set of silent hops whose rank falls. Assumes nothing.
 use Prim.Native.Nat.{ℕ, zero, suc, _<_, _≤_}
 use mathlib.Core.Path.{_≡_, refl, sym, ap, _∙_, subst}
-use mathlib.Core.Bool.{Bool, true, false, cond, not, _&&_}
+use mathlib.Core.Bool.{true, false}
 use mathlib.Core.List.{List}
 use mathlib.Core.Logic.{_⊎_, inl, inr, ⊎-elim}
 use native.Mathlib.Omega.{arith}
 use borrow.Author.Tests.{eqb-true, eq-eqb, ne-eqb, not-true, not-false}
 use lib.Dec.{eqb}
 use Rattle.graph.specs.Tests.{any, least}
-use Rattle.graph.specs.Hops.{count, from, label, to, has}
+use Rattle.graph.specs.Hops.{count, from, label, to}
 use Rattle.graph.specs.Check.{InRange}
 use Rattle.graph.specs.declared.Shape.{Shape}
-use Rattle.graph.proofs.Bools.{clash, decided, no-test, not-yes, not-no, and-yes, and-left, and-right, same-test, lt-or-le}
-use Rattle.graph.proofs.Tests.{any-at, any-found, any-no, any-never, least-passes, least-before, least-within}
-use Rattle.graph.proofs.Places.{has-place, has-at}
+use Rattle.graph.proofs.Bools.{clash, decided, and-yes, and-left, and-right, lt-or-le}
+use Rattle.graph.proofs.Tests.{any-at, any-found, least-passes, least-before, least-within}
+use Rattle.graph.proofs.Places.{has-place}
 use Rattle.lts.specs.Star.{Star, stay, go}
 use Rattle.lts.specs.Sense.{Normal}
 use Rattle.lts.specs.Reduction.{Confluent, Rests}

@@ -1,12 +1,11 @@
 -- What the tables of `reduce` hold, in the words of the definitions: the walk by the table of next states, the new numbers, the map and the
 -- short hops. Assumes nothing.
-use Prim.Native.Nat.{ℕ, zero, suc, _+_, _<_, _≤_}
+use Prim.Native.Nat.{ℕ, zero, suc, _<_, _≤_}
 use mathlib.Core.Path.{_≡_, refl, sym, ap, _∙_}
 use mathlib.Core.Bool.{Bool, true, false, cond}
-use mathlib.Core.List.{List, [], _∷_, _++_}
+use mathlib.Core.List.{List, _++_}
 use native.Mathlib.Omega.{arith}
 use lib.ListN.{length, getD, drop, length-append, List·getD-append}
-use lib.Dec.{eqb}
 use Rattle.graph.specs.Tests.{tally, listed}
 use Rattle.graph.specs.Hops.{count, from, label, to, flat, over}
 use Rattle.graph.specs.Check.{most-states, accepted}

@@ -1,6 +1,6 @@
 -- `quotient::entry::reduce` meets its contract: a refusal writes nothing, and acceptance gives what the reduction needs. Assumes nothing.
 use mathlib.Core.Path.{_∙_}
-use Rattle.quotient.proofs.Answering.{reduce-reducible, reduce-map-room, reduce-short-room, refused-returns, refused-map, refused-short, accepts, accepted-returns, accepted-map, accepted-short}
+use Rattle.quotient.proofs.Answering.{reduce-reducible, reduce-map-room, reduce-short-room, refused-returns, refused-map, refused-short, accepted-returns, accepted-map, accepted-short}
 use borrow.Author.Needs.{needs}
 use Rattle.quotient.proofs.entry.reduce.Statement.{statement}
 use Rattle.quotient.proofs.entry.reduce.Tie as tie

@@ -1,6 +1,6 @@
 -- `quotient::follow::follow` meets its contract: what is left of the walk leads from where it is to where the whole walk does. Assumes nothing.
 use Prim.Native.Nat.{_<_, _≤_, _-_}
-use mathlib.Core.Path.{_≡_, refl, sym, _∙_}
+use mathlib.Core.Path.{_≡_, sym, _∙_}
 use native.Mathlib.Omega.{arith}
 use Rattle.quotient.specs.Tables.{Closed, stepped}
 use Rattle.quotient.proofs.Nexts.{stepped-rest, stepped-start, stepped-on, stepped-done}

@@ -1,6 +1,6 @@
 -- `quotient::follow::next_states` meets its contract: the table holds where the first marked hop from place i on leads. Assumes nothing.
 use Prim.Native.Nat.{ℕ, suc, _<_, _≤_, _-_}
-use mathlib.Core.Path.{_≡_, refl, sym, ap, _∙_}
+use mathlib.Core.Path.{_≡_, ap, _∙_}
 use native.Mathlib.Omega.{arith}
 use lib.ListN.{length, getD}
 use Rattle.graph.specs.Hops.{count}

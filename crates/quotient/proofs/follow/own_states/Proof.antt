@@ -4,7 +4,6 @@ use mathlib.Core.Path.{_≡_, refl}
 use native.Mathlib.Omega.{arith}
 use lib.ListN.{length, getD, length-set, length-replicate}
 use Rattle.confluence.proofs.Rows.{filled-more}
-use borrow.Author.Needs.{needs}
 use Rattle.quotient.proofs.follow.own_states.Statement.{statement}
 use Rattle.quotient.proofs.follow.own_states.Tie as tie
 
