@@ -163,6 +163,16 @@ module _ (hs : List ℕ) (up : Ascending hs) where
       let b : from hs i < s + 1 = ltb-true _ _ (sym (first-law (s + 1) l) ∙ lt-ltb _ _ hi) in
       omega arith
 
+  pub first-past : (s : ℕ) → firstOf hs s ≤ pastOf hs s
+  unfolding pastOf
+  first-past s = ⊎-elim over (λ l. l) (lt-or-le (pastOf hs s) (firstOf hs s)) where
+    over : pastOf hs s < firstOf hs s → firstOf hs s ≤ pastOf hs s
+    over l =
+        let m : firstOf hs (s + 1) < count hs = omega (arith, first-within s) in
+        let a : from hs (firstOf hs (s + 1)) < s = ltb-true _ _ (sym (first-law s m) ∙ lt-ltb _ _ l) in
+        let b : s + 1 ≤ from hs (firstOf hs (s + 1)) = ltb-false _ _ (sym (first-law (s + 1) m) ∙ le-ltb _ _ (le-refl (firstOf hs (s + 1)))) in
+        absurd (omega arith)
+
   pub past-within : (s : ℕ) → pastOf hs s ≤ count hs
   unfolding pastOf
   past-within s = first-within (s + 1)
