@@ -4,19 +4,21 @@ use Prim.Native.Nat.{ℕ, _<_, _≤_}
 use mathlib.Core.Path.{_≡_}
 use mathlib.Core.Bool.{true}
 use mathlib.Core.List.{List}
+use mathlib.Core.Logic.{_↔_}
 use lib.Dec.{eqb}
 use Rattle.graph.specs.Hops.{flat}
 use Rattle.graph.specs.Check.{Admitted}
 use Rattle.graph.specs.declared.Shape.{Shape}
 use Rattle.graph.proofs.Tests.{tally-within}
+use Rattle.lts.specs.Sense.{Normal}
 use Rattle.lts.specs.Reduction.{Reduces}
 use Rattle.silent.specs.Silent.{HopOf, leads}
 use Rattle.silent.proofs.Rings.{rank, rank-falls-accepted}
 use Rattle.confluence.proofs.Marked.{marked-confluent}
-use Rattle.quotient.specs.Representative.{IsRepresentative, resting, onward, newOf, repOf, mapOf}
+use Rattle.quotient.specs.Representative.{MarkedHop, IsRepresentative, resting, onward, newOf, repOf, mapOf}
 use Rattle.quotient.specs.Short.{shortHops, shortShape}
 use Rattle.quotient.specs.Tables.{Reducible}
-use Rattle.quotient.proofs.Resting.{resting-stays, rep-represents}
+use Rattle.quotient.proofs.Resting.{normal-resting, resting-normal, resting-stays, rep-represents}
 use Rattle.quotient.proofs.Reduces as theory
 
 module _ {sh : Shape} {hs : List ℕ} (red : Reducible sh hs) where
@@ -27,7 +29,11 @@ module _ {sh : Shape} {hs : List ℕ} (red : Reducible sh hs) where
   unfolding rank
   bound s = tally-within (leads hs (sh .states) s) (sh .states)
 
-  -- a state rests exactly when the walk stays there
+  -- a state rests exactly when no marked hop leaves it
+  pub rests-iff : (s : ℕ) → (resting hs s ≡ true) ↔ Normal (MarkedHop hs) s
+  rests-iff s = (resting-normal hs (marked-confluent hs) (rank sh hs) falls s, normal-resting hs s)
+
+  -- and exactly when the walk stays there
   pub rests-stays : (s : ℕ) → resting hs s ≡ eqb (onward hs s) s
   rests-stays = resting-stays hs (marked-confluent hs) (rank sh hs) falls
 

@@ -26,15 +26,11 @@ use Rattle.confluence.specs.Rounds.{marked, ConfluentSet}
 use Rattle.quotient.specs.Representative.{MarkedHop, IsRepresentative, markedFrom, resting, onward, followed, repOf}
 
 module _ (hs : List ℕ) (s i : ℕ) where
-  pub marked-from : markedFrom hs s i ≡ true → from hs i ≡ s
+  marked-from : markedFrom hs s i ≡ true → from hs i ≡ s
   unfolding markedFrom
   marked-from e = eqb-true _ _ (and-left (eqb (from hs i) s) _ e)
 
-  pub marked-silent : markedFrom hs s i ≡ true → label hs i ≡ 0
-  unfolding markedFrom
-  marked-silent e = eqb-true _ _ (and-left (eqb (label hs i) 0) _ (and-right (eqb (from hs i) s) _ e))
-
-  pub marked-hop : markedFrom hs s i ≡ true → MarkedHop hs s (to hs i)
+  marked-hop : markedFrom hs s i ≡ true → MarkedHop hs s (to hs i)
   unfolding markedFrom
   marked-hop e =
       subst (λ (x : ℕ). marked hs x (to hs i) ≡ true) (marked-from e)

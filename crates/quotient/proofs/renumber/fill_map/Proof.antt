@@ -6,7 +6,7 @@ use native.Mathlib.Omega.{arith}
 use lib.ListN.{length, getD, drop}
 use Rattle.graph.specs.Tests.{listed}
 use Rattle.quotient.specs.Tables.{numbered}
-use Rattle.confluence.proofs.Rows.{listed-more, length-so-far}
+use Rattle.confluence.proofs.Writing.{listed-more, length-so-far}
 use Rattle.quotient.proofs.Nexts.{stepped-in}
 use borrow.Author.Needs.{needs}
 use Rattle.quotient.proofs.renumber.fill_map.Statement.{statement}
