@@ -12,7 +12,7 @@ use lib.Dec.{ltb}
 use Rattle.graph.specs.Tests.{any, all, least}
 use Rattle.graph.specs.Hops.{count, from, label, to, hopAt, is, has}
 use Rattle.graph.specs.Order.{before, Ascending}
-use Rattle.graph.specs.Search.{lower, found, placed, isAt, firstOf, pastOf}
+use Rattle.graph.specs.Search.{lower, Bracket, found, placed, isAt, firstOf, pastOf}
 use Rattle.graph.specs.declared.Hop.{Hop}
 use Rattle.graph.specs.declared.Found.{Found}
 use Rattle.graph.specs.declared.Found.the-variants.{At, Gap}
@@ -20,13 +20,6 @@ use Rattle.graph.proofs.Bools.{clash, decided, not-yes, not-no, no-test
 use Rattle.graph.proofs.Tests.{least-is, least-passes, least-before, least-within, any-found, any-no, all-yes}
 use Rattle.graph.proofs.Places.{is-yes, has-place}
 use Rattle.graph.proofs.Ordered.{Below, before-below, below-before, before-trans, before-itself, ascending-lt}
-
--- what the binary search knows between lo and hi
-pub record Bracket (hs : List ℕ) (h : Hop) (lo hi : ℕ) : Type 0 where
-  pub lo-le : lo ≤ hi
-  pub hi-le : hi ≤ count hs
-  pub below : (j : ℕ) → j < lo → before (hopAt hs j) h ≡ true
-  pub above : (j : ℕ) → hi ≤ j → j < count hs → before (hopAt hs j) h ≡ false
 
 module _ (hs : List ℕ) (h : Hop) where
   pub lower-within : lower hs h ≤ count hs
