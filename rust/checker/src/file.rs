@@ -124,12 +124,7 @@ fn try_read(file: &[u8], before: &[u16]) -> Result<(Vec<u64>, Vec<u16>), Refusal
     }
     // "Absent means initial state 0, no hops, no names."
     let hops = contents.hops.unwrap_or_default();
-    let graph = Graph {
-        states: contents.states.into(),
-        labels: contents.labels.into(),
-        initial: contents.initial.unwrap_or(0).into(),
-        hops: &hops,
-    };
+    let graph = Graph { states: contents.states.into(), labels: contents.labels.into(), initial: contents.initial.unwrap_or(0).into(), hops: &hops };
     graph.check_1_to_4(1)?;
     if before.len() < hops.len() {
         refuse(6, 0)?;

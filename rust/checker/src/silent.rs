@@ -2,7 +2,7 @@
 
 use crate::graph::{Graph, Hop};
 use crate::{refuse, written, Answer, Refusal};
-use std::collections::BTreeSet;
+use std::collections::{BTreeSet, HashSet};
 
 /// An admitted graph: the list as it is, and the same hops once more put together by the state they leave.
 struct Admitted {
@@ -111,11 +111,7 @@ fn one_round(graph: &Admitted, before: &Pairs) -> Pairs {
 fn greatest(graph: &Admitted) -> Pairs {
     let mut u = Pairs::silent_hops(graph);
     loop {
-        let violators: Vec<&Hop> = graph
-            .list
-            .iter()
-            .filter(|h| h.label == 0 && u.has(h.from, h.to) && !closes(graph, &u, h.from, h.to))
-            .collect();
+        let violators: Vec<&Hop> = graph.list.iter().filter(|h| h.label == 0 && u.has(h.from, h.to) && !closes(graph, &u, h.from, h.to)).collect();
         if violators.is_empty() {
             return u;
         }
@@ -299,11 +295,14 @@ fn try_audit(graph1: &Graph, graph2: &Graph, map: &[u16]) -> Result<u64, Refusal
             continue;
         }
         let reached = one.leads_to(s as u64);
-        let us: Vec<usize> = (0..one.states).filter(|&u| reached[u] && map[u] == r).collect();
+        // what such a u offers: a label a, and q for the map of where it leads
+        let offered: HashSet<(u64, u64)> = (0..one.states)
+            .filter(|&u| reached[u] && map[u] == r)
+            .flat_map(|u| one.leaving[u].iter().map(|h| (h.label, map[h.to as usize])))
+            .collect();
         for hop in &two.leaving[r as usize] {
             let (a, q) = (hop.label, hop.to);
-            let answered = || us.iter().any(|&u| one.leaving[u].iter().any(|h| h.label == a && map[h.to as usize] == q));
-            if !((a == 0 && r == q) || answered()) {
+            if !((a == 0 && r == q) || offered.contains(&(a, q))) {
                 third += 1;
             }
         }

@@ -1,0 +1,149 @@
+//! The entries in plain Rust, by the library's algorithms: one binary search for a hop, sweeps for rings and marks, searches by states for the audit, a
+//! table of what is known for the round question, lengths before bytes for names.
+//!
+//! It stands beside the library in the benchmarks and in the differential tests. Nothing here is proved.
+
+mod audit;
+mod check;
+mod file;
+mod mark;
+mod reduce;
+mod rings;
+mod round;
+
+pub use audit::audit;
+pub use check::{check, hops_of};
+pub use file::{read, write};
+pub use mark::mark;
+pub use reduce::reduce;
+pub use rings::lowest_on_ring;
+pub use round::round;
+
+pub const MOST_STATES: usize = 1024;
+pub const MOST_LABELS: usize = 1024;
+pub const MOST_HOPS: usize = 4096;
+pub const LONGEST_FILE: usize = 58_344;
+
+/// Counts and initial state of a graph; its hops go beside it as a flat list.
+#[derive(Clone, Copy, Debug, PartialEq, Eq)]
+pub struct Shape {
+    pub states: u32,
+    pub labels: u32,
+    pub initial: u32,
+}
+
+/// Number, table and place.
+#[derive(Clone, Copy, Debug, PartialEq, Eq)]
+pub struct Answer {
+    pub number: u32,
+    pub table: u32,
+    pub place: usize,
+}
+
+pub const ACCEPTED: Answer = Answer { number: 0, table: 1, place: 0 };
+
+pub(crate) fn refuse(number: u32, place: usize) -> Answer {
+    Answer { number, table: 1, place }
+}
+
+/// State, label and hop counts and initial state of a short graph; all 0 with a refusal.
+#[derive(Clone, Copy, Debug, Default, PartialEq, Eq)]
+pub struct Short {
+    pub states: u32,
+    pub labels: u32,
+    pub hops: u32,
+    pub initial: u32,
+}
+
+/// What a file holds besides its hops; all 0 with a refusal.
+#[derive(Clone, Copy, Debug, Default, PartialEq, Eq)]
+pub struct Contents {
+    pub states: u32,
+    pub labels: u32,
+    pub initial: u32,
+    pub hops: u32,
+    pub names_place: usize,
+    pub names_len: usize,
+}
+
+#[inline]
+pub(crate) fn hop_count(hops: &[u16]) -> usize {
+    hops.len() / 3
+}
+
+#[inline]
+pub(crate) fn from_at(hops: &[u16], place: usize) -> u16 {
+    hops[3 * place]
+}
+
+#[inline]
+pub(crate) fn label_at(hops: &[u16], place: usize) -> u16 {
+    hops[3 * place + 1]
+}
+
+#[inline]
+pub(crate) fn to_at(hops: &[u16], place: usize) -> u16 {
+    hops[3 * place + 2]
+}
+
+#[inline]
+pub(crate) fn hop_at(hops: &[u16], place: usize) -> (u16, u16, u16) {
+    (hops[3 * place], hops[3 * place + 1], hops[3 * place + 2])
+}
+
+/// The place of a hop in an ascending list.
+pub(crate) fn find(hops: &[u16], hop: (u16, u16, u16)) -> Option<usize> {
+    let (mut low, mut high) = (0, hop_count(hops));
+    while low < high {
+        let middle = low + (high - low) / 2;
+        let here = hop_at(hops, middle);
+        if here == hop {
+            return Some(middle);
+        }
+        if here < hop {
+            low = middle + 1;
+        } else {
+            high = middle;
+        }
+    }
+    None
+}
+
+/// The first place of each state's hops, and the hop count behind the last: the hops of `s` are the places `first[s]..first[s + 1]`.
+pub(crate) fn first_places(states: usize, hops: &[u16]) -> Vec<u16> {
+    let mut first = vec![0; states + 1];
+    let mut place = 0;
+    for (state, slot) in first.iter_mut().enumerate() {
+        while place < hop_count(hops) && usize::from(from_at(hops, place)) < state {
+            place += 1;
+        }
+        *slot = place as u16;
+    }
+    first
+}
+
+/// The places of a state's hops.
+#[inline]
+pub(crate) fn places(first: &[u16], state: u16) -> std::ops::Range<usize> {
+    usize::from(first[usize::from(state)])..usize::from(first[usize::from(state) + 1])
+}
+
+/// The places of a label's hops inside the range of a state's.
+pub(crate) fn label_places(hops: &[u16], range: std::ops::Range<usize>, label: u16) -> std::ops::Range<usize> {
+    let start = first_not_below(hops, range.clone(), label);
+    start..first_not_below(hops, start..range.end, label + 1)
+}
+
+/// The first place of the range whose label is not below `label`.
+fn first_not_below(hops: &[u16], range: std::ops::Range<usize>, label: u16) -> usize {
+    let (mut low, mut high) = (range.start, range.end);
+    while low < high {
+        let middle = low + (high - low) / 2;
+        if label_at(hops, middle) < label {
+            low = middle + 1;
+        } else {
+            high = middle;
+        }
+    }
+    low
+}
