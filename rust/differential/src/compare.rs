@@ -1,9 +1,9 @@
 //! One call of an entry against the checker: the returned number, every element of the answer and of every output, guard elements before and behind each
 //! of them, and inputs that must stay as they are.
 
-use crate::entries::{Entries, Graph};
 use crate::random::Random;
 use checker::Answer;
+use differential::entries::{Entries, Graph};
 use std::fmt::Debug;
 
 /// Guard elements on either side of what is lent.

@@ -28,6 +28,14 @@ pub trait Entries {
     fn write(&self, g: &Graph, names: &[u8], out: &mut [u8], answer: &mut [u64]) -> u32;
 }
 
+/// The proved library, where it is linked (the feature `library`).
+pub fn library() -> Option<&'static dyn Entries> {
+    #[cfg(feature = "library")]
+    return Some(&Library);
+    #[cfg(not(feature = "library"))]
+    None
+}
+
 /// The plain implementation.
 pub struct Plain;
 

@@ -6,7 +6,6 @@
 //! Without the feature `library`, or with `--plain`, the plain implementation stands in for the library.
 
 mod compare;
-mod entries;
 mod make;
 mod parts;
 mod random;
@@ -14,7 +13,7 @@ mod random;
 mod wrappers;
 
 use compare::Comparer;
-use entries::{Entries, Plain};
+use differential::entries::{self, Entries, Plain};
 use std::time::Instant;
 
 struct Options {
@@ -47,21 +46,19 @@ fn usage() -> ! {
     std::process::exit(2);
 }
 
-fn entries(plain: bool) -> Box<dyn Entries> {
-    #[cfg(feature = "library")]
-    if !plain {
-        return Box::new(entries::Library);
+fn chosen(plain: bool) -> &'static dyn Entries {
+    match entries::library() {
+        Some(library) if !plain => library,
+        _ => &Plain,
     }
-    let _ = plain;
-    Box::new(Plain)
 }
 
 fn main() {
     let options = options();
-    let entries = entries(options.plain);
+    let entries = chosen(options.plain);
     println!("comparing: {}, seed {}", entries.name(), options.seed);
     let start = Instant::now();
-    let mut comparer = Comparer::new(entries.as_ref(), options.seed);
+    let mut comparer = Comparer::new(entries, options.seed);
     let mut part = |name: &str, run: &mut dyn FnMut(&mut Comparer)| {
         let (start, before) = (Instant::now(), comparer.calls);
         run(&mut comparer);

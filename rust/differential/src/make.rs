@@ -1,7 +1,7 @@
 //! Graphs, name blocks and files to compare on.
 
-use crate::entries::Graph;
 use crate::random::Random;
+use differential::entries::Graph;
 use std::collections::BTreeSet;
 
 type Hops = BTreeSet<(u16, u16, u16)>;

@@ -1,8 +1,8 @@
 //! What is compared.
 
 use crate::compare::{Comparer, Length};
-use crate::entries::Graph;
 use crate::make;
+use differential::entries::Graph;
 use Length::{About, AtLeast, Exactly};
 
 fn graph(states: u32, labels: u32, hops: &[u16]) -> Graph {

@@ -1,8 +1,8 @@
 //! The safe wrappers over the archive against the checker.
 
 use crate::compare::Comparer;
-use crate::entries::Graph;
 use crate::make;
+use differential::entries::Graph;
 use zundrafipo::Refusal;
 
 fn lent(g: &Graph) -> zundrafipo::Graph {
