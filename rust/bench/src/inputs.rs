@@ -76,9 +76,9 @@ fn class() -> Named {
     graph("one class of 1,024 states", 1024, 1, (0..1024).flat_map(|s| (s + 1..(s + 5).min(1024)).map(move |t| [s, 0, t])))
 }
 
-/// A ladder whose rungs fall one a sweep, from the far end, beside a block of 64 states whose 2,016 silent hops stay marked.
+/// A ladder whose rungs fall one a sweep, from the far end, beside a block of 32 states whose 496 silent hops stay marked.
 fn falling() -> Named {
-    let (block, rungs) = (64, 340);
+    let (block, rungs) = (32, 490);
     let (left, right) = (|i: u16| block + i, |i: u16| block + rungs + i);
     let order = (0..block).flat_map(|s| (s + 1..block).map(move |t| [s, 0, t]));
     let rung = (0..rungs).map(|i| [left(i), 0, right(i)]);

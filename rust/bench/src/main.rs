@@ -3,14 +3,15 @@
 //!     cargo run --release -p bench --features library [-- WORD]
 //!
 //! With a word only the rows that have it are timed. Without the feature the plain implementation is timed alone. Both must leave the same answer
-//! and the same outputs, or the run fails. Times are medians.
+//! and the same outputs, or the run fails. Times are medians of processor time.
 
+mod clock;
 mod inputs;
 
 use differential::entries::{self, Entries, Graph, Plain};
 use inputs::Named;
 use std::hint::black_box;
-use std::time::{Duration, Instant};
+use std::time::Duration;
 
 /// At most so many samples of a row, and for so long in all; but at least three.
 const MOST_SAMPLES: usize = 15;
@@ -54,11 +55,11 @@ impl<'a> Timed<'a> {
     }
 
     fn run(&mut self, times: u32) -> Duration {
-        let start = Instant::now();
+        let start = clock::now();
         for _ in 0..times {
             black_box((self.call)(self.entries, black_box(&mut self.outputs)));
         }
-        start.elapsed()
+        clock::now() - start
     }
 
     fn sample(&mut self) {
@@ -77,13 +78,13 @@ fn row(entry: &str, input: &str, call: Call) {
     if std::env::args().nth(1).is_some_and(|word| !entry.contains(&word) && !input.contains(&word)) {
         return;
     }
-    let start = Instant::now();
+    let start = clock::now();
     let mut plain = Timed::new(&Plain, call);
     let mut library = entries::library().map(|library| Timed::new(library, call));
     if let Some(library) = &library {
         assert!(plain.outputs == library.outputs, "{entry} on {input}: both must leave the same");
     }
-    while plain.samples.len() < 3 || (plain.samples.len() < MOST_SAMPLES && start.elapsed() < LONGEST) {
+    while plain.samples.len() < 3 || (plain.samples.len() < MOST_SAMPLES && clock::now() - start < LONGEST) {
         plain.sample();
         if let Some(library) = &mut library {
             library.sample();

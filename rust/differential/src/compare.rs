@@ -96,13 +96,16 @@ pub struct Comparer<'a> {
     pub random: Random,
     pub calls: u64,
     pub refusals: [u64; 15],
+    /// Graphs that reduce made smaller, and audits that found faults: a comparison without them would say little.
+    pub smaller: u64,
+    pub faulty: u64,
     /// The length of answers: mostly enough, unless it is set.
     pub answer_len: Option<usize>,
 }
 
 impl<'a> Comparer<'a> {
     pub fn new(entries: &'a dyn Entries, seed: u64) -> Comparer<'a> {
-        Comparer { entries, random: Random::new(seed), calls: 0, refusals: [0; 15], answer_len: None }
+        Comparer { entries, random: Random::new(seed), calls: 0, refusals: [0; 15], smaller: 0, faulty: 0, answer_len: None }
     }
 
     fn answer(&mut self, needed: usize) -> Lent<u64> {
@@ -191,6 +194,7 @@ impl<'a> Comparer<'a> {
             return None;
         }
         let figures = &expected.figures;
+        self.smaller += u64::from(figures[0] < g.states.into());
         let hops = short_after[..3 * figures[2] as usize].to_vec();
         let short = Graph { states: figures[0] as u32, labels: figures[1] as u32, initial: figures[3] as u32, hops };
         Some((short, map_after[..g.states as usize].to_vec()))
@@ -203,6 +207,7 @@ impl<'a> Comparer<'a> {
         let mut answer = self.answer(4);
         let returned = self.entries.audit(one, two, map, answer.part());
         self.judge(returned, &expected.numbers(), expected.number, &answer, &what);
+        self.faulty += u64::from(expected.figures[0] > 0);
         for (now, before) in [&one.hops, &two.hops, map].into_iter().zip(&inputs) {
             self.same_input(now, before, &what);
         }

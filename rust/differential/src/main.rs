@@ -25,7 +25,7 @@ struct Options {
 }
 
 fn options() -> Options {
-    let mut options = Options { seed: 20_261_115, small: 120_000, files: 120_000, large: 300, plain: !cfg!(feature = "library") };
+    let mut options = Options { seed: 20_261_115, small: 200_000, files: 200_000, large: 400, plain: !cfg!(feature = "library") };
     let mut words = std::env::args().skip(1);
     while let Some(word) = words.next() {
         let mut number = || words.next().and_then(|n| n.parse().ok()).unwrap_or_else(|| usage());
@@ -79,6 +79,7 @@ fn main() {
     }
     let met: Vec<String> = comparer.refusals.iter().enumerate().map(|(number, count)| format!("{number}: {count}")).collect();
     println!("answers by number: {}", met.join(", "));
+    println!("graphs made smaller: {}, audits with faults: {}", comparer.smaller, comparer.faulty);
     if let Some(number) = comparer.refusals.iter().position(|&count| count == 0) {
         eprintln!("no call was answered with {number}: the comparison is too thin");
         std::process::exit(1);

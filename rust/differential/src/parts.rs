@@ -24,6 +24,7 @@ pub fn worked(c: &mut Comparer) {
         graph(3, 1, &[0, 0, 1, 1, 0, 2, 2, 0, 1]),
         graph(5, 3, &p10),
     ];
+    c.answer_len = Some(9);
     for g in &graphs {
         whole(c, g);
     }
@@ -32,6 +33,7 @@ pub fn worked(c: &mut Comparer) {
         c.audit(&graphs[0], &graph(2, 2, hops), &map);
     }
     c.audit(&graph(3, 2, &[0, 0, 1, 1, 0, 2, 2, 1, 2]), &graph(2, 2, &[0, 0, 1, 0, 1, 0, 1, 0, 0]), &[0, 1, 0]);
+    c.answer_len = None;
 }
 
 /// Every entry over one graph, with outputs of every length around the needed one and every round question.

@@ -66,7 +66,7 @@ fn unanswered(shape1: Shape, hops1: &[u16], shape2: Shape, hops2: &[u16], map: &
                 tick(hops1, places(&first1, u), hops2, r, map, &mut ticks);
             }
         }
-        faults += range.filter(|&place| !ticks[place] && !(label_at(hops2, place) == 0 && to_at(hops2, place) == r)).count() as u32;
+        faults += range.filter(|&place| !(ticks[place] || (label_at(hops2, place) == 0 && to_at(hops2, place) == r))).count() as u32;
     }
     faults
 }
