@@ -42,6 +42,7 @@ pub fn graphs() -> Vec<Named> {
         class(),
         graph("order of 91 states, all silent", 91, 1, (0..91).flat_map(|s| (s + 1..91).map(move |t| [s, 0, t]))),
         graph("visible hops only, one label", 1024, 2, (0..1024).flat_map(|s| (0..4).map(move |d| [s, 1, (s + 7 * d + 1) % 1024]))),
+        descending(),
         falling(),
     ]
 }
@@ -74,6 +75,13 @@ fn random(name: &'static str, labels: u16, silent: u16) -> Named {
 /// All states are one class: each has silent hops to the next four, and all of them are marked.
 fn class() -> Named {
     graph("one class of 1,024 states", 1024, 1, (0..1024).flat_map(|s| (s + 1..(s + 5).min(1024)).map(move |t| [s, 0, t])))
+}
+
+/// The images of one state's hops come in descending order, 500 to each of seven labels: each is put in front of those before it.
+fn descending() -> Named {
+    let joined = (0..500).map(|i| [1 + i, 0, 1000 - i]);
+    let asked = (1..8).flat_map(|a| (0..500).map(move |i| [0, a, 1 + i]));
+    graph("3,500 images in descending order", 1001, 8, joined.chain(asked))
 }
 
 /// A ladder whose rungs fall one a sweep, from the far end, beside a block of 32 states whose 496 silent hops stay marked.
