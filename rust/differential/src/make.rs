@@ -165,11 +165,18 @@ pub fn damaged(random: &mut Random, g: &Graph) -> Graph {
     g
 }
 
-/// So many names, as a block: mostly different ones, short and from few bytes, so that some are the same.
+/// So many names, as a block: mostly different ones, or short ones from few bytes, so that some are the same; in some a length that is refused.
 pub fn block(random: &mut Random, names: usize, longest: usize) -> Vec<u8> {
     let repeats = random.percent(20);
+    let odd = random.percent(10).then(|| random.below(names + 1));
     let mut block = vec![];
     for i in 0..names {
+        if odd == Some(i) {
+            let len = random.pick(&[0, 33, 34, 255]);
+            block.push(len);
+            block.extend(vec![b'x'; len.into()]);
+            continue;
+        }
         let len = random.between(1, longest);
         if repeats || longest < 3 {
             block.push(len as u8);
