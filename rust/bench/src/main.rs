@@ -39,16 +39,15 @@ impl Outputs {
 type Call<'a> = &'a dyn Fn(&dyn Entries, &mut Outputs) -> u32;
 
 struct Timed<'a> {
-    entries: &'a dyn Entries,
-    call: Call<'a>,
+    call: Box<dyn Fn(&mut Outputs) -> u32 + 'a>,
     outputs: Outputs,
     repeats: u32,
     samples: Vec<f64>,
 }
 
 impl<'a> Timed<'a> {
-    fn new(entries: &'a dyn Entries, call: Call<'a>) -> Timed<'a> {
-        let mut timed = Timed { entries, call, outputs: Outputs::new(), repeats: 1, samples: vec![] };
+    fn new(call: impl Fn(&mut Outputs) -> u32 + 'a) -> Timed<'a> {
+        let mut timed = Timed { call: Box::new(call), outputs: Outputs::new(), repeats: 1, samples: vec![] };
         let once = timed.run(1).max(Duration::from_nanos(20));
         timed.repeats = (SAMPLE.as_nanos() / once.as_nanos()).clamp(1, 100_000) as u32;
         timed
@@ -57,7 +56,7 @@ impl<'a> Timed<'a> {
     fn run(&mut self, times: u32) -> Duration {
         let start = clock::now();
         for _ in 0..times {
-            black_box((self.call)(self.entries, black_box(&mut self.outputs)));
+            black_box((self.call)(black_box(&mut self.outputs)));
         }
         clock::now() - start
     }
@@ -73,27 +72,53 @@ impl<'a> Timed<'a> {
     }
 }
 
-/// Times a call and prints its row.
-fn row(entry: &str, input: &str, call: Call) {
-    if std::env::args().nth(1).is_some_and(|word| !entry.contains(&word) && !input.contains(&word)) {
-        return;
-    }
+/// Whether the words of the command line ask for a row.
+fn asked(entry: &str, input: &str) -> bool {
+    std::env::args().nth(1).map_or(true, |word| entry.contains(&word) || input.contains(&word))
+}
+
+/// Times two ways by turns, and prints their row; the second may be missing.
+fn row_of(entry: &str, input: &str, mut one: Timed, mut two: Option<Timed>) {
     let start = clock::now();
-    let mut plain = Timed::new(&Plain, call);
-    let mut library = entries::library().map(|library| Timed::new(library, call));
-    if let Some(library) = &library {
-        assert!(plain.outputs == library.outputs, "{entry} on {input}: both must leave the same");
+    if let Some(two) = &two {
+        assert!(one.outputs == two.outputs, "{entry} on {input}: both must leave the same");
     }
-    while plain.samples.len() < 3 || (plain.samples.len() < MOST_SAMPLES && clock::now() - start < LONGEST) {
-        plain.sample();
-        if let Some(library) = &mut library {
-            library.sample();
+    while one.samples.len() < 3 || (one.samples.len() < MOST_SAMPLES && clock::now() - start < LONGEST) {
+        one.sample();
+        if let Some(two) = &mut two {
+            two.sample();
         }
     }
-    let plain = plain.median();
-    match library.map(Timed::median) {
-        Some(library) => println!("| {entry} | {input} | {} | {} | {:.2} |", show(plain), show(library), library / plain),
-        None => println!("| {entry} | {input} | {} | - | - |", show(plain)),
+    let one = one.median();
+    match two.map(Timed::median) {
+        Some(two) => println!("| {entry} | {input} | {} | {} | {:.2} |", show(one), show(two), two / one),
+        None => println!("| {entry} | {input} | {} | - | - |", show(one)),
+    }
+}
+
+/// An entry of the library beside the plain one.
+fn row(entry: &str, input: &str, call: Call) {
+    if asked(entry, input) {
+        let library = entries::library().map(|library| Timed::new(move |o| call(library, o)));
+        row_of(entry, input, Timed::new(|o| call(&Plain, o)), library);
+    }
+}
+
+/// What a table of first places would save.
+fn saved(graphs: &[Named]) {
+    println!("\n| plain Rust alone | input | as the library does it | with a table of first places | ratio |\n|---|---|---|---|---|");
+    for Named { name, graph } in graphs.iter().filter(|g| asked("rings", g.name)) {
+        let states = graph.states as usize;
+        let one = Timed::new(move |_| plain::lowest_on_ring(states, &graph.hops).map_or(9999, |s| s as u32));
+        let two = Timed::new(move |_| plain::ranges::lowest_on_ring(states, &graph.hops).map_or(9999, |s| s as u32));
+        row_of("rings", name, one, Some(two));
+    }
+    let shape = |g: &Graph| plain::Shape { states: g.states, labels: g.labels, initial: g.initial };
+    for Named { name, graph } in graphs.iter().filter(|g| asked("audit with itself", g.name)) {
+        let map: Vec<u16> = (0..graph.states as u16).collect();
+        let one = Timed::new(|_| plain::audit(shape(graph), &graph.hops, shape(graph), &graph.hops, &map).1);
+        let two = Timed::new(|_| plain::ranges::audit(shape(graph), &graph.hops, shape(graph), &graph.hops, &map).1);
+        row_of("audit with itself", name, one, Some(two));
     }
 }
 
@@ -150,6 +175,7 @@ fn main() {
     row("read", "4,096 hops, no names", &|e, o| e.read(&file, &mut o.hops, &mut o.answer));
     let many = inputs::many_names();
     row("read", "19,446 different names of two bytes", &|e, o| e.read(&many, &mut o.hops, &mut o.answer));
+    saved(&graphs);
 }
 
 /// The short graph and the map, by the plain implementation.

@@ -1,33 +1,42 @@
-use crate::rings::push_silent;
-use crate::{check, find, first_places, hop_at, hop_count, label_at, places, refuse, to_at, Answer, Shape, ACCEPTED};
+use crate::rings::reach;
+use crate::{check, find, hop_at, hop_count, refuse, Answer, Shape, ACCEPTED};
 
 /// The entry audit, with the fault count.
 pub fn audit(shape1: Shape, hops1: &[u16], shape2: Shape, hops2: &[u16], map: &[u16]) -> (Answer, u32) {
+    let answer = admitted(shape1, hops1, shape2, hops2, map);
+    if answer.number != 0 {
+        return (answer, 0);
+    }
+    (answer, initial_fault(shape1, shape2, map) + lost(hops1, hops2, map) + made_up(shape1, hops1, hops2, map))
+}
+
+pub(crate) fn admitted(shape1: Shape, hops1: &[u16], shape2: Shape, hops2: &[u16], map: &[u16]) -> Answer {
     let one = check(shape1, hops1);
     if one.number != 0 {
-        return (one, 0);
+        return one;
     }
     let two = check(shape2, hops2);
     if two.number != 0 {
-        return (Answer { table: 2, ..two }, 0);
+        return Answer { table: 2, ..two };
     }
     if shape1.labels != shape2.labels {
-        return (refuse(7, 0), 0);
+        return refuse(7, 0);
     }
     if map.len() != shape1.states as usize {
-        return (refuse(8, map.len()), 0);
+        return refuse(8, map.len());
     }
-    if let Some(entry) = map.iter().position(|&m| u32::from(m) >= shape2.states) {
-        return (refuse(8, entry), 0);
+    match map.iter().position(|&m| u32::from(m) >= shape2.states) {
+        Some(entry) => refuse(8, entry),
+        None => ACCEPTED,
     }
-    let first = u32::from(u32::from(map[shape1.initial as usize]) != shape2.initial);
-    let second = unmatched(hops1, hops2, map);
-    let third = unanswered(shape1, hops1, shape2, hops2, map);
-    (ACCEPTED, first + second + third)
+}
+
+pub(crate) fn initial_fault(shape1: Shape, shape2: Shape, map: &[u16]) -> u32 {
+    u32::from(u32::from(map[shape1.initial as usize]) != shape2.initial)
 }
 
 /// The hops of graph 1 that graph 2 does not match.
-fn unmatched(hops1: &[u16], hops2: &[u16], map: &[u16]) -> u32 {
+pub(crate) fn lost(hops1: &[u16], hops2: &[u16], map: &[u16]) -> u32 {
     let mut faults = 0;
     for place in 0..hop_count(hops1) {
         let (from, label, to) = hop_at(hops1, place);
@@ -39,42 +48,31 @@ fn unmatched(hops1: &[u16], hops2: &[u16], map: &[u16]) -> u32 {
     faults
 }
 
-/// The pairs of a hop of graph 2 and a state of graph 1 that nothing answers: from each state the silent hops are followed, and what is met ticks hops of
-/// graph 2.
-fn unanswered(shape1: Shape, hops1: &[u16], shape2: Shape, hops2: &[u16], map: &[u16]) -> u32 {
+/// The pairs of a hop of graph 2 and a state of graph 1 that nothing answers: from each state the silent hops are followed, and the hops of the states that are met
+/// stamp hops of graph 2.
+fn made_up(shape1: Shape, hops1: &[u16], hops2: &[u16], map: &[u16]) -> u32 {
     let states = shape1.states as usize;
-    let first1 = first_places(states, hops1);
-    let first2 = first_places(shape2.states as usize, hops2);
-    let mut ticks = vec![false; hop_count(hops2)];
-    let mut seen = vec![false; states];
-    let mut queue: Vec<u16> = Vec::with_capacity(states);
+    let mut seen = [false; 1024];
+    let mut queue = [0; 1024];
+    let mut stamps = [0u16; 4096];
     let mut faults = 0;
     for state in 0..states as u16 {
+        reach(states, hops1, state, &mut seen, &mut queue);
         let r = map[usize::from(state)];
-        let range = places(&first2, r);
-        ticks[range.clone()].fill(false);
-        seen.fill(false);
-        queue.clear();
-        seen[usize::from(state)] = true;
-        queue.push(state);
-        let mut next = 0;
-        while next < queue.len() {
-            let u = queue[next];
-            next += 1;
-            push_silent(hops1, &first1, u, &mut seen, &mut queue);
-            if map[usize::from(u)] == r {
-                tick(hops1, places(&first1, u), hops2, r, map, &mut ticks);
+        let stamp = state + 1;
+        for hop in hops1.chunks_exact(3) {
+            let u = usize::from(hop[0]);
+            if seen[u] && map[u] == r {
+                if let Some(place) = find(hops2, (r, hop[1], map[usize::from(hop[2])])) {
+                    stamps[place] = stamp;
+                }
             }
         }
-        faults += range.filter(|&place| !(ticks[place] || (label_at(hops2, place) == 0 && to_at(hops2, place) == r))).count() as u32;
-    }
-    faults
-}
-
-fn tick(hops1: &[u16], range: std::ops::Range<usize>, hops2: &[u16], r: u16, map: &[u16], ticks: &mut [bool]) {
-    for place in range {
-        if let Some(found) = find(hops2, (r, label_at(hops1, place), map[usize::from(to_at(hops1, place))])) {
-            ticks[found] = true;
+        for (hop, &stamped) in hops2.chunks_exact(3).zip(&stamps) {
+            if hop[0] == r && !((hop[1] == 0 && hop[2] == r) || stamped == stamp) {
+                faults += 1;
+            }
         }
     }
+    faults
 }

@@ -71,30 +71,23 @@ fn skip_names(bytes: &[u8], mut at: usize, labels: usize) -> Option<usize> {
 
 /// The first bad name of the names that fill `bytes[start..end]`.
 fn first_bad_name(bytes: &[u8], start: usize, end: usize) -> Option<usize> {
+    let mut earlier: Vec<u32> = vec![];
     let mut at = start;
     while at < end {
         let len = bytes[at];
-        if len == 0 || len > 32 || repeated(bytes, start, at) {
+        if len == 0 || len > 32 || earlier.iter().any(|&place| same_name(bytes, place as usize, at)) {
             return Some(at);
         }
+        earlier.push(at as u32);
         at += 1 + usize::from(len);
     }
     None
 }
 
-/// The name at `at` is equal to one between `start` and it. Lengths are compared before bytes.
-fn repeated(bytes: &[u8], start: usize, at: usize) -> bool {
-    let len = bytes[at];
-    let name = &bytes[at + 1..at + 1 + usize::from(len)];
-    let mut earlier = start;
-    while earlier < at {
-        let other = bytes[earlier];
-        if other == len && same(&bytes[earlier + 1..earlier + 1 + usize::from(len)], name) {
-            return true;
-        }
-        earlier += 1 + usize::from(other);
-    }
-    false
+/// The names at two places are the same. Lengths are compared before bytes.
+fn same_name(bytes: &[u8], one: usize, two: usize) -> bool {
+    let len = usize::from(bytes[two]);
+    bytes[one] == bytes[two] && same(&bytes[one + 1..one + 1 + len], &bytes[two + 1..two + 1 + len])
 }
 
 fn same(one: &[u8], two: &[u8]) -> bool {

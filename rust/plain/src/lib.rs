@@ -7,6 +7,7 @@ mod audit;
 mod check;
 mod file;
 mod mark;
+pub mod ranges;
 mod reduce;
 mod rings;
 mod round;
@@ -91,22 +92,29 @@ pub(crate) fn hop_at(hops: &[u16], place: usize) -> (u16, u16, u16) {
     (hops[3 * place], hops[3 * place + 1], hops[3 * place + 2])
 }
 
-/// The place of a hop in an ascending list.
-pub(crate) fn find(hops: &[u16], hop: (u16, u16, u16)) -> Option<usize> {
-    let (mut low, mut high) = (0, hop_count(hops));
+/// The first place between `first` and `past` of an ascending list whose hop is not below `hop`.
+pub(crate) fn lower_between(hops: &[u16], hop: (u16, u16, u16), first: usize, past: usize) -> usize {
+    let (mut low, mut high) = (first, past);
     while low < high {
         let middle = low + (high - low) / 2;
-        let here = hop_at(hops, middle);
-        if here == hop {
-            return Some(middle);
-        }
-        if here < hop {
+        if hop_at(hops, middle) < hop {
             low = middle + 1;
         } else {
             high = middle;
         }
     }
-    None
+    low
+}
+
+/// The first place whose hop is not below `hop`.
+pub(crate) fn lower_place(hops: &[u16], hop: (u16, u16, u16)) -> usize {
+    lower_between(hops, hop, 0, hop_count(hops))
+}
+
+/// The place of a hop in an ascending list.
+pub(crate) fn find(hops: &[u16], hop: (u16, u16, u16)) -> Option<usize> {
+    let place = lower_place(hops, hop);
+    (place < hop_count(hops) && hop_at(hops, place) == hop).then_some(place)
 }
 
 /// The first place of each state's hops, and the hop count behind the last: the hops of `s` are the places `first[s]..first[s + 1]`.
@@ -126,24 +134,4 @@ pub(crate) fn first_places(states: usize, hops: &[u16]) -> Vec<u16> {
 #[inline]
 pub(crate) fn places(first: &[u16], state: u16) -> std::ops::Range<usize> {
     usize::from(first[usize::from(state)])..usize::from(first[usize::from(state) + 1])
-}
-
-/// The places of a label's hops inside the range of a state's.
-pub(crate) fn label_places(hops: &[u16], range: std::ops::Range<usize>, label: u16) -> std::ops::Range<usize> {
-    let start = first_not_below(hops, range.clone(), label);
-    start..first_not_below(hops, start..range.end, label + 1)
-}
-
-/// The first place of the range whose label is not below `label`.
-fn first_not_below(hops: &[u16], range: std::ops::Range<usize>, label: u16) -> usize {
-    let (mut low, mut high) = (range.start, range.end);
-    while low < high {
-        let middle = low + (high - low) / 2;
-        if label_at(hops, middle) < label {
-            low = middle + 1;
-        } else {
-            high = middle;
-        }
-    }
-    low
 }

@@ -1,4 +1,4 @@
-use crate::{check, find, first_places, from_at, hop_count, label_at, label_places, lowest_on_ring, places, refuse, to_at, Answer, Shape, ACCEPTED};
+use crate::{check, find, first_places, from_at, hop_count, label_at, lowest_on_ring, places, refuse, to_at, Answer, Shape, ACCEPTED};
 
 /// The entry mark.
 pub fn mark(shape: Shape, hops: &[u16], marks: &mut [u8]) -> Answer {
@@ -35,18 +35,34 @@ pub(crate) fn set_marks(states: usize, hops: &[u16], marks: &mut [u8]) {
     }
 }
 
-/// Every hop of the state that the hop at `place` leaves is closed.
+/// Every hop of the state that the hop at `place` leaves is closed. The hops tried and those that answer are passed once, label by label.
 fn closes(hops: &[u16], first: &[u16], marks: &[u8], place: usize) -> bool {
     let s2 = to_at(hops, place);
-    places(first, from_at(hops, place)).all(|tried| closed(hops, first, marks, s2, label_at(hops, tried), to_at(hops, tried)))
+    let answers = places(first, s2);
+    let mut at = answers.start;
+    for tried in places(first, from_at(hops, place)) {
+        let (label, s3) = (label_at(hops, tried), to_at(hops, tried));
+        while at < answers.end && label_at(hops, at) < label {
+            at += 1;
+        }
+        if !(label == 0 && joined(hops, marks, s3, s2)) && !answered(hops, marks, at..answers.end, label, s3) {
+            return false;
+        }
+    }
+    true
 }
 
-/// s2 answers the hop labelled `label` to `s3`.
-fn closed(hops: &[u16], first: &[u16], marks: &[u8], s2: u16, label: u16, s3: u16) -> bool {
-    if label == 0 && joined(hops, marks, s3, s2) {
-        return true;
+/// A hop labelled `label` at the front of `range` answers the one to `s3`.
+fn answered(hops: &[u16], marks: &[u8], range: std::ops::Range<usize>, label: u16, s3: u16) -> bool {
+    for place in range {
+        if label_at(hops, place) != label {
+            return false;
+        }
+        if joined(hops, marks, s3, to_at(hops, place)) {
+            return true;
+        }
     }
-    label_places(hops, places(first, s2), label).any(|answer| joined(hops, marks, s3, to_at(hops, answer)))
+    false
 }
 
 fn joined(hops: &[u16], marks: &[u8], s3: u16, s4: u16) -> bool {

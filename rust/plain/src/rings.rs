@@ -1,67 +1,59 @@
-use crate::{first_places, label_at, places, to_at};
+use crate::{lower_place, to_at};
 
 /// For an admitted graph: the lowest state on a ring. Where every state can be ranked there is none.
 pub fn lowest_on_ring(states: usize, hops: &[u16]) -> Option<usize> {
-    let first = first_places(states, hops);
-    if all_ranked(states, hops, &first) {
+    let mut ranked = [false; 1024];
+    if all_ranked(states, hops, &mut ranked) {
         return None;
     }
-    (0..states).find(|&state| leads_back(states, hops, &first, state))
+    let mut seen = [false; 1024];
+    let mut queue = [0; 1024];
+    (0..states).filter(|&state| !ranked[state]).find(|&state| {
+        reach(states, hops, state as u16, &mut seen, &mut queue);
+        let state = state as u16;
+        hops.chunks_exact(3).any(|hop| hop[1] == 0 && hop[2] == state && seen[usize::from(hop[0])])
+    })
+}
+
+/// The places of a state's silent hops, by the one search.
+#[inline]
+fn silent_places(hops: &[u16], state: u16) -> std::ops::Range<usize> {
+    lower_place(hops, (state, 0, 0))..lower_place(hops, (state, 1, 0))
 }
 
 /// Sweeps down from the highest state, ranking a state when all its silent hops lead to ranked ones, until nothing changes.
-fn all_ranked(states: usize, hops: &[u16], first: &[u16]) -> bool {
-    let mut ranked = vec![false; states];
-    let mut left = states;
-    loop {
-        let before = left;
+fn all_ranked(states: usize, hops: &[u16], ranked: &mut [bool]) -> bool {
+    let mut done = 0;
+    while done < states {
+        let before = done;
         for state in (0..states).rev() {
-            if !ranked[state] && silent_ranked(hops, first, &ranked, state as u16) {
+            if !ranked[state] && silent_places(hops, state as u16).all(|place| ranked[usize::from(to_at(hops, place))]) {
                 ranked[state] = true;
-                left -= 1;
+                done += 1;
             }
         }
-        if left == 0 || left == before {
-            return left == 0;
-        }
-    }
-}
-
-fn silent_ranked(hops: &[u16], first: &[u16], ranked: &[bool], state: u16) -> bool {
-    // silent hops stand first among a state's
-    for place in places(first, state) {
-        if label_at(hops, place) != 0 {
-            break;
-        }
-        if !ranked[usize::from(to_at(hops, place))] {
+        if done == before {
             return false;
         }
     }
     true
 }
 
-fn leads_back(states: usize, hops: &[u16], first: &[u16], start: usize) -> bool {
-    let mut seen = vec![false; states];
-    let mut queue = Vec::with_capacity(states);
-    push_silent(hops, first, start as u16, &mut seen, &mut queue);
-    let mut next = 0;
-    while next < queue.len() && !seen[start] {
-        push_silent(hops, first, queue[next], &mut seen, &mut queue);
-        next += 1;
-    }
-    seen[start]
-}
-
-/// Puts the states behind the silent hops of `state` that were not seen yet at the queue's end.
-pub(crate) fn push_silent(hops: &[u16], first: &[u16], state: u16, seen: &mut [bool], queue: &mut Vec<u16>) {
-    for place in places(first, state) {
-        if label_at(hops, place) != 0 {
-            break;
+/// Notes the states that zero or more silent hops lead to from `start`, breadth first.
+pub(crate) fn reach(states: usize, hops: &[u16], start: u16, seen: &mut [bool], queue: &mut [u16]) {
+    seen[..states].fill(false);
+    seen[usize::from(start)] = true;
+    queue[0] = start;
+    let (mut head, mut tail) = (0, 1);
+    while head < tail {
+        for place in silent_places(hops, queue[head]) {
+            let to = to_at(hops, place);
+            if !seen[usize::from(to)] {
+                seen[usize::from(to)] = true;
+                queue[tail] = to;
+                tail += 1;
+            }
         }
-        let to = to_at(hops, place);
-        if !seen[usize::from(to)] {
-            seen[usize::from(to)] = true;
-            queue.push(to);
-        }
+        head += 1;
     }
 }
