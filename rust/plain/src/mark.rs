@@ -45,7 +45,7 @@ fn closes(hops: &[u16], first: &[u16], marks: &[u8], place: usize) -> bool {
         while at < answers.end && label_at(hops, at) < label {
             at += 1;
         }
-        if !(label == 0 && joined(hops, marks, s3, s2)) && !answered(hops, marks, at..answers.end, label, s3) {
+        if !((label == 0 && joined(hops, marks, s3, s2)) || answered(hops, marks, at..answers.end, label, s3)) {
             return false;
         }
     }
