@@ -9,7 +9,7 @@ use lib.ListN.{length, drop}
 use lib.Seq.{sets, sets-eq}
 use lib.Dec.{eqb, leb}
 use Rattle.graph.specs.declared.Answer.{Answer}
-use Rattle.capi.specs.Interface.{numbersOf, returned, told, unlessShort}
+use Rattle.capi.specs.Interface.{returned, told, unlessShort}
 
 -- numbers stored one after another from the front
 pub stored : (vs out : List ℕ) → length vs ≤ length out → sets out 0 vs ≡ vs ++ drop (length vs) out
@@ -34,12 +34,12 @@ module _ (a : Answer) (n room : ℕ) where
     go true e = eqb-true _ _ e ∙ rw (le-leb n room l)
     go false e = refl
 
--- what is said of an answer is said of an equal one
+-- what is said of an answer, or of its numbers, is said of an equal one
 pub returned-of : (n room : ℕ) {a b : Answer} {r : ℕ} → a ≡ b → r ≡ returned a n room → r ≡ returned b n room
 returned-of n room e h = h ∙ ap (λ (x : Answer). returned x n room) e
 
-pub told-of : (n : ℕ) (figures old : List ℕ) {a b : Answer} {new : List ℕ} → a ≡ b → new ≡ told n (numbersOf a figures) old → new ≡ told n (numbersOf b figures) old
-told-of n figures old e h = h ∙ ap (λ (x : Answer). told n (numbersOf x figures) old) e
+pub told-of : (n : ℕ) (old : List ℕ) {xs ys new : List ℕ} → xs ≡ ys → new ≡ told n xs old → new ≡ told n ys old
+told-of n old e h = h ∙ ap (λ (xs : List ℕ). told n xs old) e
 
 module _ (n : ℕ) (new old : List ℕ) where
   pub short-told : length old < n → old ≡ told n new old

@@ -7,6 +7,9 @@ use lib.ListN.{length, drop}
 use lib.Dec.{eqb, leb}
 use Rattle.graph.specs.declared.Shape.{Shape}
 use Rattle.graph.specs.declared.Answer.{Answer}
+use Rattle.rounds.specs.declared.RoundAnswer.{RoundAnswer}
+use Rattle.outgoing.specs.declared.Span.{Span}
+use Rattle.quotient.specs.declared.Reduction.{Reduction}
 
 -- a shape from three numbers, which pass through unchanged
 abbrev pub shapeOf : ℕ → ℕ → ℕ → Shape
@@ -15,6 +18,18 @@ shapeOf s l i = record { states = s; labels = l; initial = i }
 -- the answer's numbers, and the entry's figures after them
 abbrev pub numbersOf : Answer → List ℕ → List ℕ
 numbersOf a figures = a .number ∷ a .table ∷ a .place ∷ figures
+
+-- "4: + 1 or 0"
+abbrev pub roundNumbers : RoundAnswer → List ℕ
+roundNumbers r = numbersOf (r .answer) (r .survives ∷ [])
+
+-- "2: start and length in numbers of that table"
+abbrev pub spanNumbers : Span → List ℕ
+spanNumbers p = p .start ∷ p .length ∷ []
+
+-- "7: + states, labels, hops, initial"
+abbrev pub reductionNumbers : Reduction → List ℕ
+reductionNumbers r = numbersOf (r .answer) (r .shape .states ∷ r .shape .labels ∷ r .hops ∷ r .shape .initial ∷ [])
 
 -- what is returned: the entry's number if it refuses, else 0, or 6 for an answer slice too short for n numbers
 unfoldable pub returned : Answer → ℕ → ℕ → ℕ

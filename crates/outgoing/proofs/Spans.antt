@@ -38,6 +38,7 @@ module _ (hs : List ℕ) (s : ℕ) where
   span-shows = go (eqb (firstOf hs s) (pastOf hs s)) refl where
     none : (n : ℕ) → n - n ≡ 0
     none n = omega arith
+
     go : (x : Bool) → eqb (firstOf hs s) (pastOf hs s) ≡ x → Shows x
     go true e = rw (eqb-true (firstOf hs s) (pastOf hs s) e, none)
     go false e = refl

@@ -1,12 +1,12 @@
--- `capi::zf_check` meets its contract. Assumes nothing.
+-- `capi::marking::zf_check` meets its contract. Assumes nothing.
 use borrow.Author.Needs.{needs}
 use mathlib.Core.Path.{ap, _∙_}
 use mathlib.Core.List.{[]}
-use Rattle.graph.specs.Check.{checkOf}
-use Rattle.graph.specs.declared.Shape.{Shape}
+use Rattle.graph.specs.declared.Answer.{Answer}
+use Rattle.capi.specs.Interface.{numbersOf}
 use Rattle.capi.proofs.Answers.{returned-of, told-of, long-returns, short-told, long-told}
-use Rattle.capi.proofs.zf_check.Statement.{statement}
-use Rattle.capi.proofs.zf_check.Tie as tie
+use Rattle.capi.proofs.marking.zf_check.Statement.{statement}
+use Rattle.capi.proofs.marking.zf_check.Tie as tie
 
 shape-of-requires : tie.Need-shape-of-requires
 shape-of-requires c κs = search needs
@@ -19,8 +19,7 @@ short-number-requires c κs = search needs
 
 returns : tie.Need-returns
 returns c =
-    let hs = c .before .before .before .before .before .before .args .hops .now in
-    let e = c .before .before .check .ensures ∙ ap (λ (sh : Shape). checkOf sh hs) (c .before .before .before .shape-of .ensures) in
+    let e = rw (c .before .before .before .shape-of .ensures) at (c .before .before .check .ensures) in
     (returned-of 3 _ e (c .short-number .ensures), short-told 3 _ _ (c .before .if1 .taken))
 
 put-answer-requires : tie.Need-put-answer-requires
@@ -31,10 +30,9 @@ same-length c = search needs
 
 returns-2 : tie.Need-returns-2
 returns-2 c =
-    let hs = c .before .before .before .before .before .before .before .before .before .args .hops .now in
-    let e = c .before .before .before .before .before .check .ensures ∙ ap (λ (sh : Shape). checkOf sh hs) (c .before .before .before .before .before .before .shape-of .ensures) in
+    let e = rw (c .before .before .before .before .before .before .shape-of .ensures) at (c .before .before .before .before .before .check .ensures) in
     let l = c .before .before .before .before .if1 .left in
-    (returned-of 3 _ e (long-returns _ 3 _ l), told-of 3 [] _ e (c .before .before .put-answer .ensures ∙ long-told 3 _ _ l))
+    (returned-of 3 _ e (long-returns _ 3 _ l), told-of 3 _ (ap (λ (a : Answer). numbersOf a []) e) (c .before .before .put-answer .ensures ∙ long-told 3 _ _ l))
 
 pub zf-check-spec : {M : Type 1} → statement M
 zf-check-spec =
