@@ -3,12 +3,13 @@ use Prim.Native.Nat.{ℕ, zero, suc, _+_, _*_, _/_, _<_, _≤_}
 use mathlib.Core.Path.{_≡_, refl, sym, ap, _∙_}
 use mathlib.Core.Bool.{Bool, true, false, _&&_}
 use mathlib.Core.List.{List, [], _∷_}
+use native.Mathlib.Numerals.{add-one, add-two}
 use native.Mathlib.Omega.{arith}
 use borrow.Author.Tests.{eq-eqb, eqb-true}
 use lib.ListN.{length, getD}
 use lib.Dec.{eqb}
 use Rattle.graph.specs.Tests.{any}
-use Rattle.graph.specs.Hops.{count, from, label, to, hopAt, flat, is, has}
+use Rattle.graph.specs.Hops.{count, from, label, to, hopAt, noHop, flat, is, has}
 use Rattle.graph.specs.declared.Hop.{Hop}
 use Rattle.graph.proofs.Bools.{and-yes, and-left, and-right}
 use Rattle.graph.proofs.Tests.{any-found, any-at}
@@ -54,11 +55,23 @@ unfolding has
 place-has hs s a t p = any-found _ (count hs) (p .within) (is-yes hs s a t (p .at) (p .from-is) (p .label-is) (p .to-is))
 
 -- the flat list of a list of hops holds those hops
-module _ where
-  pub length-flat : (xs : List Hop) → length (flat xs) ≡ 3 * length xs
-  unfolding flat
-  length-flat [] = refl
-  length-flat (x ∷ xs) = let h : length (flat xs) ≡ 3 * length xs = length-flat xs in omega arith
+pub length-flat : (xs : List Hop) → length (flat xs) ≡ 3 * length xs
+unfolding flat
+length-flat [] = refl
+length-flat (x ∷ xs) = let h : length (flat xs) ≡ 3 * length xs = length-flat xs in omega arith
 
-  pub count-flat : (xs : List Hop) → count (flat xs) ≡ length xs
-  count-flat xs = let h : length (flat xs) ≡ 3 * length xs = length-flat xs in omega arith
+pub count-flat : (xs : List Hop) → count (flat xs) ≡ length xs
+count-flat xs = let h : length (flat xs) ≡ 3 * length xs = length-flat xs in omega arith
+
+pub flat-at : (xs : List Hop) (i : ℕ) → hopAt (flat xs) i ≡ getD xs i noHop
+unfolding flat
+flat-at [] i = refl
+flat-at (x ∷ xs) zero = refl
+flat-at (x ∷ xs) (suc i) = shift (3 * suc i) (3 * i) (omega arith) ∙ flat-at xs i where
+  three : List ℕ
+  three = x .from ∷ x .label ∷ x .to ∷ flat xs
+
+  shift : (m n : ℕ) → m ≡ suc (suc (suc n)) →
+      _≡_ {A = Hop} (record { from = getD three m 0; label = getD three (m + 1) 0; to = getD three (m + 2) 0 })
+      (record { from = getD (flat xs) n 0; label = getD (flat xs) (n + 1) 0; to = getD (flat xs) (n + 2) 0 })
+  shift m n e = rw (e, add-one, add-two, add-one, add-two)

@@ -29,6 +29,10 @@ to hs i = getD hs (3 * i + 2) 0
 abbrev pub hopAt : List ℕ → ℕ → Hop
 hopAt hs i = record { from = from hs i; label = label hs i; to = to hs i }
 
+-- what stands past the end of a list of hops
+abbrev pub noHop : Hop
+noHop = record { from = 0; label = 0; to = 0 }
+
 -- the flat list of a list of hops
 unfoldable pub flat : List Hop → List ℕ
 flat [] = []
