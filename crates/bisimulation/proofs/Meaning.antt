@@ -61,15 +61,20 @@ module _ (sh1 sh2 : Shape) (h1 h2 m : List ℕ) (ranged : InRange sh1 h1) where
       let (u, l, d) = any-at (λ (u : ℕ). leads h1 (sh1 .states) s u && offers h1 m (mapped m s) a q u) (sh1 .states) e in
       let o = and-right (leads h1 (sh1 .states) s u) _ d in
       let (i, k, f) = any-at (λ (i : ℕ). eqb (from h1 i) u && (eqb (label h1 i) a && eqb (mapped m (to h1 i)) q)) (count h1) (and-right (eqb (mapped m u) (mapped m s)) _ o) in
-      let g = and-right (eqb (from h1 i) u) _ f in
-      (u, to h1 i, leads-iff ranged s u .0 (and-left (leads h1 (sh1 .states) s u) _ d), eqb-true _ _ (and-left (eqb (mapped m u) (mapped m s)) _ o),
-      place-has h1 u a (to h1 i) (record {
-        at = i;
-        within = k;
-        from-is = eqb-true _ _ (and-left (eqb (from h1 i) u) _ f);
-        label-is = eqb-true _ _ (and-left (eqb (label h1 i) a) _ g);
-        to-is = refl;
-      }), eqb-true _ _ (and-right (eqb (label h1 i) a) _ g))
+      let g = and-right (eqb (from h1 i) u) _ f in (
+        u,
+        to h1 i,
+        leads-iff ranged s u .0 (and-left (leads h1 (sh1 .states) s u) _ d),
+        eqb-true _ _ (and-left (eqb (mapped m u) (mapped m s)) _ o),
+        place-has h1 u a (to h1 i) (record {
+          at = i;
+          within = k;
+          from-is = eqb-true _ _ (and-left (eqb (from h1 i) u) _ f);
+          label-is = eqb-true _ _ (and-left (eqb (label h1 i) a) _ g);
+          to-is = refl;
+        }),
+        eqb-true _ _ (and-right (eqb (label h1 i) a) _ g),
+      )
 
   says-backed : (s a q : ℕ) → Back (HopOf h1) (mapped m) s a q → backed sh1 h1 m s (mapped m s) a q ≡ true
   unfolding backed offers
@@ -141,8 +146,11 @@ module _ (sh1 sh2 : Shape) (h1 h2 m : List ℕ) (ranged : InRange sh1 h1) where
   faultless-zero : Faultless sh1 sh2 h1 h2 m → faultsOf sh1 sh2 h1 h2 m ≡ 0
   unfolding faultsOf initialFault lostFaults madeUpFaults
   faultless-zero f =
-      rw (eq-eqb _ _ (f .joins), tally-zero (λ (i : ℕ). not (kept h1 h2 m i)) (count h1) second,
-      total-zero (λ (j : ℕ). tally (sh1 .states) (madeUp sh1 h1 h2 m j)) (count h2) (λ j l. tally-zero (madeUp sh1 h1 h2 m j) (sh1 .states) (λ s k. third j s l k))) where
+      rw (
+        eq-eqb _ _ (f .joins),
+        tally-zero (λ (i : ℕ). not (kept h1 h2 m i)) (count h1) second,
+        total-zero (λ (j : ℕ). tally (sh1 .states) (madeUp sh1 h1 h2 m j)) (count h2) (λ j l. tally-zero (madeUp sh1 h1 h2 m j) (sh1 .states) (λ s k. third j s l k)),
+      ) where
         second : (i : ℕ) → i < count h1 → not (kept h1 h2 m i) ≡ false
         second i l = not-yes (says-kept h1 h2 m i (f .fore (from h1 i) (label h1 i) (to h1 i) (has-at h1 l)))
 
@@ -190,9 +198,10 @@ module _ (sh1 sh2 : Shape) (h1 h2 m : List ℕ) (ranged : InRange sh1 h1) where
 -- the audit's count is 0 exactly when the map is a branching bisimulation that joins the initial states
 pub zero-means : (sh1 sh2 : Shape) (h1 h2 m : List ℕ) → Admitted sh1 h1 → Admitted sh2 h2 → AdmittedMap sh1 sh2 m →
     (faultsOf sh1 sh2 h1 h2 m ≡ 0) ↔ (BranchingBisimulation h1 h2 (MapRelation sh1 m) × JoinsInitial sh1 sh2 (MapRelation sh1 m))
-zero-means sh1 sh2 h1 h2 m a1 a2 fit =
-    (λ z. (let f = zero-faultless sh1 sh2 h1 h2 m (a1 .range) z in (faultless-bisimulation sh1 sh2 h1 h2 m (a1 .range) f, (a1 .initial-in, f .joins))),
-    λ b. faultless-zero sh1 sh2 h1 h2 m (a1 .range) (bisimulation-faultless sh1 sh2 h1 h2 m (a1 .range) b))
+zero-means sh1 sh2 h1 h2 m a1 a2 fit = (
+  λ z. (let f = zero-faultless sh1 sh2 h1 h2 m (a1 .range) z in (faultless-bisimulation sh1 sh2 h1 h2 m (a1 .range) f, (a1 .initial-in, f .joins))),
+  λ b. faultless-zero sh1 sh2 h1 h2 m (a1 .range) (bisimulation-faultless sh1 sh2 h1 h2 m (a1 .range) b),
+)
 
 -- a map that agrees with one that reduces graph 1 to graph 2, and joins the initial states, has no faults
 pub reduces-zero : (sh1 sh2 : Shape) (h1 h2 m : List ℕ) → InRange sh1 h1 → {f : ℕ → ℕ} → Reduces (HopOf h1) (HopOf h2) f →
