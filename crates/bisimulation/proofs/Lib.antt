@@ -1,2 +1,4 @@
 pub mod Meaning
 pub mod Bound
+pub mod Keeping
+pub mod Ticking

@@ -1,3 +1,4 @@
 pub mod Faults
 pub mod Bisimulation
 pub mod Auditing
+pub mod Ticks

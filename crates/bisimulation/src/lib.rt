@@ -1,4 +1,7 @@
 // Auditing: the fault count of a map between two graphs, and the entry `audit`.
+pub mod lost; // lost.rt: the first two sums, by the hops of graph 1
+pub mod made_up; // made_up.rt: the third sum, by the states of graph 1
+pub mod auditing; // auditing.rt: rows 7 and 8, and the entry `audit`
 
 // What `audit` returns: the answer, and the number of faults (0 with a refusal).
 pub struct Audit {
