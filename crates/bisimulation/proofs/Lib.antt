@@ -2,3 +2,4 @@ pub mod Meaning
 pub mod Bound
 pub mod Keeping
 pub mod Ticking
+pub mod Answering

@@ -1,17 +1,18 @@
 -- Ticking: a stamp stands at a place of graph 2 exactly where some hop of graph 1 ticks it, and a hop of graph 2 that is not ticked from s is
 -- one that s does not back. Stamps that begin below k tell by equality with k. Assumes nothing.
-use Prim.Native.Nat.{ℕ, zero, suc, _+_, _<_, _≤_}
+use Prim.Native.Nat.{ℕ, _+_, _*_, _<_, _≤_}
 use mathlib.Core.Path.{_≡_, refl, sym, ap, _∙_}
 use mathlib.Core.Bool.{Bool, true, false, cond, not, _&&_, _||_}
 use mathlib.Core.List.{List, _++_}
 use mathlib.Core.Logic.{_⊎_, inl, inr, ⊎-elim}
+use native.Mathlib.Nat.{mul-le-mul}
 use native.Mathlib.Numerals.{add-one}
 use native.Mathlib.Omega.{arith}
 use borrow.Author.Tests.{eq-eqb, ne-eqb, eqb-true}
-use lib.ListN.{length, getD, set, List·getD-append, length-set}
+use lib.ListN.{length, getD, set, replicate, getD-replicate, List·getD-append}
 use lib.Seq.{getD-set-same, getD-set-other}
 use lib.Dec.{eqb}
-use Rattle.graph.specs.Tests.{any, tally, listed}
+use Rattle.graph.specs.Tests.{any, tally, listed, total}
 use Rattle.graph.specs.Hops.{count, from, label, to, hopAt, is, has}
 use Rattle.graph.specs.Order.{Ascending}
 use Rattle.graph.specs.Search.{placed}
@@ -21,14 +22,14 @@ use Rattle.graph.specs.declared.Shape.{Shape}
 use Rattle.graph.specs.declared.Found.{Found}
 use Rattle.graph.specs.declared.Found.the-variants.{At, Gap}
 use Rattle.graph.proofs.Bools.{clash, decided, eq-or-not, no-test, same-test, and-yes, and-left, and-right}
-use Rattle.graph.proofs.Tests.{any-found, any-at, any-never, length-listed, getD-listed, tally-same}
+use Rattle.graph.proofs.Tests.{any-found, any-at, any-never, length-listed, getD-listed, tally-same, tally-within, total-most, total-exchange}
 use Rattle.graph.proofs.Places.{is-yes, is-from, is-label, is-to}
 use Rattle.graph.proofs.Ordered.{ascending-place}
 use Rattle.graph.proofs.Lookup.{at-place, gap-has}
 use Rattle.silent.specs.Silent.{leads}
 use Rattle.silent.specs.Reach.{noted, reached}
-use Rattle.bisimulation.specs.Faults.{mapped, offers, backed, matched, madeUp}
-use Rattle.bisimulation.specs.Ticks.{Auditable, leaves, mappedHop, ticks, stampAt, tickedBy, TickedBy, unticked, Fresh}
+use Rattle.bisimulation.specs.Faults.{mapped, offers, backed, matched, madeUp, madeUpFaults}
+use Rattle.bisimulation.specs.Ticks.{leaves, mappedHop, ticks, stampAt, tickedBy, TickedBy, unticked, Fresh, madeUpOf}
 
 -- the hop at a place where `is` passes
 is-hop : (hs : List ℕ) (h : Hop) (j : ℕ) → is hs (h .from) (h .label) (h .to) j ≡ true → hopAt hs j ≡ h
@@ -60,10 +61,6 @@ module _ (h2 : List ℕ) (up : Ascending h2) (h : Hop) (k : ℕ) (stamps : List 
   stamp-at = stamp-found (placed h2 h) refl
 
 module _ (h1 h2 m seen : List ℕ) (r k : ℕ) where
-  pub length-stamp : (stamps : List ℕ) (f : Found) → length (stampAt stamps k f) ≡ length stamps
-  length-stamp stamps (At p) = length-set stamps p k
-  length-stamp stamps (Gap p) = refl
-
   -- the ways out of one tick
   module _ (i : ℕ) {u v : ℕ} (eu : u ≡ from h1 i) (ev : v ≡ mapped m u) (stamps : List ℕ) where
     pub tick-yes : (eqb (getD seen u 0) 1 && eqb v r) ≡ true → {a q : ℕ} {after : List ℕ} → a ≡ label h1 i → q ≡ mapped m (to h1 i) →
@@ -165,35 +162,62 @@ stamp-told : (x : Bool) (k b : ℕ) → b < k → eqb (cond x k b) k ≡ x
 stamp-told true k b l = eq-eqb k k refl
 stamp-told false k b l = ne-eqb b k (λ e. omega arith)
 
-module _ (sh1 : Shape) (h1 h2 m : List ℕ) (ranged : InRange sh1 h1) (s : ℕ) (rest before after : List ℕ)
-    (ticked : TickedBy h1 h2 m (reached h1 (sh1 .states) s ++ rest) (mapped m s) (s + 1) (count h1) before after)
+-- r is the map of s, and `seen` what the search from s left: then the count of what is not ticked is the count of the faults of s
+module _ (sh1 : Shape) (h1 h2 m : List ℕ) (ranged : InRange sh1 h1) (s : ℕ) (rest : List ℕ) {r : ℕ} (er : r ≡ mapped m s) {seen : List ℕ}
+    (es : seen ≡ reached h1 (sh1 .states) s ++ rest) (before after : List ℕ) (ticked : TickedBy h1 h2 m seen r (s + 1) (count h1) before after)
     (fresh : Fresh h2 before (s + 1)) where
-  unticked-made-up : (j : ℕ) → j < count h2 → unticked h2 after (mapped m s) (s + 1) j ≡ madeUp sh1 h1 h2 m j s
-  unfolding unticked madeUp matched TickedBy Fresh
-  unticked-made-up j l = go (decided (eqb (mapped m s) (from h2 j))) where
-    hits : Bool
-    hits = any (count h1) (ticks h1 h2 m (reached h1 (sh1 .states) s ++ rest) (mapped m s) j)
+  abbrev hits : ℕ → Bool
+  hits j = any (count h1) (ticks h1 h2 m (reached h1 (sh1 .states) s ++ rest) (mapped m s) j)
 
-    loop : Bool
-    loop = eqb (label h2 j) 0 && eqb (from h2 j) (to h2 j)
+  abbrev loop : ℕ → Bool
+  loop j = eqb (label h2 j) 0 && eqb (from h2 j) (to h2 j)
 
+  stamped : (j : ℕ) → j < count h2 → getD after j 0 ≡ cond (hits j) (s + 1) (getD before j 0)
+  unfolding TickedBy
+  stamped j l = rw (er, es) at (ticked j l)
+
+  unticked-made-up : (j : ℕ) → j < count h2 → unticked h2 after r (s + 1) j ≡ madeUp sh1 h1 h2 m j s
+  unfolding unticked madeUp matched Fresh
+  unticked-made-up j l = rw er (go (decided (eqb (mapped m s) (from h2 j)))) where
     go : (eqb (mapped m s) (from h2 j) ≡ true) ⊎ (eqb (mapped m s) (from h2 j) ≡ false) →
-        (eqb (mapped m s) (from h2 j) && not (loop || eqb (getD after j 0) (s + 1))) ≡
-        (eqb (mapped m s) (from h2 j) && not (loop || backed sh1 h1 m s (from h2 j) (label h2 j) (to h2 j)))
+        (eqb (mapped m s) (from h2 j) && not (loop j || eqb (getD after j 0) (s + 1))) ≡
+        (eqb (mapped m s) (from h2 j) && not (loop j || backed sh1 h1 m s (from h2 j) (label h2 j) (to h2 j)))
     go (inl e) =
-        ap (λ (x : Bool). eqb (mapped m s) (from h2 j) && not (loop || x))
-        (ap (λ (b : ℕ). eqb b (s + 1)) (ticked j l) ∙ stamp-told hits (s + 1) (getD before j 0) (fresh j l) ∙
+        ap (λ (x : Bool). eqb (mapped m s) (from h2 j) && not (loop j || x))
+        (ap (λ (b : ℕ). eqb b (s + 1)) (stamped j l) ∙ stamp-told (hits j) (s + 1) (getD before j 0) (fresh j l) ∙
         ticked-backed sh1 h1 h2 m ranged s rest j (eqb-true _ _ e))
     go (inr e) = rw e
 
-  -- the count of what is not ticked is the count of the faults of s
-  pub unticked-count : tally (count h2) (unticked h2 after (mapped m s) (s + 1)) ≡ tally (count h2) (λ (j : ℕ). madeUp sh1 h1 h2 m j s)
-  unticked-count = tally-same (unticked h2 after (mapped m s) (s + 1)) (λ (j : ℕ). madeUp sh1 h1 h2 m j s) (count h2) unticked-made-up
+  pub counted-made-up : {x : ℕ} → x ≡ tally (count h2) (unticked h2 after r (s + 1)) → x ≡ madeUpOf sh1 h1 h2 m s
+  unfolding madeUpOf
+  counted-made-up e = e ∙ tally-same (unticked h2 after r (s + 1)) (λ (j : ℕ). madeUp sh1 h1 h2 m j s) (count h2) unticked-made-up
 
   -- the next stamp is fresh
   pub fresh-next : Fresh h2 after (s + 1 + 1)
-  unfolding TickedBy Fresh
-  fresh-next j l = rw (ticked j l) (go (any (count h1) (ticks h1 h2 m (reached h1 (sh1 .states) s ++ rest) (mapped m s) j)) (fresh j l)) where
+  unfolding Fresh
+  fresh-next j l = rw (stamped j l) (go (hits j) (fresh j l)) where
     go : (x : Bool) → getD before j 0 < s + 1 → cond x (s + 1) (getD before j 0) < s + 1 + 1
     go true h = omega arith
     go false h = omega arith
+
+-- stamps that are all 0 are fresh for 1
+pub fresh-start : (h2 : List ℕ) (n : ℕ) → count h2 ≤ n → Fresh h2 (replicate n 0) 1
+unfolding Fresh
+fresh-start h2 n room j l = rw (getD-replicate {A = ℕ} n j 0 0 (omega arith)) (omega arith)
+
+-- the third sum by states
+module _ (sh1 : Shape) (h1 h2 m : List ℕ) where
+  pub by-states : total (sh1 .states) (madeUpOf sh1 h1 h2 m) ≡ madeUpFaults sh1 h1 h2 m
+  unfolding madeUpFaults madeUpOf
+  by-states = sym (total-exchange (madeUp sh1 h1 h2 m) (count h2) (sh1 .states))
+
+  made-up-of-most : (s : ℕ) → madeUpOf sh1 h1 h2 m s ≤ count h2
+  unfolding madeUpOf
+  made-up-of-most s = tally-within (λ (j : ℕ). madeUp sh1 h1 h2 m j s) (count h2)
+
+  -- a sum over some of the states, and one more, fits
+  pub partial-most : (s : ℕ) → s ≤ 1024 → count h2 ≤ 4096 → total s (madeUpOf sh1 h1 h2 m) + madeUpOf sh1 h1 h2 m s ≤ 4198400
+  partial-most s l k =
+      let most : total s (madeUpOf sh1 h1 h2 m) ≤ s * count h2 = total-most (madeUpOf sh1 h1 h2 m) (count h2) s (λ j h. made-up-of-most j) in
+      let pairs : s * count h2 ≤ 1024 * 4096 = mul-le-mul l k in
+      omega (arith, made-up-of-most s)

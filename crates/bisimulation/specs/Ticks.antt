@@ -6,7 +6,7 @@ use mathlib.Core.Bool.{Bool, cond, not, _&&_, _||_}
 use mathlib.Core.List.{List}
 use lib.ListN.{length, getD, set}
 use lib.Dec.{eqb}
-use Rattle.graph.specs.Tests.{any}
+use Rattle.graph.specs.Tests.{any, tally}
 use Rattle.graph.specs.Hops.{count, from, label, to, is}
 use Rattle.graph.specs.Order.{Ascending}
 use Rattle.graph.specs.Search.{placed}
@@ -16,7 +16,7 @@ use Rattle.graph.specs.declared.Shape.{Shape}
 use Rattle.graph.specs.declared.Found.{Found}
 use Rattle.graph.specs.declared.Found.the-variants.{At, Gap}
 use Rattle.silent.specs.Reach.{noted}
-use Rattle.bisimulation.specs.Faults.{mapped}
+use Rattle.bisimulation.specs.Faults.{mapped, madeUp}
 
 -- what the count asks of the two hop lists and the map, once the audit has admitted them
 pub record Auditable (sh1 : Shape) (h1 h2 m : List ℕ) : Type 0 where
@@ -58,3 +58,7 @@ unticked h2 stamps r k j = eqb r (from h2 j) && not ((eqb (label h2 j) 0 && eqb 
 -- no hop of graph 2 has the stamp k or a later one
 unfoldable pub Fresh : List ℕ → List ℕ → ℕ → Type 0
 Fresh h2 stamps k = (j : ℕ) → j < count h2 → getD stamps j 0 < k
+
+-- the faults of the pairs of a hop of graph 2 and the state s: the third sum is the sum of these
+unfoldable pub madeUpOf : Shape → List ℕ → List ℕ → List ℕ → ℕ → ℕ
+madeUpOf sh1 h1 h2 m s = tally (count h2) (λ (j : ℕ). madeUp sh1 h1 h2 m j s)

@@ -14,14 +14,14 @@ use graph::mapping::map_at;
 use graph::search::find;
 use silent::reach::reach;
 ghost use mathlib.Core.Path.{_≡_};
-ghost use Prim.Native.Nat.{ℕ, _+_, _<_, _≤_};
+ghost use Prim.Native.Nat.{_+_, _<_, _≤_};
 ghost use lib.ListN.{length};
 ghost use Rattle.graph.specs.Tests.{tally};
 ghost use Rattle.graph.specs.Hops.{count};
 ghost use Rattle.graph.specs.Order.{Ascending};
 ghost use Rattle.graph.specs.Search.{placed};
-ghost use Rattle.bisimulation.specs.Faults.{madeUp, madeUpFaults};
-ghost use Rattle.bisimulation.specs.Ticks.{Auditable, stampAt, tickedBy, TickedBy, unticked, Fresh};
+ghost use Rattle.bisimulation.specs.Faults.{madeUpFaults};
+ghost use Rattle.bisimulation.specs.Ticks.{Auditable, stampAt, tickedBy, TickedBy, unticked, Fresh, madeUpOf};
 
 // Ticks the hop h of graph 2, if it is there.
 fn stamp(hops2: &[u16], stamps: &mut [u16], h: Hop, k: u16)
@@ -127,7 +127,7 @@ fn made_up_of(
     stamps: &mut [u16],
 ) -> u32
     requires { ⌜ Auditable shape1 (now hops1) (now hops2) (now map) ⌝ ∗ ⌜ s .0 < shape1 .states ⌝ ∗ ⌜ (shape1 .states ≤ length (now seen)) × (shape1 .states ≤ length (now queue)) ⌝ ∗ ⌜ count (now hops2) ≤ length (now stamps) ⌝ ∗ ⌜ Fresh (now hops2) (now stamps) (s .0 + 1) ⌝ }
-    ensures counts { λ r. ⌜ r ≡ tally (count (now (hops2 .entry))) (λ (j : ℕ). madeUp shape1 (now (hops1 .entry)) (now (hops2 .entry)) (now (map .entry)) j (s .0)) ⌝ }
+    ensures counts { λ r. ⌜ r ≡ madeUpOf shape1 (now (hops1 .entry)) (now (hops2 .entry)) (now (map .entry)) (s .0) ⌝ }
     ensures fresh { λ r. ⌜ Fresh (now (hops2 .entry)) (now (stamps .exit)) (s .0 + 1 + 1) ⌝ }
 {
     let r = map_at(map, s);
