@@ -9,7 +9,7 @@ use native.Mathlib.Omega.{arith}
 use lib.Dec.{eqb}
 use Rattle.graph.specs.Tests.{tally, total}
 use Rattle.graph.specs.Hops.{count}
-use Rattle.graph.specs.Check.{Admitted}
+use Rattle.graph.specs.Check.{most-states, most-hops, Admitted}
 use Rattle.graph.specs.declared.Shape.{Shape}
 use Rattle.graph.proofs.Tests.{tally-within, total-most}
 use Rattle.bisimulation.specs.Faults.{mapped, initialFault, kept, lostFaults, madeUp, madeUpFaults, faultsOf}
@@ -30,12 +30,14 @@ unfolding madeUpFaults
 made-up-most sh1 h1 h2 m =
     total-most (λ (j : ℕ). tally (sh1 .states) (madeUp sh1 h1 h2 m j)) (sh1 .states) (count h2) (λ j l. tally-within (madeUp sh1 h1 h2 m j) (sh1 .states))
 
-pub faults-within : (sh1 sh2 : Shape) (h1 h2 m : List ℕ) → faultsOf sh1 sh2 h1 h2 m ≤ 1 + count h1 + count h2 * sh1 .states
-unfolding faultsOf
-faults-within sh1 sh2 h1 h2 m = omega (arith, initial-most sh1 sh2 m, lost-most h1 h2 m, made-up-most sh1 h1 h2 m)
+-- the third sum of admitted graphs
+pub made-up-few : (sh1 : Shape) (h1 h2 m : List ℕ) → sh1 .states ≤ most-states → count h2 ≤ most-hops → madeUpFaults sh1 h1 h2 m ≤ 4194304
+made-up-few sh1 h1 h2 m l k =
+    let pairs : count h2 * sh1 .states ≤ 4096 * 1024 = mul-le-mul k l in
+    omega (arith, made-up-most sh1 h1 h2 m)
 
 -- "At most 4,198,401."
 pub faults-most : (sh1 sh2 : Shape) (h1 h2 m : List ℕ) → Admitted sh1 h1 → Admitted sh2 h2 → faultsOf sh1 sh2 h1 h2 m ≤ 4198401
+unfolding faultsOf
 faults-most sh1 sh2 h1 h2 m a1 a2 =
-    let pairs : count h2 * sh1 .states ≤ 4096 * 1024 = mul-le-mul (a2 .hops-most) (a1 .states-most) in
-    omega (arith, faults-within sh1 sh2 h1 h2 m)
+    omega (arith, initial-most sh1 sh2 m, lost-most h1 h2 m, made-up-few sh1 h1 h2 m (a1 .states-most) (a2 .hops-most))

@@ -18,11 +18,12 @@ module _ (sh1 sh2 : Shape) (m : List ℕ) {r : ℕ} (e : r ≡ mapped m (sh1 .in
   unfolding initialFault
   initial-parted d = rw (ne-eqb _ _ (λ q. d (e ∙ q)))
 
-module _ (h1 h2 m : List ℕ) (i : ℕ) {r a q : ℕ} (er : r ≡ mapped m (from h1 i)) (ea : a ≡ label h1 i) (eq : q ≡ mapped m (to h1 i)) where
+module _ (h1 h2 m : List ℕ) (i : ℕ) {u r a t q : ℕ} (eu : u ≡ from h1 i) (er : r ≡ mapped m u) (ea : a ≡ label h1 i) (et : t ≡ to h1 i)
+    (eq : q ≡ mapped m t) where
   pub kept-silent : (eqb a 0 && eqb r q) ≡ true → true ≡ kept h1 h2 m i
   unfolding kept
-  kept-silent d = rw (← er, ← ea, ← eq, d)
+  kept-silent d = rw (← eu, ← er, ← ea, ← et, ← eq, d)
 
   pub kept-hop : (eqb a 0 && eqb r q) ≡ false → {x : Bool} → x ≡ has h2 r a q → x ≡ kept h1 h2 m i
   unfolding kept
-  kept-hop d e = rw (← er, ← ea, ← eq, d) e
+  kept-hop d e = rw (← eu, ← er, ← ea, ← et, ← eq, d) e

@@ -63,10 +63,10 @@ module _ (h2 : List ℕ) (up : Ascending h2) (h : Hop) (k : ℕ) (stamps : List 
 module _ (h1 h2 m seen : List ℕ) (r k : ℕ) where
   -- the ways out of one tick
   module _ (i : ℕ) {u v : ℕ} (eu : u ≡ from h1 i) (ev : v ≡ mapped m u) (stamps : List ℕ) where
-    pub tick-yes : (eqb (getD seen u 0) 1 && eqb v r) ≡ true → {a q : ℕ} {after : List ℕ} → a ≡ label h1 i → q ≡ mapped m (to h1 i) →
+    pub tick-yes : (eqb (getD seen u 0) 1 && eqb v r) ≡ true → {a t q : ℕ} {after : List ℕ} → a ≡ label h1 i → t ≡ to h1 i → q ≡ mapped m t →
         after ≡ stampAt stamps k (placed h2 (record { from = r; label = a; to = q })) → after ≡ tickedBy h1 h2 m seen r k i stamps
     unfolding tickedBy leaves noted
-    tick-yes e ea eq d = rw (← eu, ← ev, e, ← ea, ← eq) d
+    tick-yes e ea et eq d = rw (← eu, ← ev, e, ← ea, ← et, ← eq) d
 
     pub tick-no : (eqb (getD seen u 0) 1 && eqb v r) ≡ false → stamps ≡ tickedBy h1 h2 m seen r k i stamps
     unfolding tickedBy leaves noted

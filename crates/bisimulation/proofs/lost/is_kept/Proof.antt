@@ -1,8 +1,6 @@
 -- `bisimulation::lost::is_kept` meets its contract: its two ways out are the two parts of the definition. Assumes nothing.
 use borrow.Author.Needs.{needs}
-use mathlib.Core.Path.{ap, _∙_}
 use native.Mathlib.Omega.{arith}
-use Rattle.bisimulation.specs.Faults.{mapped}
 use Rattle.bisimulation.proofs.Keeping.{kept-silent, kept-hop}
 use Rattle.bisimulation.proofs.lost.is_kept.Statement.{statement}
 use Rattle.bisimulation.proofs.lost.is_kept.Tie as tie
@@ -24,16 +22,16 @@ map-at-requires-2 c κs = omega (arith, c .before .before .before .before .befor
 
 returns : tie.Need-returns
 returns c = let a = c .before .before .before .before .before .before in
-    kept-silent _ _ _ _ (a .before .map-at .ensures ∙ ap (mapped _) (a .before .before .from-at .ensures)) (a .label-at .ensures)
-    (c .before .before .before .before .map-at2 .ensures ∙ ap (mapped _) (c .before .before .before .before .before .to-at .ensures)) (c .if1 .taken)
+    kept-silent _ _ _ _ (a .before .before .from-at .ensures) (a .before .map-at .ensures) (a .label-at .ensures)
+    (c .before .before .before .before .before .to-at .ensures) (c .before .before .before .before .map-at2 .ensures) (c .if1 .taken)
 
 has-hop-requires : tie.Need-has-hop-requires
 has-hop-requires c κs = search needs
 
 returns-2 : tie.Need-returns-2
 returns-2 c = let a = c .before .before .before .before .before .before .before in
-    kept-hop _ _ _ _ (a .before .map-at .ensures ∙ ap (mapped _) (a .before .before .from-at .ensures)) (a .label-at .ensures)
-    (c .before .before .before .before .before .map-at2 .ensures ∙ ap (mapped _) (c .before .before .before .before .before .before .to-at .ensures)) (c .before .if1 .left)
+    kept-hop _ _ _ _ (a .before .before .from-at .ensures) (a .before .map-at .ensures) (a .label-at .ensures)
+    (c .before .before .before .before .before .before .to-at .ensures) (c .before .before .before .before .before .map-at2 .ensures) (c .before .if1 .left)
     (c .has-hop .ensures)
 
 pub is-kept-spec : {M : Type 1} → statement M

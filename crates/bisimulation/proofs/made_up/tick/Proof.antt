@@ -1,10 +1,8 @@
 -- `bisimulation::made_up::tick` meets its contract: its two ways out are the two cases of the definition. Assumes nothing.
 use borrow.Author.Needs.{needs}
 use Prim.Native.Nat.{_<_}
-use mathlib.Core.Path.{ap, _∙_}
 use native.Mathlib.Omega.{arith}
 use lib.ListN.{length}
-use Rattle.bisimulation.specs.Faults.{mapped}
 use Rattle.bisimulation.proofs.Ticking.{tick-yes, tick-no}
 use Rattle.bisimulation.proofs.made_up.tick.Statement.{statement}
 use Rattle.bisimulation.proofs.made_up.tick.Tie as tie
@@ -46,7 +44,7 @@ same-length c = search needs
 returns : tie.Need-returns
 returns c = let a = c .before .before .before .before .before .before .before .before .before .before in
     tick-yes _ _ _ _ _ _ _ (a .before .before .before .from-at .ensures) (a .map-at .ensures) _ (c .before .before .before .before .before .before .before .if1 .taken) (c .before .before .before .before .before .before .label-at .ensures)
-    (c .before .before .before .before .map-at2 .ensures ∙ ap (mapped _) (c .before .before .before .before .before .to-at .ensures)) (c .before .before .stamp .ensures)
+    (c .before .before .before .before .before .to-at .ensures) (c .before .before .before .before .map-at2 .ensures) (c .before .before .stamp .ensures)
 
 returns-2 : tie.Need-returns-2
 returns-2 c = tick-no _ _ _ _ _ _ _ (c .before .before .before .before .before .before .from-at .ensures) (c .before .before .before .map-at .ensures) _ (c .if1 .left)
