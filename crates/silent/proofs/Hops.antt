@@ -49,11 +49,12 @@ module _ (hs : List ℕ) where
   module _ (up : Ascending hs) where
     pub silent-within : (s i : ℕ) → i < count hs → silentFrom hs s i ≡ true → (firstOf hs s ≤ i) × (i < silentPast hs s)
     unfolding silentPast
-    silent-within s i l e =
-        (range-holds hs up s l (silent-from-from s i e) .0,
-          ltb-true _ _ (lower-law hs (past s) up l ∙ below-before (hopAt hs i) (past s) (inr (silent-from-from s i e, inl (omega (arith, silent-from-label s i e)))))) where
-          past : ℕ → Hop
-          past s = record { from = s; label = 1; to = 0 }
+    silent-within s i l e = (
+      range-holds hs up s l (silent-from-from s i e) .0,
+      ltb-true _ _ (lower-law hs (past s) up l ∙ below-before (hopAt hs i) (past s) (inr (silent-from-from s i e, inl (omega (arith, silent-from-label s i e))))),
+    ) where
+      past : ℕ → Hop
+      past s = record { from = s; label = 1; to = 0 }
 
     pub silent-only : (s i : ℕ) → i < count hs → firstOf hs s ≤ i → i < silentPast hs s → silentFrom hs s i ≡ true
     unfolding silentPast

@@ -4,3 +4,5 @@ pub mod Rings
 pub mod Front
 pub mod Spread
 pub mod Search
+pub mod Ranking
+pub mod Closing

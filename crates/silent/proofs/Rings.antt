@@ -1,23 +1,22 @@
 -- What the answer of row 5 says of rings; and without rings, a rank that falls along every silent hop: the number of states that a state leads to.
 -- Assumes nothing.
-use Prim.Native.Nat.{ℕ, suc, _<_, _≤_}
-use mathlib.Core.Path.{_≡_, refl, sym, ap, _∙_}
+use Prim.Native.Nat.{ℕ, _<_, _≤_}
+use mathlib.Core.Path.{_≡_, refl}
 use mathlib.Core.Bool.{Bool, true, false, cond, _&&_}
 use mathlib.Core.List.{List}
-use mathlib.Core.Logic.{_⊎_, inl, inr, ⊎-elim, _↔_}
+use mathlib.Core.Logic.{⊎-elim, _↔_}
 use native.Mathlib.Omega.{arith}
-use borrow.Author.Tests.{ltb-true, ltb-false, lt-ltb, le-ltb}
+use borrow.Author.Tests.{ltb-false, le-ltb}
 use lib.Dec.{ltb}
-use Rattle.graph.specs.Tests.{any, least, tally}
+use Rattle.graph.specs.Tests.{tally}
 use Rattle.graph.specs.Hops.{count, to}
 use Rattle.graph.specs.Check.{InRange, refused, accepted}
 use Rattle.graph.specs.declared.Shape.{Shape}
-use Rattle.graph.specs.declared.Answer.{Answer}
 use Rattle.graph.proofs.Bools.{clash, and-left, and-right, and-yes, no-test, lt-or-le}
-use Rattle.graph.proofs.Tests.{any-at, any-found, least-passes, least-before, least-within, least-is, tally-less}
-use Rattle.lts.specs.Star.{Star, stay, go}
-use Rattle.silent.specs.Silent.{SilentOf, Leads, OnRing, silentFrom, leads, onRing, lowestOnRing, ringless}
-use Rattle.silent.proofs.Hops.{silent-here, silent-place, silent-start, silent-end}
+use Rattle.graph.proofs.Tests.{any-at, any-found, least-passes, least-before, least-is, tally-less}
+use Rattle.lts.specs.Star.{go}
+use Rattle.silent.specs.Silent.{SilentOf, OnRing, silentFrom, leads, onRing, lowestOnRing, ringless}
+use Rattle.silent.proofs.Hops.{silent-here, silent-place, silent-start}
 use Rattle.silent.proofs.Leads.{leads-self, leads-walk, walk-leads}
 
 -- the hop at place i, and a way back
@@ -27,9 +26,11 @@ back hs n s i = silentFrom hs s i && leads hs n (to hs i) s
 pub ring-walk : (hs : List ℕ) (n s : ℕ) → onRing hs n s ≡ true → OnRing hs s
 unfolding onRing
 ring-walk hs n s h =
-    let (i, l, e) = any-at (back hs n s) (count hs) h in
-    (to hs i, silent-here hs s i l (and-left (silentFrom hs s i) (leads hs n (to hs i) s) e),
-      leads-walk hs n (to hs i) s (and-right (silentFrom hs s i) (leads hs n (to hs i) s) e))
+    let (i, l, e) = any-at (back hs n s) (count hs) h in (
+      to hs i,
+      silent-here hs s i l (and-left (silentFrom hs s i) (leads hs n (to hs i) s) e),
+      leads-walk hs n (to hs i) s (and-right (silentFrom hs s i) (leads hs n (to hs i) s) e),
+    )
 
 module _ {sh : Shape} {hs : List ℕ} (ranged : InRange sh hs) where
   pub walk-ring : (s : ℕ) → OnRing hs s → onRing hs (sh .states) s ≡ true

@@ -43,15 +43,15 @@ module _ {sh : Shape} {hs : List ℕ} {v lo hi : ℕ} (r : Range sh hs v lo hi) 
       (p : Passed hs (sh .states) v lo i seen queue tail seen₁ queue₁ tail₁) where
     passed-next : lo ≤ i → i < hi →
         Passed hs (sh .states) v lo (i + 1) seen queue tail (seenWith seen₁ (to hs i)) (queueWith seen₁ queue₁ tail₁ (to hs i)) (tailWith seen₁ tail₁ (to hs i))
-    passed-next l m = record
-        { grown = grown-note hs (sh .states) v (p .grown) (to hs i) (end-within i m)
-            (silent-here hs v i (place-within i m)
-            (silent-only hs (r .admitted .ascending) v i (place-within i m) (omega (arith, r .lo-is)) (omega (arith, r .hi-is))))
-        ; ends = λ j a b. ⊎-elim (λ q. ap (λ (k : ℕ). noted (seenWith seen₁ (to hs i)) (to hs k)) q ∙ noted-with seen₁ (to hs i) room)
-            (λ f. noted-kept seen₁ (to hs i) (to hs j) room (p .ends j a (omega arith))) (eq-or-not j i)
-        } where
-          room : to hs i < length seen₁
-          room = omega (arith, end-within i m, p .grown .front .seen-room)
+    passed-next l m = record {
+      grown = grown-note hs (sh .states) v (p .grown) (to hs i) (end-within i m)
+          (silent-here hs v i (place-within i m)
+          (silent-only hs (r .admitted .ascending) v i (place-within i m) (omega (arith, r .lo-is)) (omega (arith, r .hi-is))));
+      ends = λ j a b. ⊎-elim (λ q. ap (λ (k : ℕ). noted (seenWith seen₁ (to hs i)) (to hs k)) q ∙ noted-with seen₁ (to hs i) room)
+          (λ f. noted-kept seen₁ (to hs i) (to hs j) room (p .ends j a (omega arith))) (eq-or-not j i);
+    } where
+      room : to hs i < length seen₁
+      room = omega (arith, end-within i m, p .grown .front .seen-room)
 
     -- the same of what the code has
     pub passed-more : {t : ℕ} {seen₂ queue₂ : List ℕ} {tail₂ : ℕ} → lo ≤ i → i < hi → t ≡ to hs i → seen₂ ≡ seenWith seen₁ t →

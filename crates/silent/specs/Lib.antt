@@ -1,2 +1,3 @@
 pub mod Silent
 pub mod Reach
+pub mod Ring

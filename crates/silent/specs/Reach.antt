@@ -3,13 +3,12 @@
 use Prim.Native.Nat.{ℕ, _+_, _<_, _≤_}
 use mathlib.Core.Path.{_≡_}
 use mathlib.Core.Bool.{Bool, true, false, cond}
-use mathlib.Core.List.{List, _++_}
+use mathlib.Core.List.{List}
 use mathlib.Core.Logic.{_⊎_}
 use lib.ListN.{length, getD, set, drop}
 use lib.Dec.{eqb}
 use Rattle.graph.specs.Tests.{tally, listed}
 use Rattle.graph.specs.Search.{lower}
-use Rattle.graph.specs.declared.Hop.{Hop}
 use Rattle.silent.specs.Silent.{SilentOf, leads}
 
 -- the place past the last silent hop of s, in an ascending list

@@ -28,9 +28,11 @@ loop-less c = omega arith
 
 loop-again : tie.Need-loop-again Inv-loop μ-loop
 loop-again c =
-    let h : c .before .loop .i < length (c .before .before .args .seen .now) = omega arith in
-    (omega arith, simp length-set (c .before .loop .inv .1),
-      ap (λ (l : List ℕ). set l (c .before .loop .i) 0) (c .before .loop .inv .2) ∙ cleared-more (c .before .before .args .seen .now) (c .before .loop .i) h)
+    let h : c .before .loop .i < length (c .before .before .args .seen .now) = omega arith in (
+      omega arith,
+      simp length-set (c .before .loop .inv .1),
+      ap (λ (l : List ℕ). set l (c .before .loop .i) 0) (c .before .loop .inv .2) ∙ cleared-more (c .before .before .args .seen .now) (c .before .loop .i) h,
+    )
 
 same-length : tie.Need-same-length Inv-loop μ-loop
 same-length c = omega arith

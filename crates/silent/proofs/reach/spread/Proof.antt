@@ -12,7 +12,7 @@ use Rattle.silent.proofs.reach.spread.Tie as tie
 abbrev Inv-loop : tie.InvT-loop
 Inv-loop hops seen₀ queue₀ tail past end₀ i₀ seen queue end i =
     (i₀ ≤ i) × ((sh : Shape) (v : ℕ) → Range sh hops v i₀ past → Front (sh .states) seen₀ queue₀ tail →
-      Passed hops (sh .states) v i₀ i seen₀ queue₀ tail seen queue end)
+    Passed hops (sh .states) v i₀ i seen₀ queue₀ tail seen queue end)
 
 abbrev μ-loop : tie.MeasureT-loop
 μ-loop hops seen₀ queue₀ tail past end₀ i₀ seen queue end i = past - i
@@ -44,9 +44,10 @@ to-at-requires c κs = place-within (range (c .before .before .before)) _ (c .be
 note-requires : tie.Need-note-requires Inv-loop μ-loop
 note-requires c κs =
     let a = c .before .before .before .before in
-    let within : c .to-at .result .0 < start a .args .shape .states = rw (c .to-at .ensures) (end-within (range a) _ (c .before .before .before .loop-test .taken)) in
-    (omega (arith, passed a .grown .front .seen-room),
-      λ e. omega (arith, passed a .grown .front .queue-room, front-room (passed a .grown .front) _ within e .0))
+    let within : c .to-at .result .0 < start a .args .shape .states = rw (c .to-at .ensures) (end-within (range a) _ (c .before .before .before .loop-test .taken)) in (
+      omega (arith, passed a .grown .front .seen-room),
+      λ e. omega (arith, passed a .grown .front .queue-room, front-room (passed a .grown .front) _ within e .0),
+    )
 
 add-i : tie.Need-add-i Inv-loop μ-loop
 add-i c =
@@ -59,11 +60,12 @@ loop-less c = omega arith
 loop-again : tie.Need-loop-again Inv-loop μ-loop
 loop-again c =
     let a = c .before .before .before .before .before .before .before .before .before in
-    let n = c .before .before .before .before .note in
-    (omega arith,
+    let n = c .before .before .before .before .note in (
+      omega arith,
       λ sh v r f.
-      passed-more r (a .loop .inv .1 sh v r f) (a .loop .inv .0) (c .before .before .before .before .before .before .before .before .loop-test .taken)
-      (c .before .before .before .before .before .to-at .ensures) (n .ensures .0) (n .ensures .1 .0) (n .ensures .1 .1))
+          passed-more r (a .loop .inv .1 sh v r f) (a .loop .inv .0) (c .before .before .before .before .before .before .before .before .loop-test .taken)
+          (c .before .before .before .before .before .to-at .ensures) (n .ensures .0) (n .ensures .1 .0) (n .ensures .1 .1),
+    )
 
 same-length : tie.Need-same-length Inv-loop μ-loop
 same-length c = passed (c .before) .grown .seen-length
