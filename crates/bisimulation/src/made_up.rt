@@ -50,8 +50,9 @@ fn tick(
     ensures { λ u. ⌜ now (stamps .exit) ≡ tickedBy (now (hops1 .entry)) (now (hops2 .entry)) (now (map .entry)) (now (seen .entry)) (r .0) k i (now (stamps .entry)) ⌝ }
 {
     let u = from_at(hops1, i);
+    let v = map_at(map, u);
     let at = u.0 as usize;
-    if (seen[at] == 1) & (map_at(map, u).0 == r.0) {
+    if (seen[at] == 1) & (v.0 == r.0) {
         let a = label_at(hops1, i);
         let q = map_at(map, to_at(hops1, i));
         stamp(

@@ -3,7 +3,7 @@
 use Prim.Native.Nat.{ℕ, _+_, _-_, _*_, _/_, _%_}
 use mathlib.Core.Bool.{Bool, _&&_}
 use mathlib.Core.List.{List, [], _∷_}
-use lib.ListN.{length, getD, take, drop}
+use lib.ListN.{length, getD, take, drop, take}
 use lib.Dec.{eqb}
 use denote.Ref.{RefT, ptr}
 use Rattle.graph.specs.Tests.{any}
@@ -33,6 +33,10 @@ hopAt hs i = record { from = from hs i; label = label hs i; to = to hs i }
 -- what stands past the end of a list of hops
 abbrev pub noHop : Hop
 noHop = record { from = 0; label = 0; to = 0 }
+
+-- the flat list of the first n hops
+abbrev pub firstHops : ℕ → List ℕ → List ℕ
+firstHops n hs = take (3 * n) hs
 
 -- the flat list of a list of hops
 unfoldable pub flat : List Hop → List ℕ

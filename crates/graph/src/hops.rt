@@ -5,7 +5,7 @@ use super::OldState;
 ghost use mathlib.Core.Path.{_≡_};
 ghost use Prim.Native.Nat.{_<_, _≤_};
 ghost use denote.Ref.{ptr};
-ghost use Rattle.graph.specs.Hops.{count, whole, from, label, to, hopAt, is, between, standsAt};
+ghost use Rattle.graph.specs.Hops.{count, whole, from, label, to, hopAt, is, between, standsAt, firstHops};
 
 // How many hops the list holds.
 pub fn hop_count(hops: &[u16]) -> usize
@@ -71,4 +71,12 @@ pub fn part<'a>(hops: &'a [u16], first: usize, past: usize) -> &'a [u16]
     let a = 3 * first;
     let e = 3 * past;
     &hops[a..e]
+}
+
+// The first n hops, as a part of the list itself.
+pub fn first_hops<'a>(hops: &'a [u16], n: usize) -> &'a [u16]
+    requires { ⌜ n ≤ count (now hops) ⌝ }
+    ensures { λ r. ⌜ now r ≡ firstHops n (now (hops .entry)) ⌝ }
+{
+    &hops[0..3 * n]
 }

@@ -17,14 +17,14 @@ to-inside c = omega (arith, c .before .before .before .before .before .before .b
 from-at-requires : tie.Need-from-at-requires
 from-at-requires c κs = search needs
 
+map-at-requires : tie.Need-map-at-requires
+map-at-requires c κs = omega (arith, from-inside c)
+
 cast-at : tie.Need-cast-at
 cast-at c = search needs
 
 shared-slice-read-if1 : tie.Need-shared-slice-read-if1
-shared-slice-read-if1 c = omega (arith, from-inside (c .before .before))
-
-map-at-requires : tie.Need-map-at-requires
-map-at-requires c κs = omega (arith, from-inside (c .before .before))
+shared-slice-read-if1 c = omega (arith, from-inside (c .before .before .before))
 
 label-at-requires : tie.Need-label-at-requires
 label-at-requires c κs = search needs
@@ -42,21 +42,22 @@ same-length : tie.Need-same-length
 same-length c = search needs
 
 returns : tie.Need-returns
-returns c = let a = c .before .before .before .before .before .before .before .before .before .before in
-    tick-yes _ _ _ _ _ _ _ (a .before .before .before .from-at .ensures) (a .map-at .ensures) _ (c .before .before .before .before .before .before .before .if1 .taken) (c .before .before .before .before .before .before .label-at .ensures)
-    (c .before .before .before .before .before .to-at .ensures) (c .before .before .before .before .map-at2 .ensures) (c .before .before .stamp .ensures)
+returns c =
+    let a = c .before .before .before .before .before .before .before .before .before .before .before .before in
+    tick-yes _ _ _ _ _ _ _ (a .before .from-at .ensures) (a .map-at .ensures) _ (c .before .before .before .before .before .before .before .if1 .taken) (c .before .before .before .before .before .before .label-at .ensures) (c .before .before .before .before .before .to-at .ensures)
+    (c .before .before .before .before .map-at2 .ensures) (c .before .before .stamp .ensures)
 
 returns-2 : tie.Need-returns-2
-returns-2 c = tick-no _ _ _ _ _ _ _ (c .before .before .before .before .before .before .from-at .ensures) (c .before .before .before .map-at .ensures) _ (c .if1 .left)
+returns-2 c = tick-no _ _ _ _ _ _ _ (c .before .before .before .before .before .before .from-at .ensures) (c .before .before .before .before .before .map-at .ensures) _ (c .if1 .left)
 
 pub tick-spec : {M : Type 1} → statement M
 tick-spec =
     tie.close
     (tie.spec
     from-at-requires
+    map-at-requires
     cast-at
     shared-slice-read-if1
-    map-at-requires
     label-at-requires
     to-at-requires
     map-at-requires-2
