@@ -3,3 +3,5 @@ pub mod Bound
 pub mod Keeping
 pub mod Ticking
 pub mod Answering
+pub mod Right
+pub mod Fronts

@@ -6,7 +6,7 @@ use graph::hops::from_at;
 use graph::hops::hop_count;
 use graph::hops::label_at;
 use graph::hops::to_at;
-use graph::mapping::map_at;
+use quotient::renumber::map_at;
 use graph::search::has_hop;
 ghost use mathlib.Core.Path.{_≡_};
 ghost use Prim.Native.Nat.{_<_, _≤_};

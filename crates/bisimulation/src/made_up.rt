@@ -10,7 +10,7 @@ use graph::hops::hop_at;
 use graph::hops::hop_count;
 use graph::hops::label_at;
 use graph::hops::to_at;
-use graph::mapping::map_at;
+use quotient::renumber::map_at;
 use graph::search::find;
 use silent::reach::reach;
 ghost use mathlib.Core.Path.{_≡_};

@@ -5,7 +5,7 @@ use super::OldState;
 ghost use mathlib.Core.Path.{_≡_};
 ghost use Prim.Native.Nat.{_<_, _≤_};
 ghost use denote.Ref.{ptr};
-ghost use Rattle.graph.specs.Hops.{count, whole, from, label, to, hopAt, is, between, standsAt, firstHops};
+ghost use Rattle.graph.specs.Hops.{count, whole, from, label, to, hopAt, put, is, between, standsAt};
 
 // How many hops the list holds.
 pub fn hop_count(hops: &[u16]) -> usize
@@ -62,6 +62,16 @@ pub fn is_hop_at(hops: &[u16], i: usize, h: Hop) -> bool
     (hops[3 * i] == h.from) & ((hops[3 * i + 1] == h.label) & (hops[3 * i + 2] == h.to))
 }
 
+// Writes the hop at the place.
+pub fn put_hop(hops: &mut [u16], i: usize, h: Hop)
+    requires { ⌜ i < count (now hops) ⌝ }
+    ensures { λ _. ⌜ now (hops .exit) ≡ put (now (hops .entry)) i h ⌝ }
+{
+    hops[3 * i] = h.from;
+    hops[3 * i + 1] = h.label;
+    hops[3 * i + 2] = h.to;
+}
+
 // The hops from one place up to another, as a part of the list itself.
 pub fn part<'a>(hops: &'a [u16], first: usize, past: usize) -> &'a [u16]
     requires { ⌜ (first ≤ past) × (past ≤ count (now hops)) ⌝ }
@@ -71,12 +81,4 @@ pub fn part<'a>(hops: &'a [u16], first: usize, past: usize) -> &'a [u16]
     let a = 3 * first;
     let e = 3 * past;
     &hops[a..e]
-}
-
-// The first n hops, as a part of the list itself.
-pub fn first_hops<'a>(hops: &'a [u16], n: usize) -> &'a [u16]
-    requires { ⌜ n ≤ count (now hops) ⌝ }
-    ensures { λ r. ⌜ now r ≡ firstHops n (now (hops .entry)) ⌝ }
-{
-    &hops[0..3 * n]
 }

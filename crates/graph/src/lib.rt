@@ -3,7 +3,6 @@ pub mod hops; // hops.rt: what stands at a place of a flat list
 pub mod order; // order.rt: the one comparison of hops
 pub mod search; // search.rt: the one search, and the places of a state's hops
 pub mod limits; // limits.rt: the entry `check` and its tests
-pub mod mapping; // mapping.rt: the way from old numbers to new ones
 
 // A hop: from one state, by a label, to another. Label 0 is silent.
 pub struct Hop {
