@@ -1,6 +1,6 @@
 -- The fronts of the two outputs of an accepted `reduce` are the map and the short hops, whatever the outputs held before, so the audit of them is
 -- that of `reduce-right`. Assumes nothing.
-use Prim.Native.Nat.{ℕ, _*_, _≤_}
+use Prim.Native.Nat.{ℕ, _-_, _*_, _≤_}
 use mathlib.Core.Path.{_≡_, refl, sym, ap, _∙_}
 use mathlib.Core.Bool.{Bool, true, false, cond}
 use mathlib.Core.List.{List, _++_}
@@ -40,7 +40,7 @@ module _ (sh : Shape) (hs map short : List ℕ) {red : Reduction} (e : red ≡ r
   unfolding reduceOf
   answers = ap (λ (r : Reduction). r .answer) e ∙ go (eqb (answer .number) 0) where
     go : (x : Bool) →
-        cond x (record { answer = answer; shape = shortShape sh hs; hops = length (shortHops sh hs) })
+        cond {A = Reduction} x (record { answer = answer; shape = shortShape sh hs; hops = length (shortHops sh hs) })
         (record { answer = answer; shape = Rattle.quotient.specs.Reduce.noShape; hops = 0 }) .answer ≡ answer
     go true = refl
     go false = refl
@@ -65,7 +65,7 @@ module _ (sh : Shape) (hs map short : List ℕ) {red : Reduction} (e : red ≡ r
 
     front-short : between (shortOutput sh hs map short) 0 (length (shortHops sh hs)) ≡ flat (shortHops sh hs)
     unfolding shortOutput
-    front-short = rw (eq-eqb _ 0 zero) (taken (flat (shortHops sh hs)) (drop (length (flat (shortHops sh hs))) short) (omega (arith, length-flat (shortHops sh hs))))
+    front-short = rw (eq-eqb _ 0 zero) (taken (flat (shortHops sh hs)) (drop (length (flat (shortHops sh hs))) short) {n = 3 * length (shortHops sh hs) - 3 * 0} (omega (arith, length-flat (shortHops sh hs))))
 
     -- both fronts are there
     pub map-there : sh .states ≤ length map

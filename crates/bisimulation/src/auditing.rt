@@ -81,14 +81,8 @@ pub fn audit(shape1: Shape, hops1: &[u16], shape2: Shape, hops2: &[u16], map: &[
 {
     let answer = audit_answer(shape1, hops1, shape2, hops2, map);
     if answer.number != 0 {
-        return Audit {
-            answer,
-            faults: 0,
-        };
+        return Audit { answer, faults: 0 };
     }
     let faults = fault_count(shape1, hops1, shape2, hops2, map);
-    Audit {
-        answer,
-        faults,
-    }
+    Audit { answer, faults }
 }

@@ -10,8 +10,8 @@ use graph::hops::hop_at;
 use graph::hops::hop_count;
 use graph::hops::label_at;
 use graph::hops::to_at;
-use quotient::renumber::map_at;
 use graph::search::find;
+use quotient::renumber::map_at;
 use silent::reach::reach;
 ghost use mathlib.Core.Path.{_≡_};
 ghost use Prim.Native.Nat.{_+_, _<_, _≤_};
@@ -178,5 +178,13 @@ pub fn all_made_up(shape1: Shape, hops1: &[u16], hops2: &[u16], map: &[u16]) -> 
     let mut seen = [0u8; 1024];
     let mut queue = [0u16; 1024];
     let mut stamps = [0u16; 4096];
-    made_up_faults(shape1, hops1, hops2, map, &mut seen, &mut queue, &mut stamps)
+    made_up_faults(
+        shape1,
+        hops1,
+        hops2,
+        map,
+        &mut seen,
+        &mut queue,
+        &mut stamps,
+    )
 }

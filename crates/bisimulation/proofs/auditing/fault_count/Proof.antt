@@ -18,15 +18,28 @@ all-made-up-requires c κs = search needs
 add-result : tie.Need-add-result
 add-result c =
     let s = c .before .before .before .before .before .before in
-    omega (arith, c .before .before .initial-fault .ensures, c .before .lost-faults .ensures, initial-most (s .args .shape1) (s .args .shape2) (s .args .map .now),
-    lost-most (s .args .hops1 .now) (s .args .hops2 .now) (s .args .map .now), s .pre .admitted .hops-most)
+    omega (
+      arith,
+      c .before .before .initial-fault .ensures,
+      c .before .lost-faults .ensures,
+      initial-most (s .args .shape1) (s .args .shape2) (s .args .map .now),
+      lost-most (s .args .hops1 .now) (s .args .hops2 .now) (s .args .map .now),
+      s .pre .admitted .hops-most,
+    )
 
 add-result-2 : tie.Need-add-result-2
 add-result-2 c =
     let s = c .before .before .before .before .before .before in
-    omega (arith, c .before .before .initial-fault .ensures, c .before .lost-faults .ensures, c .all-made-up .ensures, initial-most (s .args .shape1) (s .args .shape2) (s .args .map .now),
-    lost-most (s .args .hops1 .now) (s .args .hops2 .now) (s .args .map .now), s .pre .admitted .hops-most,
-    made-up-few (s .args .shape1) (s .args .hops1 .now) (s .args .hops2 .now) (s .args .map .now) (s .pre .admitted .states-most) (s .pre .few-hops))
+    omega (
+      arith,
+      c .before .before .initial-fault .ensures,
+      c .before .lost-faults .ensures,
+      c .all-made-up .ensures,
+      initial-most (s .args .shape1) (s .args .shape2) (s .args .map .now),
+      lost-most (s .args .hops1 .now) (s .args .hops2 .now) (s .args .map .now),
+      s .pre .admitted .hops-most,
+      made-up-few (s .args .shape1) (s .args .hops1 .now) (s .args .hops2 .now) (s .args .map .now) (s .pre .admitted .states-most) (s .pre .few-hops),
+    )
 
 returns : tie.Need-returns
 unfolding faultsOf

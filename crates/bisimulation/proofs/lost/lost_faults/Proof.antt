@@ -37,10 +37,12 @@ loop-less : tie.Need-loop-less Inv-loop μ-loop
 loop-less c = search needs
 
 loop-again : tie.Need-loop-again Inv-loop μ-loop
-loop-again c = let a = c .before .before .before in
-    (search needs, omega arith,
-    ⊎-elim (λ w. w .1 ∙ tally-more _ _ (a .loop .inv .2) (ap not (sym (c .before .is-kept .ensures)) ∙ w .0 .taken))
-    (λ w. w .1 ∙ tally-skip _ _ (a .loop .inv .2) (ap not (sym (c .before .is-kept .ensures)) ∙ w .0 .left)) (c .if1 .came))
+loop-again c = let a = c .before .before .before in (
+  search needs,
+  omega arith,
+  ⊎-elim (λ w. w .1 ∙ tally-more _ _ (a .loop .inv .2) (ap not (sym (c .before .is-kept .ensures)) ∙ w .0 .taken))
+      (λ w. w .1 ∙ tally-skip _ _ (a .loop .inv .2) (ap not (sym (c .before .is-kept .ensures)) ∙ w .0 .left)) (c .if1 .came),
+)
 
 returns : tie.Need-returns Inv-loop μ-loop
 unfolding lostFaults

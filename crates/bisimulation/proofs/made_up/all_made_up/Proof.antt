@@ -17,10 +17,13 @@ slice-aggregate-made-up-faults-3 : tie.Need-slice-aggregate-made-up-faults-3
 slice-aggregate-made-up-faults-3 c = search needs
 
 made-up-faults-requires : tie.Need-made-up-faults-requires
-made-up-faults-requires c κs = let s = c .before .before .before .before .before .before in
-    (s .pre,
-    ((omega (arith, length-replicate {A = ℕ} 1024 0, s .pre .admitted .states-most), omega (arith, length-replicate {A = ℕ} 1024 0, s .pre .admitted .states-most)),
-    (omega (arith, length-replicate {A = ℕ} 4096 0, s .pre .few-hops), fresh-start _ 4096 (s .pre .few-hops))))
+made-up-faults-requires c κs = let s = c .before .before .before .before .before .before in (
+  s .pre,
+  (
+    (omega (arith, length-replicate {A = ℕ} 1024 0, s .pre .admitted .states-most), omega (arith, length-replicate {A = ℕ} 1024 0, s .pre .admitted .states-most)),
+    (omega (arith, length-replicate {A = ℕ} 4096 0, s .pre .few-hops), fresh-start _ 4096 (s .pre .few-hops)),
+  ),
+)
 
 returns : tie.Need-returns
 returns c = c .before .before .before .made-up-faults .ensures

@@ -33,8 +33,12 @@ add-faults : tie.Need-add-faults Inv-loop μ-loop
 add-faults c =
     let s = c .before .before .before .before .before .before .before .before .before .before .before .before .before .before .before .before .before .before .before in
     let few : c .before .before .before .before .before .before .before .before .before .before .before .loop .s ≤ 1024 = omega (arith, s .pre .0 .admitted .states-most, c .before .before .before .before .before .before .before .before .before .before .before .loop .inv .0, c .before .before .before .before .before .before .before .before .before .before .before .loop .inv .1) in
-    omega (arith, c .before .before .before .before .before .before .before .before .before .before .before .loop .inv .6, c .before .before .before .before .before .before .made-up-of .ensures .0,
-    partial-most (s .args .shape1) (s .args .hops1 .now) (s .args .hops2 .now) (s .args .map .now) (c .before .before .before .before .before .before .before .before .before .before .before .loop .s) few (s .pre .0 .few-hops))
+    omega (
+      arith,
+      c .before .before .before .before .before .before .before .before .before .before .before .loop .inv .6,
+      c .before .before .before .before .before .before .made-up-of .ensures .0,
+      partial-most (s .args .shape1) (s .args .hops1 .now) (s .args .hops2 .now) (s .args .map .now) (c .before .before .before .before .before .before .before .before .before .before .before .loop .s) few (s .pre .0 .few-hops),
+    )
 
 add-s : tie.Need-add-s Inv-loop μ-loop
 add-s c = search needs

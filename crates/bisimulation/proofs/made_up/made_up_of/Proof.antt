@@ -30,10 +30,11 @@ same-length-3 : tie.Need-same-length-3
 same-length-3 c = omega arith
 
 returns : tie.Need-returns
-returns c = let s = c .before .before .before .before .before .before .before .before .before .before .before .before .before .before .before .before .before .before .before .before .before .before in
-    (counted-made-up _ _ _ _ (s .pre .0 .admitted .range) _ _ (c .before .before .before .before .before .before .before .before .before .before .before .before .before .before .before .map-at .ensures) (c .before .before .before .before .before .before .before .before .before .before .before .reach .ensures) _ _ (c .before .before .before .before .tick-all .ensures) (s .pre .1 .1 .1 .1)
-    (c .count-unticked .ensures),
-    fresh-next _ _ _ _ (s .pre .0 .admitted .range) _ _ (c .before .before .before .before .before .before .before .before .before .before .before .before .before .before .before .map-at .ensures) (c .before .before .before .before .before .before .before .before .before .before .before .reach .ensures) _ _ (c .before .before .before .before .tick-all .ensures) (s .pre .1 .1 .1 .1))
+returns c = let s = c .before .before .before .before .before .before .before .before .before .before .before .before .before .before .before .before .before .before .before .before .before .before in (
+  counted-made-up _ _ _ _ (s .pre .0 .admitted .range) _ _ (c .before .before .before .before .before .before .before .before .before .before .before .before .before .before .before .map-at .ensures) (c .before .before .before .before .before .before .before .before .before .before .before .reach .ensures) _ _ (c .before .before .before .before .tick-all .ensures) (s .pre .1 .1 .1 .1)
+      (c .count-unticked .ensures),
+  fresh-next _ _ _ _ (s .pre .0 .admitted .range) _ _ (c .before .before .before .before .before .before .before .before .before .before .before .before .before .before .before .map-at .ensures) (c .before .before .before .before .before .before .before .before .before .before .before .reach .ensures) _ _ (c .before .before .before .before .tick-all .ensures) (s .pre .1 .1 .1 .1),
+)
 
 pub made-up-of-spec : {M : Type 1} → statement M
 made-up-of-spec =

@@ -32,9 +32,13 @@ loop-less : tie.Need-loop-less Inv-loop μ-loop
 loop-less c = search needs
 
 loop-again : tie.Need-loop-again Inv-loop μ-loop
-loop-again c = (search needs, omega arith, omega arith,
-    rw (c .before .before .tick .ensures)
-    (ticked-more _ _ _ _ _ _ (c .before .before .before .before .before .before .before .before .before .before .before .before .pre .0 .ascending) _ _ (omega arith) _ (c .before .before .before .before .before .loop .inv .3)))
+loop-again c = (
+  search needs,
+  omega arith,
+  omega arith,
+  rw (c .before .before .tick .ensures)
+      (ticked-more _ _ _ _ _ _ (c .before .before .before .before .before .before .before .before .before .before .before .before .pre .0 .ascending) _ _ (omega arith) _ (c .before .before .before .before .before .loop .inv .3)),
+)
 
 same-length : tie.Need-same-length Inv-loop μ-loop
 same-length c = search needs
