@@ -1,26 +1,25 @@
--- The ways out of the audit's answer, and what it means: 0 exactly where both graphs and the map are admitted and the label counts agree; and the
--- place of row 8 is the map's length or its first such entry. Assumes nothing.
+-- The ways out of the audit's answer, and what it means: 0 exactly where both graphs and the map are admitted and the label counts agree.
+-- Assumes nothing.
 use Prim.Native.Nat.{ℕ, _<_, _≤_}
-use mathlib.Core.Path.{_≡_, refl, sym, ap, _∙_}
+use mathlib.Core.Path.{_≡_, refl, sym, ap}
 use mathlib.Core.Bool.{Bool, true, false, cond, not}
 use mathlib.Core.List.{List}
-use mathlib.Core.Logic.{_⊎_, inl, inr, ⊎-elim, _↔_}
+use mathlib.Core.Logic.{_↔_}
 use native.Mathlib.Nat.{le-refl}
 use native.Mathlib.Omega.{arith}
 use borrow.Author.Tests.{eq-eqb, ne-eqb, eqb-true, eqb-false, lt-ltb, le-ltb, ltb-true, ltb-false, not-false}
 use lib.ListN.{length}
 use lib.Dec.{eqb, ltb}
-use Rattle.graph.specs.Hops.{count}
 use Rattle.graph.specs.Tests.{least}
 use Rattle.graph.specs.Check.{accepted, refused, inTable, andThen, checkOf, Admitted}
 use Rattle.graph.specs.declared.Shape.{Shape}
 use Rattle.graph.specs.declared.Answer.{Answer}
-use Rattle.graph.proofs.Bools.{clash, decided, not-yes}
+use Rattle.graph.proofs.Bools.{not-yes}
 use Rattle.graph.proofs.Tests.{least-is, least-before}
 use Rattle.graph.proofs.Checked.{check-admitted, admitted-check}
 use Rattle.bisimulation.specs.Faults.{mapped, faultsOf}
 use Rattle.bisimulation.specs.Bisimulation.{AdmittedMap}
-use Rattle.bisimulation.specs.Auditing.{sameLabels, firstHigh, mapFits, auditAnswer, auditOf}
+use Rattle.bisimulation.specs.Auditing.{firstHigh, mapFits, auditAnswer, auditOf}
 use Rattle.bisimulation.specs.Ticks.{Auditable}
 use Rattle.bisimulation.specs.declared.Audit.{Audit}
 

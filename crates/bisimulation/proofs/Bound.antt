@@ -1,13 +1,12 @@
 -- The fault count fits: at most one for the initial states, one for each hop of graph 1, and one for each pair of a hop of graph 2 and a
 -- state of graph 1. Assumes nothing.
-use Prim.Native.Nat.{ℕ, _+_, _*_, _≤_}
-use mathlib.Core.Path.{_≡_, refl}
+use Prim.Native.Nat.{ℕ, _*_, _≤_}
 use mathlib.Core.Bool.{Bool, true, false, cond, not}
 use mathlib.Core.List.{List}
 use native.Mathlib.Nat.{mul-le-mul}
 use native.Mathlib.Omega.{arith}
 use lib.Dec.{eqb}
-use Rattle.graph.specs.Tests.{tally, total}
+use Rattle.graph.specs.Tests.{tally}
 use Rattle.graph.specs.Hops.{count}
 use Rattle.graph.specs.Check.{most-states, most-hops, Admitted}
 use Rattle.graph.specs.declared.Shape.{Shape}

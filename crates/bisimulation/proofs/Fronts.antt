@@ -11,14 +11,13 @@ use lib.Seq.{take-append-seam}
 use lib.Dec.{eqb}
 use Rattle.graph.specs.Hops.{count, flat, between}
 use Rattle.graph.specs.Check.{accepted}
-use Rattle.graph.specs.declared.Hop.{Hop}
 use Rattle.graph.specs.declared.Shape.{Shape}
 use Rattle.graph.specs.declared.Answer.{Answer}
 use Rattle.graph.proofs.Tests.{length-listed}
 use Rattle.graph.proofs.Places.{length-flat}
 use Rattle.quotient.specs.Representative.{mapOf}
 use Rattle.quotient.specs.Short.{shortHops, shortShape, mapList}
-use Rattle.quotient.specs.Reduce.{reduceAnswer, reduction, reduceOf, mapOutput, shortOutput}
+use Rattle.quotient.specs.Reduce.{noShape, reduceAnswer, reduceOf, mapOutput, shortOutput}
 use Rattle.quotient.specs.declared.Reduction.{Reduction}
 use Rattle.quotient.proofs.Images.{short-within}
 use Rattle.quotient.proofs.Answering.{reduce-reducible, reduce-map-room, reduce-short-room}
@@ -41,7 +40,7 @@ module _ (sh : Shape) (hs map short : List ℕ) {red : Reduction} (e : red ≡ r
   answers = ap (λ (r : Reduction). r .answer) e ∙ go (eqb (answer .number) 0) where
     go : (x : Bool) →
         cond {A = Reduction} x (record { answer = answer; shape = shortShape sh hs; hops = length (shortHops sh hs) })
-        (record { answer = answer; shape = Rattle.quotient.specs.Reduce.noShape; hops = 0 }) .answer ≡ answer
+        (record { answer = answer; shape = noShape; hops = 0 }) .answer ≡ answer
     go true = refl
     go false = refl
 

@@ -1,20 +1,20 @@
 -- What a fault count of 0 means: the map loses no hop and makes none up, which is Definition 2.4 for the map taken as a relation, with the
 -- initial states joined. Each sum is 0 exactly when each of its tests passes, and each test is read off its definition. Assumes nothing.
-use Prim.Native.Nat.{ℕ, _+_, _<_}
+use Prim.Native.Nat.{ℕ, _<_}
 use mathlib.Core.Path.{_≡_, refl, sym, ap, _∙_}
-use mathlib.Core.Bool.{Bool, true, false, cond, not, _&&_, _||_}
+use mathlib.Core.Bool.{Bool, true, false, cond, not, _&&_}
 use mathlib.Core.List.{List}
 use mathlib.Core.Logic.{_⊎_, inl, inr, ⊎-elim, _↔_}
 use native.Mathlib.Omega.{arith}
-use borrow.Author.Tests.{eq-eqb, eqb-true, not-true, not-false}
+use borrow.Author.Tests.{eq-eqb, eqb-true, not-false}
 use lib.Dec.{eqb}
-use Rattle.graph.specs.Tests.{any, tally, total}
-use Rattle.graph.specs.Hops.{count, from, label, to, has}
+use Rattle.graph.specs.Tests.{tally}
+use Rattle.graph.specs.Hops.{count, from, label, to}
 use Rattle.graph.specs.Check.{InRange, Admitted}
 use Rattle.graph.specs.declared.Shape.{Shape}
-use Rattle.graph.proofs.Bools.{clash, decided, not-yes, and-yes, and-left, and-right, and-no-left, and-no-right, or-left, or-right, or-yes}
+use Rattle.graph.proofs.Bools.{decided, not-yes, and-yes, and-left, and-right, and-no-left, and-no-right, or-left, or-right, or-yes}
 use Rattle.graph.proofs.Tests.{any-found, any-at, tally-zero, tally-each, total-zero, total-each}
-use Rattle.graph.proofs.Places.{Place, has-at, has-place, place-has}
+use Rattle.graph.proofs.Places.{has-at, has-place, place-has}
 use Rattle.lts.specs.Star.{stay}
 use Rattle.lts.specs.Reduction.{Back, Reduces}
 use Rattle.silent.specs.Silent.{HopOf, Leads, leads}

@@ -13,7 +13,7 @@ use Rattle.quotient.specs.Tables.{Reducible}
 use Rattle.quotient.proofs.Reduced.{map-inside, short-admitted, short-reduces}
 use Rattle.bisimulation.specs.Faults.{mapped, faultsOf}
 use Rattle.bisimulation.specs.Bisimulation.{BranchingBisimulation, MapRelation, JoinsInitial}
-use Rattle.bisimulation.specs.Auditing.{auditAnswer, auditOf}
+use Rattle.bisimulation.specs.Auditing.{auditOf}
 use Rattle.bisimulation.specs.declared.Audit.{Audit}
 use Rattle.bisimulation.proofs.Meaning.{zero-means, reduces-zero}
 use Rattle.bisimulation.proofs.Answering.{Audited, audited-answer, audit-counts}

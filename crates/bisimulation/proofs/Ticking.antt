@@ -21,7 +21,7 @@ use Rattle.graph.specs.declared.Hop.{Hop}
 use Rattle.graph.specs.declared.Shape.{Shape}
 use Rattle.graph.specs.declared.Found.{Found}
 use Rattle.graph.specs.declared.Found.the-variants.{At, Gap}
-use Rattle.graph.proofs.Bools.{clash, decided, eq-or-not, no-test, same-test, and-yes, and-left, and-right}
+use Rattle.graph.proofs.Bools.{decided, eq-or-not, no-test, same-test, and-yes, and-left, and-right}
 use Rattle.graph.proofs.Tests.{any-found, any-at, any-never, length-listed, getD-listed, tally-same, tally-within, total-most, total-exchange}
 use Rattle.graph.proofs.Places.{is-yes, is-from, is-label, is-to}
 use Rattle.graph.proofs.Ordered.{ascending-place}

@@ -296,11 +296,6 @@ module _ (f : ℕ → ℕ) where
       rw (suc-mul n b) (omega arith)
 
 module _ (f g : ℕ → ℕ) where
-  pub total-same : (n : ℕ) → ((j : ℕ) → j < n → f j ≡ g j) → total n f ≡ total n g
-  unfolding total
-  total-same zero h = refl
-  total-same (suc n) h = rw (h n (omega arith), total-same n (λ j l. h j (omega arith)))
-
   pub total-add : (n : ℕ) → total n (λ (j : ℕ). f j + g j) ≡ total n f + total n g
   unfolding total
   total-add zero = refl

@@ -1,6 +1,6 @@
 -- `bisimulation::auditing::audit` meets its contract: its two ways out are the two cases of the definition. Assumes nothing.
 use borrow.Author.Needs.{needs}
-use mathlib.Core.Path.{_≡_, sym, ap, _∙_}
+use mathlib.Core.Path.{sym, ap, _∙_}
 use Rattle.graph.specs.declared.Answer.{Answer}
 use Rattle.bisimulation.proofs.Answering.{auditable, answer-audited, audit-refuses, audit-counts}
 use Rattle.bisimulation.proofs.auditing.audit.Statement.{statement}

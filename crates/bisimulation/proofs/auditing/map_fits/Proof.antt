@@ -1,7 +1,6 @@
 -- `bisimulation::auditing::map_fits` meets its contract: each way out is a case of the definition. Assumes nothing.
 use borrow.Author.Needs.{needs}
 use mathlib.Core.Path.{_∙_}
-use native.Mathlib.Omega.{arith}
 use Rattle.bisimulation.proofs.Answering.{fits-length, fits-high, fits-accepts}
 use Rattle.bisimulation.proofs.auditing.map_fits.Statement.{statement}
 use Rattle.bisimulation.proofs.auditing.map_fits.Tie as tie

@@ -1,6 +1,5 @@
 -- `bisimulation::lost::initial_fault` meets its contract. Assumes nothing.
 use borrow.Author.Needs.{needs}
-use native.Mathlib.Omega.{arith}
 use Rattle.bisimulation.proofs.Keeping.{initial-joined, initial-parted}
 use Rattle.bisimulation.proofs.lost.initial_fault.Statement.{statement}
 use Rattle.bisimulation.proofs.lost.initial_fault.Tie as tie

@@ -1,6 +1,6 @@
 -- `bisimulation::made_up::stamp` meets its contract: the search answers At or Gap, as in the definition. Assumes nothing.
 use borrow.Author.Needs.{needs}
-use mathlib.Core.Path.{_≡_, sym, ap, _∙_}
+use mathlib.Core.Path.{sym, ap, _∙_}
 use native.Mathlib.Omega.{arith}
 use Rattle.graph.proofs.Lookup.{at-place}
 use Rattle.bisimulation.specs.Ticks.{stampAt}
