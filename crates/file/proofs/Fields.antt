@@ -15,6 +15,15 @@ module _ (b : List ℕ) where
     go true = omega arith
     go false = omega arith
 
+  pub names-place-least : 5 ≤ namesPlace b
+  unfolding namesPlace hopsPlace
+  names-place-least = go (hasInitial b) (hasHops b) where
+    go : (t u : Bool) → 5 ≤ cond t 7 5 + cond u (2 + 6 * hopsIn b) 0
+    go true true = omega arith
+    go true false = omega arith
+    go false true = omega arith
+    go false false = omega arith
+
   module _ {p : ℕ} (e : p ≡ hopsPlace b) {f : Bool} (d : f ≡ hasHops b) where
     pub place-with-hops : f ≡ true → {n : ℕ} → n ≡ hopsIn b → p + (2 + 6 * n) ≡ namesPlace b
     unfolding namesPlace

@@ -1,2 +1,4 @@
 pub mod Choice
 pub mod Fields
+pub mod Answers
+pub mod Front

@@ -1,8 +1,9 @@
 -- What reading a file answers and writes. Assumes nothing: these are definitions.
-use Prim.Native.Nat.{ℕ, _+_, _*_}
+use Prim.Native.Nat.{ℕ, _+_, _*_, _<_, _≤_}
+use mathlib.Core.Path.{_≡_}
 use mathlib.Core.Bool.{Bool, cond, _&&_, _||_}
 use mathlib.Core.List.{List, _++_}
-use lib.ListN.{length, drop}
+use lib.ListN.{length, take, drop}
 use lib.Dec.{eqb, leb, ltb}
 use Rattle.graph.specs.Check.{accepted, refused, andThen, roomFor, checkOf}
 use Rattle.graph.specs.declared.Answer.{Answer}
@@ -33,6 +34,14 @@ formatAnswer b =
     (cond (idleBit b) (refused 12 0)
     (namesAnswer b)))))
 
+-- what is known where the first two have passed and the hops end within the file: `rest` is what follows them
+pub record RestAt (b rest : List ℕ) (place : ℕ) : Type 0 where
+  pub short : length b ≤ most-bytes
+  pub low : bitMap b < 8
+  pub begins : place ≡ namesPlace b
+  pub follows : rest ≡ restOf b
+  pub within : place ≤ length b
+
 -- "then 1 to 4, then 6": the output takes three numbers a hop
 unfoldable pub readAnswer : List ℕ → ℕ → Answer
 readAnswer b room = andThen (formatAnswer b) (andThen (checkOf (shapeIn b) (hopListIn b)) (roomFor (3 * hopsIn b) room))
@@ -47,9 +56,13 @@ contentsOf b = record { answer = accepted; shape = shapeIn b; hops = hopsIn b; �
 unfoldable pub readOf : List ℕ → ℕ → Contents
 readOf b room = cond (eqb (readAnswer b room .number) 0) (contentsOf b) (nothing (readAnswer b room))
 
--- "A refusal leaves all lent elements untouched"; "Acceptance writes the named elements and none past them"
+-- a list written over the front of an older one, and over a part of it
 abbrev pub onFront : List ℕ → List ℕ → List ℕ
 onFront s old = s ++ drop (length s) old
 
+abbrev pub over : ℕ → List ℕ → List ℕ → List ℕ
+over at s old = take at old ++ (s ++ drop (at + length s) old)
+
+-- "A refusal leaves all lent elements untouched"; "Acceptance writes the named elements and none past them"
 unfoldable pub readHops : List ℕ → List ℕ → List ℕ
 readHops b old = cond (eqb (readAnswer b (length old) .number) 0) (onFront (hopListIn b) old) old

@@ -74,10 +74,10 @@ pub fn names_place(file: &[u8]) -> usize
 }
 
 // How many names the file has: none for label counts 0 and 1.
-pub fn names_in(file: &[u8]) -> usize
+pub fn names_in(file: &[u8]) -> u16
     ensures { λ r. ⌜ r ≡ namesIn (now (file .entry)) ⌝ }
 {
-    let labels = number_at(file, 3) as usize;
+    let labels = number_at(file, 3);
     if has_names(file) {
         if 1 <= labels {
             return labels - 1;

@@ -22,23 +22,19 @@ ghost use Prim.Native.Nat.{ℕ, _+_, _*_, _<_, _≤_};
 ghost use lib.ListN.{length};
 ghost use Rattle.graph.specs.Tests.{listed};
 ghost use Rattle.graph.specs.Check.{checkOf};
-ghost use Rattle.file.specs.Format.{numberAt, bitMap, namesPlace, shapeIn, hopListIn};
-ghost use Rattle.file.specs.Read.{most-bytes, formatAnswer, readOf, readHops, nothing, contentsOf, onFront};
+ghost use Rattle.file.specs.Format.{numberAt, shapeIn, hopListIn};
+ghost use Rattle.file.specs.Read.{RestAt, formatAnswer, readOf, readHops, nothing, contentsOf, onFront};
 
 const MOST_BYTES: usize = 58344;
 
 const MOST_HOPS: usize = 4096;
 
-// From row 11 on, where the names begin within the file.
-fn rest_answer(file: &[u8], place: usize) -> Answer
-    requires { ⌜ length (now file) ≤ most-bytes ⌝ }
-    requires { ⌜ bitMap (now file) < 8 ⌝ }
-    requires { ⌜ place ≡ namesPlace (now file) ⌝ }
-    requires { ⌜ place ≤ length (now file) ⌝ }
+// From row 11 on, where the rest of the file begins at `place`.
+fn rest_answer(file: &[u8], rest: &[u8], place: usize) -> Answer
+    requires { ⌜ RestAt (now file) (now rest) place ⌝ }
     ensures { λ r. ⌜ r ≡ formatAnswer (now (file .entry)) ⌝ }
 {
-    let rest = &file[place..];
-    let n = names_in(file);
+    let n = names_in(file) as usize;
     let end = end_of(rest, n);
     if rest.len() < end {
         return refuse(11, file.len());
@@ -70,7 +66,7 @@ fn format_answer(file: &[u8]) -> Answer
     if file.len() < place {
         return refuse(11, file.len());
     }
-    rest_answer(file, place)
+    rest_answer(file, &file[place..], place)
 }
 
 // The n numbers that stand in the file from `at` on, to the front of the output.

@@ -10,9 +10,6 @@ use Rattle.file.proofs.format.names_in.Tie as tie
 number-at-requires : tie.Need-number-at-requires
 number-at-requires c κs = search needs
 
-cast-labels : tie.Need-cast-labels
-cast-labels c = search needs
-
 has-names-requires : tie.Need-has-names-requires
 has-names-requires c κs = search needs
 
@@ -30,5 +27,4 @@ returns-3 c = other (c .before .has-names .ensures) (c .if1 .left) _ _ refl
 
 pub names-in-spec : {M : Type 1} → statement M
 names-in-spec =
-    tie.close
-    (tie.spec number-at-requires cast-labels has-names-requires returns returns-2 returns-3)
+    tie.close (tie.spec number-at-requires has-names-requires returns returns-2 returns-3)

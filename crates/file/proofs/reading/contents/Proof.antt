@@ -1,3 +1,4 @@
+-- `file::reading::contents` meets its contract: the code is the definition. Assumes nothing.
 use borrow.Author.Needs.{needs}
 use Rattle.file.proofs.reading.contents.Statement.{statement}
 use Rattle.file.proofs.reading.contents.Tie as tie
@@ -21,7 +22,7 @@ block-length-requires : tie.Need-block-length-requires
 block-length-requires c κs = search needs
 
 returns : tie.Need-returns
-returns c = search needs
+returns c = cc
 
 pub contents-spec : {M : Type 1} → statement M
 contents-spec =
