@@ -2,3 +2,4 @@ pub mod Choice
 pub mod Fields
 pub mod Answers
 pub mod Front
+pub mod Entry
