@@ -4,8 +4,8 @@ use mathlib.Core.Path.{_≡_, refl, sym, ap, _∙_}
 use mathlib.Core.List.{List, [], _∷_, _++_, append-assoc}
 use native.Mathlib.Numerals.{add-one}
 use native.Mathlib.Omega.{arith}
-use lib.ListN.{length, take, drop, set, getD, length-append, length-drop, length-set}
-use lib.Seq.{length-take-le, set-at, drop-cons, take-append-seam, drop-append-add, drop-drop}
+use lib.ListN.{length, take, drop, set, getD, length-append, length-drop, length-set, take-append-drop}
+use lib.Seq.{length-take-le, set-at, drop-cons, take-at, take-append-seam, drop-append-add, drop-drop}
 use Rattle.graph.specs.Tests.{listed}
 use Rattle.graph.proofs.Tests.{length-listed}
 use Rattle.file.specs.Read.{onFront, over}
@@ -24,6 +24,25 @@ over-more at s old v l =
 pub length-over : (at : ℕ) (s old : List ℕ) → at + length s ≤ length old → length (over at s old) ≡ length old
 length-over at s old l = rw (length-append, length-append, length-drop, length-take-le at old (omega arith)) (omega arith)
 
+pub over-none : (at : ℕ) (old : List ℕ) → old ≡ over at [] old
+over-none at old = rw (zero-right) (sym (take-append-drop at old)) where
+  zero-right : at + 0 ≡ at
+  zero-right = omega arith
+
+-- a part more, behind the one before
+pub over-then : (at : ℕ) (s t old : List ℕ) {k : ℕ} → k ≡ at + length s → k ≤ length old → over k t (over at s old) ≡ over at (s ++ t) old
+over-then at s t old {k} e l =
+    rw (e, ← append-assoc (take at old) s, take-at (take at old ++ s) (drop (at + length s) old) (at + length s) head, tail)
+    (rw (append-assoc (take at old) s, append-assoc s t, length-append s t, ← plus-assoc)) where
+      head : length (take at old ++ s) ≡ at + length s
+      head = rw (length-append, length-take-le at old (omega arith))
+
+      tail : drop (at + length s + length t) ((take at old ++ s) ++ drop (at + length s) old) ≡ drop (at + length s + length t) old
+      tail = ap (λ (n : ℕ). drop (n + length t) ((take at old ++ s) ++ drop (at + length s) old)) (sym head) ∙ drop-append-add (take at old ++ s) (drop (at + length s) old) (length t) ∙ drop-drop (length t) (at + length s) old
+
+      plus-assoc : at + length s + length t ≡ at + (length s + length t)
+      plus-assoc = omega arith
+
 pub length-front : (s old : List ℕ) → length s ≤ length old → length (onFront s old) ≡ length old
 length-front s old l = rw (length-append, length-drop) (omega arith)
 
@@ -37,6 +56,9 @@ front-more s old v l =
 pub front-then : (s t old : List ℕ) → over (length s) t (onFront s old) ≡ onFront (s ++ t) old
 front-then s t old =
     rw (take-append-seam s, drop-append-add s, drop-drop, length-append, append-assoc)
+
+pub front-next : (old s t : List ℕ) {out out' : List ℕ} {k : ℕ} → out ≡ onFront s old → out' ≡ over k t out → length s ≡ k → out' ≡ onFront (s ++ t) old
+front-next old s t {k = k} e d l = d ∙ ap (over k t) e ∙ ap (λ (n : ℕ). over n t (onFront s old)) (sym l) ∙ front-then s t old
 
 -- the numbers of a list, one after the other
 module _ (f : ℕ → ℕ) (old : List ℕ) where

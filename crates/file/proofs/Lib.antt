@@ -3,3 +3,5 @@ pub mod Fields
 pub mod Answers
 pub mod Front
 pub mod Entry
+pub mod Encoded
+pub mod Given

@@ -28,8 +28,8 @@ unfoldable pub hopBytes : List ℕ → List ℕ
 hopBytes hs = cond (eqb (count hs) 0) [] (number (count hs) ++ numbers hs)
 
 -- "Then state count and label count, always"
-unfoldable pub headBytes : Shape → List ℕ → List ℕ → List ℕ
-headBytes sh hs ns = bitsOf sh hs ns ∷ (number (sh .states) ++ number (sh .labels))
+unfoldable pub headBytes : Shape → ℕ → List ℕ
+headBytes sh bits = bits ∷ (number (sh .states) ++ number (sh .labels))
 
 unfoldable pub encode : Shape → List ℕ → List ℕ → List ℕ
-encode sh hs ns = headBytes sh hs ns ++ (initialBytes sh ++ (hopBytes hs ++ ns))
+encode sh hs ns = headBytes sh (bitsOf sh hs ns) ++ (initialBytes sh ++ (hopBytes hs ++ ns))

@@ -1,5 +1,5 @@
 -- What writing a file answers and writes. Assumes nothing: these are definitions.
-use Prim.Native.Nat.{ℕ, _-_}
+use Prim.Native.Nat.{ℕ, _-_, _<_, _≤_}
 use mathlib.Core.Bool.{Bool, cond}
 use mathlib.Core.List.{List}
 use lib.ListN.{length}
@@ -32,12 +32,21 @@ unfoldable pub writeAnswer : Shape → List ℕ → List ℕ → ℕ → Answer
 writeAnswer sh hs ns room = andThen (graphAnswer sh hs ns) (roomFor (length (encode sh hs ns)) room)
 
 -- "with any number but 0 every other figure in the answer is 0"
+abbrev pub nothingWritten : Answer → Written
+nothingWritten a = record { answer = a; length = 0 }
+
 unfoldable pub writeOf : Shape → List ℕ → List ℕ → ℕ → Written
-writeOf sh hs ns room = record {
-  answer = writeAnswer sh hs ns room;
-  length = cond (eqb (writeAnswer sh hs ns room .number) 0) (length (encode sh hs ns)) 0;
-}
+writeOf sh hs ns room =
+    cond (eqb (writeAnswer sh hs ns room .number) 0) (record { answer = accepted; length = length (encode sh hs ns) }) (nothingWritten (writeAnswer sh hs ns room))
 
 -- "A refusal leaves all lent elements untouched"; "Acceptance writes the named elements and none past them"
 unfoldable pub writeBytes : Shape → List ℕ → List ℕ → List ℕ → List ℕ
 writeBytes sh hs ns old = cond (eqb (writeAnswer sh hs ns (length old) .number) 0) (onFront (encode sh hs ns) old) old
+
+-- what putting a file asks: its numbers are 16-bit, and the output has room
+pub record Writable (sh : Shape) (hs ns : List ℕ) (room : ℕ) : Type 0 where
+  pub states-fit : sh .states < 65536
+  pub labels-fit : sh .labels < 65536
+  pub initial-fits : sh .initial < 65536
+  pub hops-fit : length hs ≤ 12288
+  pub fits : length (encode sh hs ns) ≤ room
