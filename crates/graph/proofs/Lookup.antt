@@ -12,7 +12,7 @@ use lib.Dec.{ltb}
 use Rattle.graph.specs.Tests.{any, all, least}
 use Rattle.graph.specs.Hops.{count, from, label, to, hopAt, is, has}
 use Rattle.graph.specs.Order.{before, Ascending}
-use Rattle.graph.specs.Search.{lower, found, placed, isAt, firstOf, pastOf}
+use Rattle.graph.specs.Search.{lower, Bracket, found, placed, isAt, firstOf, pastOf}
 use Rattle.graph.specs.declared.Hop.{Hop}
 use Rattle.graph.specs.declared.Found.{Found}
 use Rattle.graph.specs.declared.Found.the-variants.{At, Gap}
@@ -20,13 +20,6 @@ use Rattle.graph.proofs.Bools.{clash, decided, not-yes, not-no, no-test
 use Rattle.graph.proofs.Tests.{least-is, least-passes, least-before, least-within, any-found, any-no, all-yes}
 use Rattle.graph.proofs.Places.{is-yes, has-place}
 use Rattle.graph.proofs.Ordered.{Below, before-below, below-before, before-trans, before-itself, ascending-lt}
-
--- what the binary search knows between lo and hi
-pub record Bracket (hs : List ℕ) (h : Hop) (lo hi : ℕ) : Type 0 where
-  pub lo-le : lo ≤ hi
-  pub hi-le : hi ≤ count hs
-  pub below : (j : ℕ) → j < lo → before (hopAt hs j) h ≡ true
-  pub above : (j : ℕ) → hi ≤ j → j < count hs → before (hopAt hs j) h ≡ false
 
 module _ (hs : List ℕ) (h : Hop) where
   pub lower-within : lower hs h ≤ count hs
@@ -162,6 +155,16 @@ module _ (hs : List ℕ) (up : Ascending hs) where
       let a : s ≤ from hs i = ltb-false _ _ (sym (first-law s l) ∙ le-ltb _ _ lo) in
       let b : from hs i < s + 1 = ltb-true _ _ (sym (first-law (s + 1) l) ∙ lt-ltb _ _ hi) in
       omega arith
+
+  pub first-past : (s : ℕ) → firstOf hs s ≤ pastOf hs s
+  unfolding pastOf
+  first-past s = ⊎-elim over (λ l. l) (lt-or-le (pastOf hs s) (firstOf hs s)) where
+    over : pastOf hs s < firstOf hs s → firstOf hs s ≤ pastOf hs s
+    over l =
+        let m : firstOf hs (s + 1) < count hs = omega (arith, first-within s) in
+        let a : from hs (firstOf hs (s + 1)) < s = ltb-true _ _ (sym (first-law s m) ∙ lt-ltb _ _ l) in
+        let b : s + 1 ≤ from hs (firstOf hs (s + 1)) = ltb-false _ _ (sym (first-law (s + 1) m) ∙ le-ltb _ _ (le-refl (firstOf hs (s + 1)))) in
+        absurd (omega arith)
 
   pub past-within : (s : ℕ) → pastOf hs s ≤ count hs
   unfolding pastOf

@@ -1,10 +1,11 @@
 -- The hop list of document 01: "one flat list of numbers, three a hop", seen by places that count hops from 0.
 -- Only this file, the accessors and their laws know how many numbers a hop takes. Assumes nothing: these are definitions.
-use Prim.Native.Nat.{ℕ, _+_, _*_, _/_, _%_}
+use Prim.Native.Nat.{ℕ, _+_, _-_, _*_, _/_, _%_}
 use mathlib.Core.Bool.{Bool, _&&_}
 use mathlib.Core.List.{List, [], _∷_}
-use lib.ListN.{length, getD}
+use lib.ListN.{length, getD, take, drop}
 use lib.Dec.{eqb}
+use denote.Ref.{RefT, ptr}
 use Rattle.graph.specs.Tests.{any}
 use Rattle.graph.specs.declared.Hop.{Hop}
 
@@ -45,3 +46,10 @@ is hs s a t i = eqb (from hs i) s && (eqb (label hs i) a && eqb (to hs i) t)
 -- the graph has the hop s, a, t
 unfoldable pub has : List ℕ → ℕ → ℕ → ℕ → Bool
 has hs s a t = any (count hs) (is hs s a t)
+
+-- the part of a list from one place up to another, and where it stands in the lent list itself: in the same block, two bytes a number
+abbrev pub between : List ℕ → ℕ → ℕ → List ℕ
+between hs first past = take (3 * past - 3 * first) (drop (3 * first) hs)
+
+abbrev pub standsAt : RefT (List ℕ) → ℕ → ℕ × ℕ
+standsAt t first = (ptr t .0, 3 * first * 2 + ptr t .1)

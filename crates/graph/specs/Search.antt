@@ -1,5 +1,6 @@
 -- The place of a hop in an ascending list, or the place where it would stand. Assumes nothing: these are definitions.
-use Prim.Native.Nat.{ℕ, _+_}
+use Prim.Native.Nat.{ℕ, _+_, _<_, _≤_}
+use mathlib.Core.Path.{_≡_}
 use mathlib.Core.Bool.{Bool, true, false, not, _&&_}
 use mathlib.Core.List.{List}
 use lib.Dec.{ltb}
@@ -13,6 +14,13 @@ use Rattle.graph.specs.declared.Found.the-variants.{At, Gap}
 -- the first place whose hop is not before h, or the number of hops
 unfoldable pub lower : List ℕ → Hop → ℕ
 lower hs h = least (count hs) (λ (i : ℕ). not (before (hopAt hs i) h))
+
+-- what is known of a search between the places lo and hi: the hops below lo are before h, and those from hi on are not
+pub record Bracket (hs : List ℕ) (h : Hop) (lo hi : ℕ) : Type 0 where
+  pub lo-le : lo ≤ hi
+  pub hi-le : hi ≤ count hs
+  pub below : (j : ℕ) → j < lo → before (hopAt hs j) h ≡ true
+  pub above : (j : ℕ) → hi ≤ j → j < count hs → before (hopAt hs j) h ≡ false
 
 abbrev pub found : Bool → ℕ → Found
 found true i = At i

@@ -3,8 +3,9 @@ use super::Hop;
 use super::Label;
 use super::OldState;
 ghost use mathlib.Core.Path.{_≡_};
-ghost use Prim.Native.Nat.{_<_};
-ghost use Rattle.graph.specs.Hops.{count, whole, from, label, to, hopAt, is};
+ghost use Prim.Native.Nat.{_<_, _≤_};
+ghost use denote.Ref.{ptr};
+ghost use Rattle.graph.specs.Hops.{count, whole, from, label, to, hopAt, is, between, standsAt};
 
 // How many hops the list holds.
 pub fn hop_count(hops: &[u16]) -> usize
@@ -59,4 +60,15 @@ pub fn is_hop_at(hops: &[u16], i: usize, h: Hop) -> bool
     ensures { λ r. ⌜ r ≡ is (now (hops .entry)) (h .from) (h .label) (h .to) i ⌝ }
 {
     (hops[3 * i] == h.from) & ((hops[3 * i + 1] == h.label) & (hops[3 * i + 2] == h.to))
+}
+
+// The hops from one place up to another, as a part of the list itself.
+pub fn part<'a>(hops: &'a [u16], first: usize, past: usize) -> &'a [u16]
+    requires { ⌜ (first ≤ past) × (past ≤ count (now hops)) ⌝ }
+    ensures shows { λ r. ⌜ now r ≡ between (now (hops .entry)) first past ⌝ }
+    ensures stands { λ r. ⌜ ptr r ≡ standsAt (hops .entry) first ⌝ }
+{
+    let a = 3 * first;
+    let e = 3 * past;
+    &hops[a..e]
 }

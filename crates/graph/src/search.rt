@@ -10,15 +10,15 @@ ghost use mathlib.Core.Path.{_≡_};
 ghost use Prim.Native.Nat.{_<_};
 ghost use Rattle.graph.specs.Hops.{count};
 ghost use Rattle.graph.specs.Order.{Ascending};
-ghost use Rattle.graph.specs.Search.{lower, placed, firstOf, pastOf};
+ghost use Rattle.graph.specs.Search.{lower, Bracket, placed, firstOf, pastOf};
 
-// The first place whose hop is not before h, or the number of hops: by halving.
-pub fn lower_place(hops: &[u16], h: Hop) -> usize
-    requires { ⌜ Ascending (now hops) ⌝ }
+// The first place whose hop is not before h, searched for by halving between two places that bracket it.
+pub fn lower_between(hops: &[u16], h: Hop, first: usize, past: usize) -> usize
+    requires { ⌜ Ascending (now hops) × Bracket (now hops) h first past ⌝ }
     ensures { λ r. ⌜ r ≡ lower (now (hops .entry)) h ⌝ }
 {
-    let mut lo = 0;
-    let mut hi = hop_count(hops);
+    let mut lo = first;
+    let mut hi = past;
     while lo < hi {
         let mid = lo + (hi - lo) / 2;
         if is_before(hop_at(hops, mid), h) {
@@ -28,6 +28,14 @@ pub fn lower_place(hops: &[u16], h: Hop) -> usize
         }
     }
     lo
+}
+
+// The first place whose hop is not before h, or the number of hops.
+pub fn lower_place(hops: &[u16], h: Hop) -> usize
+    requires { ⌜ Ascending (now hops) ⌝ }
+    ensures { λ r. ⌜ r ≡ lower (now (hops .entry)) h ⌝ }
+{
+    lower_between(hops, h, 0, hop_count(hops))
 }
 
 // Where the hop stands, or would stand.

@@ -1,1 +1,3 @@
 pub mod Question
+pub mod Index
+pub mod Known

@@ -1,4 +1,7 @@
 // The round question: does a silent hop survive k rounds of marking?
+pub mod index; // index.rt: the first place of each state's hops, noted once, and the search among one state's hops
+pub mod cycle; // cycle.rt: the equations X, Y and Z, which call on one another
+pub mod question; // question.rt: the entry and its checks
 
 // What the question is answered with: the answer, and 1 or 0 (0 with a refusal).
 pub struct RoundAnswer {

@@ -1,1 +1,3 @@
 pub mod Silent
+pub mod Reach
+pub mod Ring

@@ -1,85 +1,18 @@
--- `graph::search::lower_place` meets its contract: what lies below lo is before the hop, and what lies from hi on is not. Assumes nothing.
+-- `graph::search::lower_place` meets its contract: the whole list brackets every hop. Assumes nothing.
 use borrow.Author.Needs.{needs}
-use Prim.Native.Nat.{_-_}
-use mathlib.Core.Path.{_≡_, sym, _∙_, ap}
 use native.Mathlib.Omega.{arith}
-use mathlib.Core.Bool.{Bool}
-use Rattle.graph.specs.Order.{before}
-use Rattle.graph.specs.declared.Hop.{Hop}
-use Rattle.graph.proofs.Lookup.{Bracket, raise, cut, lower-met}
 use Rattle.graph.proofs.search.lower_place.Statement.{statement}
 use Rattle.graph.proofs.search.lower_place.Tie as tie
 
-abbrev Inv-loop : tie.InvT-loop
-Inv-loop hops h lo₀ hi₀ lo hi = Bracket hops h lo hi
-
-abbrev μ-loop : tie.MeasureT-loop
-μ-loop hops h lo₀ hi₀ lo hi = hi - lo
-
-hop-count-requires : tie.Need-hop-count-requires Inv-loop μ-loop
+hop-count-requires : tie.Need-hop-count-requires
 hop-count-requires c κs = search needs
 
-loop-holds : tie.Need-loop-holds Inv-loop μ-loop
-loop-holds c = record {
-  lo-le = omega arith;
-  hi-le = omega arith;
-  below = λ j l. absurd (omega arith);
-  above = λ j l k. absurd (omega arith);
-}
+lower-between-requires : tie.Need-lower-between-requires
+lower-between-requires c κs =
+    (c .before .before .pre, record { lo-le = omega arith; hi-le = omega arith; below = λ j l. absurd (omega arith); above = λ j l k. absurd (omega arith) })
 
-sub-mid : tie.Need-sub-mid Inv-loop μ-loop
-sub-mid c = search needs
-
-add-mid : tie.Need-add-mid Inv-loop μ-loop
-add-mid c = search needs
-
-hop-at-requires : tie.Need-hop-at-requires Inv-loop μ-loop
-hop-at-requires c κs = search needs
-
-is-before-requires : tie.Need-is-before-requires Inv-loop μ-loop
-is-before-requires c κs = search needs
-
-add-lo : tie.Need-add-lo Inv-loop μ-loop
-add-lo c = search needs
-
-loop-less : tie.Need-loop-less Inv-loop μ-loop
-loop-less c = search needs
-
--- what the comparison said, of the hop at the middle
-met : (h : Hop) {a b : Hop} {x y : Bool} → a ≡ b → x ≡ before a h → x ≡ y → before b h ≡ y
-met h e f g = ap (λ (k : Hop). before k h) (sym e) ∙ sym f ∙ g
-
-loop-again : tie.Need-loop-again Inv-loop μ-loop
-loop-again c =
-    raise _ _ (c .before .before .before .before .before .before .before .pre) _ _ _ (c .before .before .before .before .loop .inv)
-    (omega arith) (omega arith) (met _ (c .before .before .hop-at .ensures) (c .before .is-before .ensures) (c .if1 .taken))
-
-loop-less-2 : tie.Need-loop-less-2 Inv-loop μ-loop
-loop-less-2 c = search needs
-
-loop-again-2 : tie.Need-loop-again-2 Inv-loop μ-loop
-loop-again-2 c =
-    cut _ _ (c .before .before .before .before .before .before .before .pre) _ _ _ (c .before .before .before .before .loop .inv)
-    (omega arith) (omega arith) (met _ (c .before .before .hop-at .ensures) (c .before .is-before .ensures) (c .if1 .left))
-
-returns : tie.Need-returns Inv-loop μ-loop
-returns c = sym (lower-met _ _ (c .before .loop .inv) (c .loop-test .left))
+returns : tie.Need-returns
+returns c = c .lower-between .ensures
 
 pub lower-place-spec : {M : Type 1} → statement M
-lower-place-spec =
-    tie.close
-    (tie.spec
-    Inv-loop
-    μ-loop
-    hop-count-requires
-    loop-holds
-    sub-mid
-    add-mid
-    hop-at-requires
-    is-before-requires
-    add-lo
-    loop-less
-    loop-again
-    loop-less-2
-    loop-again-2
-    returns)
+lower-place-spec = tie.close (tie.spec hop-count-requires lower-between-requires returns)

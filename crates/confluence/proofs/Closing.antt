@@ -1,0 +1,144 @@
+-- What the tests `closing`, `answers` and `closes` say, and the other way round: `closes hs u` is document 01's condition with "in U" read as
+-- `u s t ≡ true`. So it only grows with the set. Assumes nothing.
+use Prim.Native.Nat.{ℕ, _<_}
+use mathlib.Core.Path.{_≡_, refl, sym, _∙_}
+use mathlib.Core.Bool.{Bool, true, false, _&&_, _||_}
+use mathlib.Core.List.{List}
+use mathlib.Core.Logic.{_⊎_, inl, inr, ⊎-elim}
+use lib.Dec.{eqb}
+use borrow.Author.Tests.{eq-eqb, ne-eqb, eqb-true}
+use Rattle.graph.specs.Tests.{any}
+use Rattle.graph.specs.Hops.{count, from, label, to, has}
+use Rattle.graph.proofs.Bools.{and-yes, and-left, and-right, or-left, or-right, or-yes, eq-or-not}
+use Rattle.graph.proofs.Places.{has-at, has-place, place-has}
+use Rattle.graph.proofs.Tests.{all-at, all-yes, any-at, any-found}
+use Rattle.confluence.specs.Rounds.{Pairs, closing, leaves, answer, answers, answered, tried, closes}
+
+-- a set of Bool tests as a set of types
+abbrev pub In : Pairs → ℕ → ℕ → Type 0
+In u s t = u s t ≡ true
+
+-- "there is an s4 such that ..": a hop labelled a to s3 is answered from s2
+abbrev pub Answered : List ℕ → (ℕ → ℕ → Type 0) → ℕ → ℕ → ℕ → Type 0
+Answered hs U s2 a s3 =
+    (s4 : ℕ) × ((has hs s2 a s4 ≡ true) ⊎ ((a ≡ 0) × (s4 ≡ s2))) × ((s3 ≡ s4) ⊎ U s3 s4)
+
+-- "each hop s1, a, s3" is
+abbrev pub Closed : List ℕ → (ℕ → ℕ → Type 0) → ℕ → ℕ → Type 0
+Closed hs U s1 s2 = (a s3 : ℕ) → has hs s1 a s3 ≡ true → Answered hs U s2 a s3
+
+-- Z
+module _ (u : Pairs) (s3 s4 : ℕ) where
+  pub closing-yes : (s3 ≡ s4) ⊎ In u s3 s4 → closing u s3 s4 ≡ true
+  unfolding closing
+  closing-yes (inl e) = or-left (u s3 s4) (eq-eqb s3 s4 e)
+  closing-yes (inr h) = or-right (eqb s3 s4) h
+
+  pub closing-says : closing u s3 s4 ≡ true → (s3 ≡ s4) ⊎ In u s3 s4
+  unfolding closing
+  closing-says e = ⊎-elim (λ h. inl (eqb-true s3 s4 h)) (λ h. inr h) (or-yes (eqb s3 s4) (u s3 s4) e)
+
+  -- the same as equations, for the two ways of the code
+  pub closing-same : s3 ≡ s4 → closing u s3 s4 ≡ true
+  closing-same e = closing-yes (inl e)
+
+  pub closing-other : (s3 ≡ s4 → ⊥) → closing u s3 s4 ≡ u s3 s4
+  unfolding closing
+  closing-other n = rw (ne-eqb s3 s4 n)
+
+module _ (hs : List ℕ) where
+  pub leaves-says : (s a j : ℕ) → leaves hs s a j ≡ true → (from hs j ≡ s) × (label hs j ≡ a)
+  unfolding leaves
+  leaves-says s a j e = (
+    eqb-true (from hs j) s (and-left (eqb (from hs j) s) (eqb (label hs j) a) e),
+    eqb-true (label hs j) a (and-right (eqb (from hs j) s) (eqb (label hs j) a) e),
+  )
+
+  pub leaves-yes : {s a : ℕ} (j : ℕ) → from hs j ≡ s → label hs j ≡ a → leaves hs s a j ≡ true
+  unfolding leaves
+  leaves-yes j p q = and-yes (eq-eqb (from hs j) _ p) (eq-eqb (label hs j) _ q)
+
+  module _ (u : Pairs) where
+    -- Y: s2 itself answers, or the hop at a place does
+    pub answers-still : (s2 a s3 : ℕ) → a ≡ 0 → closing u s3 s2 ≡ true → answers hs u s2 a s3 ≡ true
+    unfolding answers
+    answers-still s2 a s3 q e = or-left (any (count hs) (answer hs u s2 a s3)) (and-yes (eq-eqb a 0 q) e)
+
+    pub answers-hop : (s2 a s3 : ℕ) {j : ℕ} → j < count hs → leaves hs s2 a j ≡ true → closing u s3 (to hs j) ≡ true → answers hs u s2 a s3 ≡ true
+    unfolding answers answer
+    answers-hop s2 a s3 l h e = or-right (eqb a 0 && closing u s3 s2) (any-found (answer hs u s2 a s3) (count hs) l (and-yes h e))
+
+    pub answers-yes : (s2 a s3 : ℕ) → Answered hs (In u) s2 a s3 → answers hs u s2 a s3 ≡ true
+    answers-yes s2 a s3 (s4, inl h, z) =
+        let p = has-place hs s2 a s4 h in
+        answers-hop s2 a s3 (p .within) (leaves-yes (p .at) (p .from-is) (p .label-is)) (rw (p .to-is) (closing-yes u s3 s4 z))
+    answers-yes s2 a s3 (s4, inr (q, e), z) = answers-still s2 a s3 q (rw e at (closing-yes u s3 s4 z))
+
+    pub answers-says : (s2 a s3 : ℕ) → answers hs u s2 a s3 ≡ true → Answered hs (In u) s2 a s3
+    unfolding answers answer
+    answers-says s2 a s3 e = go (or-yes (eqb a 0 && closing u s3 s2) (any (count hs) (answer hs u s2 a s3)) e) where
+      go : ((eqb a 0 && closing u s3 s2) ≡ true) ⊎ (any (count hs) (answer hs u s2 a s3) ≡ true) → Answered hs (In u) s2 a s3
+      go (inl h) = (
+        s2,
+        inr (eqb-true a 0 (and-left (eqb a 0) (closing u s3 s2) h), refl),
+        closing-says u s3 s2 (and-right (eqb a 0) (closing u s3 s2) h),
+      )
+      go (inr h) =
+          let (j, l, w) = any-at (answer hs u s2 a s3) (count hs) h in
+          let (f, g) = leaves-says s2 a j (and-left (leaves hs s2 a j) (closing u s3 (to hs j)) w) in
+          (to hs j, inl (place-has hs s2 a (to hs j) (record { at = j; within = l; from-is = f; label-is = g; to-is = refl })), closing-says u s3 (to hs j) (and-right (leaves hs s2 a j) (closing u s3 (to hs j)) w))
+
+    -- the same of the hop at place j, labelled a to s3, for the two ways of the code
+    module _ (s2 j : ℕ) {a s3 : ℕ} (p : a ≡ label hs j) (q : s3 ≡ to hs j) where
+      pub answered-still : a ≡ 0 → closing u s3 s2 ≡ true → answered hs u s2 j ≡ true
+      unfolding answered
+      answered-still z e = rw (← p, ← q) (answers-still s2 a s3 z e)
+
+      pub answered-else : (a ≡ 0 → closing u s3 s2 ≡ false) → any (count hs) (answer hs u s2 a s3) ≡ answered hs u s2 j
+      unfolding answered answers
+      answered-else f = rw (← p, ← q) (go (eqb a 0) refl) where
+        go : (t : Bool) → eqb a 0 ≡ t → any (count hs) (answer hs u s2 a s3) ≡ ((t && closing u s3 s2) || any (count hs) (answer hs u s2 a s3))
+        go true e = rw (f (eqb-true a 0 e))
+        go false e = refl
+
+    -- the hop at place j, if it leaves s1, is tried
+    module _ (s1 s2 j : ℕ) where
+      pub tried-own : from hs j ≡ s1 → tried hs u s1 s2 j ≡ answered hs u s2 j
+      unfolding tried
+      tried-own e = rw (eq-eqb (from hs j) s1 e)
+
+      pub tried-other : (from hs j ≡ s1 → ⊥) → tried hs u s1 s2 j ≡ true
+      unfolding tried
+      tried-other n = rw (ne-eqb (from hs j) s1 n)
+
+    -- X
+    pub closes-says : (s1 s2 : ℕ) → closes hs u s1 s2 ≡ true → Closed hs (In u) s1 s2
+    unfolding closes answered
+    closes-says s1 s2 e a s3 h =
+        let p = has-place hs s1 a s3 h in
+        let y : answered hs u s2 (p .at) ≡ true =
+        sym (tried-own s1 s2 (p .at) (p .from-is)) ∙ all-at (tried hs u s1 s2) (count hs) e (p .within) in
+        answers-says s2 a s3 (rw (p .label-is, p .to-is) at y)
+
+    pub closes-yes : (s1 s2 : ℕ) → Closed hs (In u) s1 s2 → closes hs u s1 s2 ≡ true
+    unfolding closes answered
+    closes-yes s1 s2 c = all-yes (tried hs u s1 s2) (count hs) (λ i l. go i l (eq-or-not (from hs i) s1)) where
+      go : (i : ℕ) → i < count hs → (from hs i ≡ s1) ⊎ (from hs i ≡ s1 → ⊥) → tried hs u s1 s2 i ≡ true
+      go i l (inl f) =
+          tried-own s1 s2 i f ∙ answers-yes s2 (label hs i) (to hs i) (c (label hs i) (to hs i) (rw f at (has-at hs l)))
+      go i l (inr n) = tried-other s1 s2 i n
+
+    -- the test and the condition say the same
+    pub closes-iff : (s1 s2 : ℕ) → (closes hs u s1 s2 ≡ true → Closed hs (In u) s1 s2) × (Closed hs (In u) s1 s2 → closes hs u s1 s2 ≡ true)
+    closes-iff s1 s2 = (closes-says s1 s2, closes-yes s1 s2)
+
+  -- the condition grows with the set
+  pub closed-mono : {U W : ℕ → ℕ → Type 0} → ((s t : ℕ) → U s t → W s t) → (s1 s2 : ℕ) → Closed hs U s1 s2 → Closed hs W s1 s2
+  closed-mono {U} {W} f s1 s2 c a s3 h = let (s4, x, y) = c a s3 h in (s4, x, more s4 y) where
+    more : (s4 : ℕ) → (s3 ≡ s4) ⊎ U s3 s4 → (s3 ≡ s4) ⊎ W s3 s4
+    more s4 (inl e) = inl e
+    more s4 (inr m) = inr (f s3 s4 m)
+
+  -- and so does the test
+  pub closes-mono : (u v : Pairs) → ((s t : ℕ) → In u s t → In v s t) → (s1 s2 : ℕ) → closes hs u s1 s2 ≡ true → closes hs v s1 s2 ≡ true
+  closes-mono u v f s1 s2 e = closes-yes v s1 s2 (closed-mono f s1 s2 (closes-says u s1 s2 e))

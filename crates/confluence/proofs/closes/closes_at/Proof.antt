@@ -1,0 +1,166 @@
+-- `confluence::closes::closes_at` meets its contract: the hops of both ends are walked side by side, and each passed is answered.
+-- Assumes nothing.
+use Prim.Native.Nat.{ℕ, _+_, _-_, _<_}
+use mathlib.Core.Path.{_≡_, sym, ap, _∙_}
+use mathlib.Core.Bool.{true}
+use native.Mathlib.Omega.{arith}
+use borrow.Author.Needs.{needs}
+use borrow.Author.Count.{below-more}
+use borrow.Author.Tests.{not-true, not-false}
+use Rattle.graph.specs.Hops.{from, label, to}
+use Rattle.graph.specs.Check.{most-states}
+use Rattle.confluence.specs.Rounds.{tried}
+use Rattle.confluence.specs.Sweep.{heldBy, Skipped}
+use Rattle.confluence.proofs.Closing.{tried-own}
+use Rattle.confluence.proofs.Rows.{start-is, Walk, walk-start, walk-in, walk-from, walk-past, walk-row, walk-next, tried-before, tried-done, tried-fails}
+use Rattle.confluence.proofs.closes.closes_at.Statement.{statement}
+use Rattle.confluence.proofs.closes.closes_at.Tie as tie
+
+abbrev Inv-loop : tie.InvT-loop
+Inv-loop hops starts marks i s1 s2 t2 end past at₀ j₀ at j =
+    Walk hops (from hops i) (to hops i) end past at j × ((k : ℕ) → k < j → tried hops (heldBy hops marks) (from hops i) (to hops i) k ≡ true)
+
+abbrev μ-loop : tie.MeasureT-loop
+μ-loop hops starts marks i s1 s2 t2 end past at₀ j₀ at j = end - j
+
+from-at-requires : tie.Need-from-at-requires Inv-loop μ-loop
+from-at-requires c κs = search needs
+
+wide-requires : tie.Need-wide-requires Inv-loop μ-loop
+wide-requires c κs = search needs
+
+to-at-requires : tie.Need-to-at-requires Inv-loop μ-loop
+to-at-requires c κs = search needs
+
+wide-requires-2 : tie.Need-wide-requires-2 Inv-loop μ-loop
+wide-requires-2 c κs = search needs
+
+add-start-of : tie.Need-add-start-of Inv-loop μ-loop
+add-start-of c =
+    let st = c .before .before .before .before .before .before in
+    omega (arith, st .pre .0 .from-in (st .args .i) (st .pre .1 .1 .1))
+
+start-of-requires : tie.Need-start-of-requires Inv-loop μ-loop
+start-of-requires c κs =
+    let st = c .before .before .before .before .before .before in
+    omega (arith, st .pre .0 .from-in (st .args .i) (st .pre .1 .1 .1))
+
+add-start-of-2 : tie.Need-add-start-of-2 Inv-loop μ-loop
+add-start-of-2 c =
+    let st = c .before .before .before .before .before .before .before in
+    omega (arith, st .pre .0 .to-in (st .args .i) (st .pre .1 .1 .1))
+
+start-of-requires-2 : tie.Need-start-of-requires-2 Inv-loop μ-loop
+start-of-requires-2 c κs =
+    let st = c .before .before .before .before .before .before .before in
+    omega (arith, st .pre .0 .to-in (st .args .i) (st .pre .1 .1 .1))
+
+start-of-requires-3 : tie.Need-start-of-requires-3 Inv-loop μ-loop
+start-of-requires-3 c κs =
+    let st = c .before .before .before .before .before .before .before .before in
+    omega (arith, st .pre .0 .to-in (st .args .i) (st .pre .1 .1 .1))
+
+start-of-requires-4 : tie.Need-start-of-requires-4 Inv-loop μ-loop
+start-of-requires-4 c κs =
+    let st = c .before .before .before .before .before .before .before .before .before in
+    omega (arith, st .pre .0 .from-in (st .args .i) (st .pre .1 .1 .1))
+
+loop-holds : tie.Need-loop-holds Inv-loop μ-loop
+loop-holds c =
+    let st = c .before .before .before .before .before .before .before .before .before .before in
+    let hs = st .args .hops .now in
+    let f : c .before .before .before .before .before .before .wide .result ≡ from hs (st .args .i) = omega arith in
+    let t : c .before .before .before .before .wide2 .result ≡ to hs (st .args .i) = omega arith in
+    let fi : from hs (st .args .i) < most-states = st .pre .0 .from-in (st .args .i) (st .pre .1 .1 .1) in
+    let ti : to hs (st .args .i) < most-states = st .pre .0 .to-in (st .args .i) (st .pre .1 .1 .1) in
+    let j = start-is hs (st .args .starts .now) (st .pre .1 .0) _ f (omega arith) (c .start-of4 .ensures) in (
+      walk-start hs (st .pre .0 .ascending) _ _ _ _ (start-is hs (st .args .starts .now) (st .pre .1 .0) _ (ap (λ (x : ℕ). x + 1) f) (omega arith) (c .before .before .before .start-of .ensures))
+          (start-is hs (st .args .starts .now) (st .pre .1 .0) _ (ap (λ (x : ℕ). x + 1) t) (omega arith) (c .before .before .start-of2 .ensures)) (start-is hs (st .args .starts .now) (st .pre .1 .0) _ t (omega arith) (c .before .start-of3 .ensures)) j,
+      tried-before hs (st .pre .0 .ascending) _ _ _ j,
+    )
+
+label-at-requires : tie.Need-label-at-requires Inv-loop μ-loop
+label-at-requires c κs = walk-in _ (c .before .before .before .before .before .before .before .before .before .before .before .before .pre .0 .ascending) _ _ _ _ (c .before .loop .inv .0) (c .loop-test .taken)
+
+skip-requires : tie.Need-skip-requires Inv-loop μ-loop
+skip-requires c κs = (c .before .before .loop .inv .0 .at-in, walk-past _ (c .before .before .before .before .before .before .before .before .before .before .before .before .before .pre .0 .ascending) _ _ _ _ (c .before .before .loop .inv .0) (c .before .loop-test .taken))
+
+-- what `skip` did, in the words of the hop at place j
+skipped : (c : tie.After-skip Inv-loop μ-loop) →
+    Skipped (c .before .before .before .before .before .before .before .before .before .before .before .before .before .before .args .hops .now) (c .before .before .before .loop .at) (c .before .before .before .before .before .before .start-of2 .result)
+    (label (c .before .before .before .before .before .before .before .before .before .before .before .before .before .before .args .hops .now) (c .before .before .before .loop .j)) (c .skip .result)
+skipped c = rw (c .before .label-at .ensures) at (c .skip .ensures)
+
+is-answered-requires : tie.Need-is-answered-requires Inv-loop μ-loop
+is-answered-requires c κs =
+    let st = c .before .before .before .before .before .before .before .before .before .before .before .before .before .before in
+    let w = c .before .before .before .loop .inv .0 in (
+      st .pre .0 .ascending,
+      (
+        st .pre .1 .1 .0,
+        (
+          walk-in _ (st .pre .0 .ascending) _ _ _ _ w (c .before .before .loop-test .taken),
+          rw (c .before .before .before .before .before .before .before .before .before .to-at .ensures) (walk-row _ (st .pre .0 .ascending) _ _ _ _ w (c .before .before .loop-test .taken) (skipped c)),
+        ),
+      ),
+    )
+
+returns : tie.Need-returns Inv-loop μ-loop
+returns c =
+    let st = c .before .before .before .before .before .before .before .before .before .before .before .before .before .before .before .before in
+    let w = c .before .before .before .before .before .loop .inv .0 in
+    let l = c .before .before .before .before .loop-test .taken in
+    let e = sym (c .before .is-answered .ensures) ∙ not-true _ (c .if1 .taken) in
+    sym (tried-fails _ (st .pre .0 .ascending) _ _ _ _ _ w l (rw (c .before .before .before .before .before .before .before .before .before .before .before .to-at .ensures) at e))
+
+add-j : tie.Need-add-j Inv-loop μ-loop
+add-j c =
+    omega (
+      arith,
+      walk-in _ (c .before .before .before .before .before .before .before .before .before .before .before .before .before .before .before .before .pre .0 .ascending) _ _ _ _
+          (c .before .before .before .before .before .loop .inv .0) (c .before .before .before .before .loop-test .taken),
+    )
+
+loop-less : tie.Need-loop-less Inv-loop μ-loop
+loop-less c = omega arith
+
+loop-again : tie.Need-loop-again Inv-loop μ-loop
+loop-again c =
+    let st = c .before .before .before .before .before .before .before .before .before .before .before .before .before .before .before .before in
+    let w = c .before .before .before .before .before .loop .inv .0 in
+    let l = c .before .before .before .before .loop-test .taken in
+    let e = sym (c .before .is-answered .ensures) ∙ not-false _ (c .if1 .left) in (
+      walk-next _ (st .pre .0 .ascending) _ _ _ _ w l (skipped (c .before .before)),
+      below-more _ _ (c .before .before .before .before .before .loop .inv .1) (tried-own _ _ _ _ _ (walk-from _ (st .pre .0 .ascending) _ _ _ _ w l) ∙ (rw (c .before .before .before .before .before .before .before .before .before .before .before .to-at .ensures) at e)),
+    )
+
+returns-2 : tie.Need-returns-2 Inv-loop μ-loop
+returns-2 c =
+    let st = c .before .before .before .before .before .before .before .before .before .before .before .before in
+    sym (tried-done _ (st .pre .0 .ascending) _ _ _ _ _ (c .before .loop .inv .0) (c .loop-test .left) (c .before .loop .inv .1))
+
+pub closes-at-spec : {M : Type 1} → statement M
+closes-at-spec =
+    tie.close
+    (tie.spec
+    Inv-loop
+    μ-loop
+    from-at-requires
+    wide-requires
+    to-at-requires
+    wide-requires-2
+    add-start-of
+    start-of-requires
+    add-start-of-2
+    start-of-requires-2
+    start-of-requires-3
+    start-of-requires-4
+    loop-holds
+    label-at-requires
+    skip-requires
+    is-answered-requires
+    returns
+    add-j
+    loop-less
+    loop-again
+    returns-2)

@@ -1,0 +1,84 @@
+-- Marking by sweeps in place: the set that the marks are, what they keep while sweeps run, and the table by which a state's hops are found.
+-- Assumes nothing: these are definitions.
+use Prim.Native.Nat.{ℕ, _+_, _<_, _≤_}
+use mathlib.Core.Path.{_≡_}
+use mathlib.Core.Bool.{Bool, true, cond, _&&_}
+use mathlib.Core.Logic.{_⊎_}
+use mathlib.Core.List.{List}
+use lib.ListN.{length, getD, drop}
+use lib.Dec.{eqb}
+use Rattle.graph.specs.Tests.{any, tally}
+use Rattle.graph.specs.Hops.{count, from, label, to, is}
+use Rattle.graph.specs.Order.{Ascending}
+use Rattle.graph.specs.Search.{firstOf}
+use Rattle.graph.specs.Check.{most-states, most-hops}
+use Rattle.confluence.specs.Rounds.{Pairs, closes, marked}
+
+-- the hop at place i is marked: "Marks are 1 or 0"
+unfoldable pub isMarked : List ℕ → ℕ → Bool
+isMarked ms i = eqb (getD ms i 0) 1
+
+-- the set that marks are: some place has the silent hop s to t, and is marked
+unfoldable pub heldAt : List ℕ → List ℕ → ℕ → ℕ → ℕ → Bool
+heldAt hs ms s t i = is hs s 0 t i && isMarked ms i
+
+unfoldable pub heldBy : List ℕ → List ℕ → Pairs
+heldBy hs ms s t = any (count hs) (heldAt hs ms s t)
+
+-- how many hops are marked
+unfoldable pub markCount : List ℕ → List ℕ → ℕ
+markCount hs ms = tally (count hs) (isMarked ms)
+
+-- what marks keep while sweeps run: they are 1 or 0, 1 at silent hops only, and they hold the marked set
+pub record Marking (hs ms : List ℕ) : Type 0 where
+  pub room : count hs ≤ length ms
+  pub bits : (i : ℕ) → i < count hs → (getD ms i 0 ≡ 0) ⊎ (getD ms i 0 ≡ 1)
+  pub silent : (i : ℕ) → i < count hs → isMarked ms i ≡ true → label hs i ≡ 0
+  pub holds : (s t : ℕ) → marked hs s t ≡ true → heldBy hs ms s t ≡ true
+
+-- the hop at place i, if it is marked, closes with the set that the marks are
+unfoldable pub Stands : List ℕ → List ℕ → ℕ → Type 0
+Stands hs ms i = isMarked ms i ≡ true → closes hs (heldBy hs ms) (from hs i) (to hs i) ≡ true
+
+-- the table of first places, one for each state that can be and one past the last
+unfoldable pub Table : List ℕ → List ℕ → Type 0
+Table hs st = (s : ℕ) → s ≤ most-states → getD st s 0 ≡ firstOf hs s
+
+-- what marking needs of a hop list; `check` sees to it
+pub record Ready (hs : List ℕ) : Type 0 where
+  pub ascending : Ascending hs
+  pub hops-most : count hs ≤ most-hops
+  pub from-in : (i : ℕ) → i < count hs → from hs i < most-states
+  pub to-in : (i : ℕ) → i < count hs → to hs i < most-states
+
+-- the hops of s that are labelled a or more are those from place `at` on and before `past`
+pub record Row (hs : List ℕ) (s a at past : ℕ) : Type 0 where
+  pub within : past ≤ count hs
+  pub own : (k : ℕ) → at ≤ k → k < past → from hs k ≡ s
+  pub low : (k : ℕ) → at ≤ k → k < past → a ≤ label hs k
+  pub rest : (k : ℕ) → k < count hs → from hs k ≡ s → a ≤ label hs k → (at ≤ k) × (k < past)
+
+-- of the places from `at` on, `r` is the first before `past` whose label is not below a, or `past`
+pub record Skipped (hs : List ℕ) (at past a r : ℕ) : Type 0 where
+  pub after : at ≤ r
+  pub before : r ≤ past
+  pub passed : (k : ℕ) → at ≤ k → k < r → label hs k < a
+  pub stopped : r < past → a ≤ label hs r
+
+-- what testing the hop at place i leaves: its mark goes if it does not close; r is 1 if it went, and else 0
+pub record Tested (hs ms : List ℕ) (i : ℕ) (new : List ℕ) (r : ℕ) : Type 0 where
+  pub marking : Marking hs new
+  pub beyond : drop (count hs) new ≡ drop (count hs) ms
+  pub fewer : markCount hs new + r ≤ markCount hs ms
+  pub same : r ≡ 0 → (new ≡ ms) × Stands hs ms i
+
+-- what a sweep leaves that has come to place n: r marks went, and if none did each marked hop that it passed closes
+pub record Swept (hs ms : List ℕ) (n : ℕ) (new : List ℕ) (r : ℕ) : Type 0 where
+  pub marking : Marking hs new
+  pub beyond : drop (count hs) new ≡ drop (count hs) ms
+  pub fewer : markCount hs new + r ≤ markCount hs ms
+  pub same : r ≡ 0 → (new ≡ ms) × ((i : ℕ) → i < n → Stands hs ms i)
+
+-- the marks that sweeps begin with: 1 for a silent hop, 0 for a visible one
+unfoldable pub firstMark : List ℕ → ℕ → ℕ
+firstMark hs i = cond (eqb (label hs i) 0) 1 0

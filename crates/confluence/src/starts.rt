@@ -1,0 +1,55 @@
+// The table of first places: for each state the place where its hops begin, found once in a pass over the list.
+use graph::hops::from_at;
+use graph::hops::hop_count;
+ghost use mathlib.Core.Path.{_≡_};
+ghost use Prim.Native.Nat.{_+_, _<_};
+ghost use lib.ListN.{getD};
+ghost use Rattle.graph.specs.Search.{firstOf};
+ghost use Rattle.confluence.specs.Sweep.{Table, Ready};
+
+// A number read from the list or the table, as a place or an index.
+pub fn wide(x: u16) -> usize
+    ensures { λ r. ⌜ r ≡ x ⌝ }
+{
+    x as usize
+}
+
+// Where the hops of s begin, by the table.
+pub fn start_of(starts: &[u16; 1025], s: usize) -> usize
+    requires { ⌜ s < 1025 ⌝ }
+    ensures { λ r. ⌜ r ≡ getD (now (starts .entry)) s 0 ⌝ }
+{
+    wide(starts[s])
+}
+
+// Where the hops of the states after s begin, `at` being where those of s do.
+fn pass(hops: &[u16], at: usize, s: usize) -> usize
+    requires { ⌜ Ready (now hops) ⌝ ∗ ⌜ at ≡ firstOf (now hops) s ⌝ }
+    ensures { λ r. ⌜ r ≡ firstOf (now (hops .entry)) (s + 1) ⌝ }
+{
+    let n = hop_count(hops);
+    let mut i = at;
+    while i < n {
+        if wide(from_at(hops, i).0) > s {
+            return i;
+        }
+        i += 1;
+    }
+    i
+}
+
+// The table: a place for each state that can be, and one past the last.
+pub fn starts_of(hops: &[u16]) -> [u16; 1025]
+    requires { ⌜ Ready (now hops) ⌝ }
+    ensures { λ r. ⌜ Table (now (hops .entry)) r ⌝ }
+{
+    let mut starts = [0u16; 1025];
+    let mut at = 0;
+    let mut s = 0;
+    while s < 1025 {
+        starts[s] = at as u16;
+        at = pass(hops, at, s);
+        s += 1;
+    }
+    starts
+}

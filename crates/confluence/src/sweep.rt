@@ -1,0 +1,83 @@
+// Marking by sweeps in place. The marks start at 1 for every silent hop; a sweep goes over the places in list order, and a marked hop that
+// no longer closes loses its mark at once; sweeps go on until one takes nothing. The marks hold the marked set throughout, and are a
+// confluent set when they rest.
+use super::closes::closes_at;
+use super::starts::starts_of;
+use graph::hops::hop_count;
+use graph::hops::label_at;
+ghost use mathlib.Core.Path.{_≡_};
+ghost use mathlib.Core.List.{_++_};
+ghost use Prim.Native.Nat.{_<_, _≤_};
+ghost use lib.ListN.{length, drop};
+ghost use Rattle.graph.specs.Tests.{listed};
+ghost use Rattle.graph.specs.Hops.{count};
+ghost use Rattle.confluence.specs.Mark.{marksOf};
+ghost use Rattle.confluence.specs.Sweep.{Marking, Table, Ready, Tested, Swept, firstMark};
+
+// 1 for each silent hop, 0 for each visible one.
+fn start_marks(hops: &[u16], marks: &mut [u8])
+    requires { ⌜ count (now hops) ≤ length (now marks) ⌝ }
+    ensures { λ r. ⌜ now (marks .exit) ≡ listed (count (now (hops .entry))) (firstMark (now (hops .entry))) ++ drop (count (now (hops .entry))) (now (marks .entry)) ⌝ }
+{
+    let past = hop_count(hops);
+    let mut i = 0;
+    while i < past {
+        if label_at(hops, i).0 == 0 {
+            marks[i] = 1;
+        } else {
+            marks[i] = 0;
+        }
+        i += 1;
+    }
+}
+
+// Takes the mark of the hop at place i if it does not close; returns how many marks went.
+fn test_at(hops: &[u16], starts: &[u16; 1025], marks: &mut [u8], i: usize) -> usize
+    requires { ⌜ Ready (now hops) ⌝ ∗ ⌜ Table (now hops) (now starts) ⌝ ∗ ⌜ Marking (now hops) (now marks) ⌝ ∗ ⌜ i < count (now hops) ⌝ }
+    ensures { λ r. ⌜ Tested (now (hops .entry)) (now (marks .entry)) i (now (marks .exit)) r ⌝ }
+{
+    if marks[i] == 0 {
+        return 0;
+    }
+    if closes_at(hops, starts, marks, i) {
+        return 0;
+    }
+    marks[i] = 0;
+    1
+}
+
+// One sweep; returns how many marks went.
+fn sweep(hops: &[u16], starts: &[u16; 1025], marks: &mut [u8]) -> usize
+    requires { ⌜ Ready (now hops) ⌝ ∗ ⌜ Table (now hops) (now starts) ⌝ ∗ ⌜ Marking (now hops) (now marks) ⌝ }
+    ensures { λ r. ⌜ Swept (now (hops .entry)) (now (marks .entry)) (count (now (hops .entry))) (now (marks .exit)) r ⌝ }
+{
+    let n = hop_count(hops);
+    let mut lost = 0;
+    let mut i = 0;
+    while i < n {
+        lost += test_at(hops, starts, marks, i);
+        i += 1;
+    }
+    lost
+}
+
+// Sweeps until one takes nothing.
+fn settle(hops: &[u16], starts: &[u16; 1025], marks: &mut [u8])
+    requires { ⌜ Ready (now hops) ⌝ ∗ ⌜ Table (now hops) (now starts) ⌝ ∗ ⌜ Marking (now hops) (now marks) ⌝ }
+    ensures { λ r. ⌜ now (marks .exit) ≡ marksOf (now (hops .entry)) ++ drop (count (now (hops .entry))) (now (marks .entry)) ⌝ }
+{
+    let mut lost = 1;
+    while lost > 0 {
+        lost = sweep(hops, starts, marks);
+    }
+}
+
+// Marks by sweeps.
+pub fn mark_all(hops: &[u16], marks: &mut [u8])
+    requires { ⌜ Ready (now hops) ⌝ ∗ ⌜ count (now hops) ≤ length (now marks) ⌝ }
+    ensures { λ r. ⌜ now (marks .exit) ≡ marksOf (now (hops .entry)) ++ drop (count (now (hops .entry))) (now (marks .entry)) ⌝ }
+{
+    let starts = starts_of(hops);
+    start_marks(hops, marks);
+    settle(hops, &starts, marks);
+}

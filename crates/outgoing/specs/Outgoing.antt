@@ -1,0 +1,34 @@
+-- Hops of a state: "For a side, 1 or 2, and a state, the outgoing hops are shown as a part of that table itself. The part is empty for another
+-- side, an absent state, or if either table breaks checks 1 to 4." Assumes nothing: these are definitions.
+use Prim.Native.Nat.{ℕ}
+use mathlib.Core.Bool.{Bool, cond, _&&_}
+use mathlib.Core.List.{List, []}
+use lib.Dec.{eqb, ltb}
+use denote.Ref.{RefT, now}
+use Rattle.graph.specs.Hops.{between, standsAt}
+use Rattle.graph.specs.Search.{firstOf, pastOf}
+use Rattle.graph.specs.Check.{checkOf}
+use Rattle.graph.specs.declared.Shape.{Shape}
+
+-- both tables pass checks 1 to 4 (that label counts differ does not matter)
+unfoldable pub bothPass : Shape → List ℕ → Shape → List ℕ → Bool
+bothPass sh1 h1 sh2 h2 = eqb (checkOf sh1 h1 .number) 0 && eqb (checkOf sh2 h2 .number) 0
+
+-- the side whose hops are shown: 1, 2, or 0 for none
+unfoldable pub chosen : ℕ → ℕ → Shape → List ℕ → Shape → List ℕ → ℕ
+chosen side s sh1 h1 sh2 h2 =
+    cond (bothPass sh1 h1 sh2 h2)
+    (cond (eqb side 1 && ltb s (sh1 .states)) 1
+    (cond (eqb side 2 && ltb s (sh2 .states)) 2 0)) 0
+
+abbrev pub outgoing : List ℕ → ℕ → List ℕ
+outgoing hs s = between hs (firstOf hs s) (pastOf hs s)
+
+-- what the part holds
+unfoldable pub shown : ℕ → ℕ → List ℕ → List ℕ → List ℕ
+shown which s h1 h2 = cond (eqb which 1) (outgoing h1 s) (cond (eqb which 2) (outgoing h2 s) [])
+
+-- where it stands; an empty part's position is free in document 01, and is the front of table 1 here
+unfoldable pub shownAt : ℕ → ℕ → RefT (List ℕ) → RefT (List ℕ) → ℕ × ℕ
+shownAt which s t1 t2 =
+    cond (eqb which 1) (standsAt t1 (firstOf (now t1) s)) (cond (eqb which 2) (standsAt t2 (firstOf (now t2) s)) (standsAt t1 0))

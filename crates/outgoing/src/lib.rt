@@ -1,0 +1,74 @@
+// Hops of a state: the outgoing hops, shown as a part of the lent table itself.
+use graph::OldState;
+use graph::Shape;
+use graph::hops::part;
+use graph::limits::check;
+use graph::search::first_of;
+use graph::search::past_of;
+ghost use mathlib.Core.Path.{_≡_};
+ghost use Prim.Native.Nat.{_<_};
+ghost use denote.Ref.{ptr};
+ghost use Rattle.graph.specs.Hops.{standsAt};
+ghost use Rattle.graph.specs.Order.{Ascending};
+ghost use Rattle.graph.specs.Search.{firstOf};
+ghost use Rattle.outgoing.specs.Outgoing.{bothPass, chosen, outgoing, shown, shownAt};
+
+fn both_pass(shape1: Shape, hops1: &[u16], shape2: Shape, hops2: &[u16]) -> bool
+    ensures { λ r. ⌜ r ≡ bothPass shape1 (now (hops1 .entry)) shape2 (now (hops2 .entry)) ⌝ }
+{
+    let first = check(shape1, hops1);
+    let second = check(shape2, hops2);
+    (first.number == 0) & (second.number == 0)
+}
+
+// The side whose hops are shown: 1, 2, or 0 for none.
+fn choose(side: u32, state: u32, shape1: Shape, hops1: &[u16], shape2: Shape, hops2: &[u16]) -> u32
+    ensures { λ r. ⌜ r ≡ chosen side state shape1 (now (hops1 .entry)) shape2 (now (hops2 .entry)) ⌝ }
+{
+    if !both_pass(shape1, hops1, shape2, hops2) {
+        return 0;
+    }
+    if (side == 1) & (state < shape1.states) {
+        return 1;
+    }
+    if (side == 2) & (state < shape2.states) {
+        return 2;
+    }
+    0
+}
+
+// The hops of a state of an ascending list.
+fn out_of<'a>(hops: &'a [u16], state: u32) -> &'a [u16]
+    requires { ⌜ Ascending (now hops) × (state < 65535) ⌝ }
+    ensures shows { λ r. ⌜ now r ≡ outgoing (now (hops .entry)) state ⌝ }
+    ensures stands { λ r. ⌜ ptr r ≡ standsAt (hops .entry) (firstOf (now (hops .entry)) state) ⌝ }
+{
+    let s = OldState(state as u16);
+    let first = first_of(hops, s);
+    let past = past_of(hops, s);
+    part(hops, first, past)
+}
+
+// The entry. Any side and state, any two tables.
+pub fn hops_of<'a>(
+    side: u32,
+    state: u32,
+    shape1: Shape,
+    hops1: &'a [u16],
+    shape2: Shape,
+    hops2: &'a [u16],
+) -> &'a [u16]
+    ensures shows { λ r. ⌜ now r ≡
+        shown (chosen side state shape1 (now (hops1 .entry)) shape2 (now (hops2 .entry))) state (now (hops1 .entry)) (now (hops2 .entry)) ⌝ }
+    ensures stands { λ r. ⌜ ptr r ≡
+        shownAt (chosen side state shape1 (now (hops1 .entry)) shape2 (now (hops2 .entry))) state (hops1 .entry) (hops2 .entry) ⌝ }
+{
+    let which = choose(side, state, shape1, hops1, shape2, hops2);
+    if which == 1 {
+        return out_of(hops1, state);
+    }
+    if which == 2 {
+        return out_of(hops2, state);
+    }
+    part(hops1, 0, 0)
+}

@@ -1,0 +1,4 @@
+pub mod Firsts
+pub mod Noted
+pub mod Equations
+pub mod Rows

@@ -1,0 +1,389 @@
+-- X, Y and Z meet their contracts, by one measure that falls with each call: three times the rounds left, and what is left of the round. X's
+-- loop has passed only hops that are answered, Y's only hops that do not close; the table stays right. Assumes nothing.
+use Prim.Native.Nat.{ℕ, _<_, _≤_, _+_, _*_, _-_}
+use borrow.Author.Needs.{needs}
+use borrow.Author.Tests.{not-true, not-false}
+use mathlib.Core.Path.{_≡_, refl, sym, _∙_}
+use mathlib.Core.Bool.{true, false}
+use native.Mathlib.Omega.{arith}
+use lib.ListN.{length, length-set}
+use Rattle.graph.specs.Hops.{count, from, label, to}
+use Rattle.graph.specs.Search.{firstOf, pastOf}
+use Rattle.graph.proofs.Lookup.{past-within}
+use Rattle.confluence.specs.Rounds.{closing, answered, survives}
+use Rattle.rounds.specs.Index.{labelledFrom}
+use Rattle.rounds.specs.Known.{Right}
+use Rattle.rounds.proofs.Firsts.{Through, through-none, through-more, first-noted, past-noted, labelled-within, from-low, label-low, to-low}
+use Rattle.rounds.proofs.Noted.{told, note}
+use Rattle.rounds.proofs.Equations.{closes-yes, closes-no, answers-hop, answers-still, answers-no, answered-at, closing-same, found-silent, closing-at, closing-none, survives-none, survives-more}
+use borrow.Fn.Kinds.{In}
+use borrow.Fn.PlainCycle.{Measures, is, falls, and}
+use Rattle.rounds.proofs.cycle.x.Reads as x
+use Rattle.rounds.proofs.cycle.x.Kinds as x-kinds
+use Rattle.rounds.proofs.cycle.+x+y+z.Lts-x as x-lts
+use Rattle.rounds.proofs.cycle.y.Reads as y
+use Rattle.rounds.proofs.cycle.y.Kinds as y-kinds
+use Rattle.rounds.proofs.cycle.+x+y+z.Lts-y as y-lts
+use Rattle.rounds.proofs.cycle.z.Reads as z
+use Rattle.rounds.proofs.cycle.z.Kinds as z-kinds
+use Rattle.rounds.proofs.cycle.+x+y+z.Lts-z as z-lts
+use Rattle.graph.proofs.hops.from_at.Reads as from-at-reads
+use Rattle.graph.proofs.hops.label_at.Reads as label-at-reads
+use Rattle.graph.proofs.hops.to_at.Reads as to-at-reads
+use Rattle.rounds.proofs.index.first_place.Reads as first-place-reads
+use Rattle.rounds.proofs.index.labelled_from.Reads as labelled-from-reads
+use Rattle.rounds.proofs.index.labelled_past.Reads as labelled-past-reads
+use Rattle.rounds.proofs.index.past_place.Reads as past-place-reads
+use Rattle.rounds.proofs.index.silent_place.Reads as silent-place-reads
+use Rattle.rounds.proofs.cycle.+x+y+z.{statement}
+use Rattle.rounds.proofs.cycle.+x+y+z.Tie.{close}
+
+abbrev μ-x : Measures 3 x-kinds.ps ℕ
+μ-x κs a = 3 * a .1 .1 .1 .0
+
+abbrev μ-y : Measures 3 y-kinds.ps ℕ
+μ-y κs a = 3 * a .1 .1 .1 .1 .0 + 2
+
+abbrev μ-z : Measures 3 z-kinds.ps ℕ
+μ-z κs a = 3 * a .1 .1 .1 .1 .0 + 1
+
+abbrev x-at : ℕ → In 3 x-kinds.ps
+x-at t = and 3 x-kinds.ps (is 3 x-kinds.ps μ-x t) x.Pre
+
+abbrev x-below : ℕ → In 3 x-kinds.ps
+x-below t = and 3 x-kinds.ps (falls 3 x-kinds.ps _<_ μ-x t) x.Pre
+
+abbrev y-at : ℕ → In 3 y-kinds.ps
+y-at t = and 3 y-kinds.ps (is 3 y-kinds.ps μ-y t) y.Pre
+
+abbrev y-below : ℕ → In 3 y-kinds.ps
+y-below t = and 3 y-kinds.ps (falls 3 y-kinds.ps _<_ μ-y t) y.Pre
+
+abbrev z-at : ℕ → In 3 z-kinds.ps
+z-at t = and 3 z-kinds.ps (is 3 z-kinds.ps μ-z t) z.Pre
+
+abbrev z-below : ℕ → In 3 z-kinds.ps
+z-below t = and 3 z-kinds.ps (falls 3 z-kinds.ps _<_ μ-z t) z.Pre
+
+abbrev x-calls : ℕ → x-lts.Claims
+x-calls t = (from-at-reads.Asked, from-at-reads.Learnt, to-at-reads.Asked, to-at-reads.Learnt, past-place-reads.Asked, past-place-reads.Learnt, first-place-reads.Asked, first-place-reads.Learnt, y-below t, y.Post)
+
+abbrev y-calls : ℕ → y-lts.Claims
+y-calls t = (label-at-reads.Asked, label-at-reads.Learnt, to-at-reads.Asked, to-at-reads.Learnt, labelled-past-reads.Asked, labelled-past-reads.Learnt, labelled-from-reads.Asked, labelled-from-reads.Learnt, z-below t, z.Post)
+
+abbrev z-calls : ℕ → z-lts.Claims
+z-calls t = (silent-place-reads.Asked, silent-place-reads.Learnt, x-below t, x.Post)
+
+abbrev x-Inv-loop : x-lts.InvT-loop
+x-Inv-loop hops firsts i k known₀ at told s2 past j₀ known j =
+    (past ≡ pastOf hops (from hops i)) × (firstOf hops (from hops i) ≤ j) ×
+    Through (λ (q : ℕ). answered hops (survives hops (k - 1)) (s2 .0) q ≡ true) (firstOf hops (from hops i)) j × Right hops known ×
+    (length known ≡ length known₀)
+
+abbrev x-μ-loop : x-lts.MeasureT-loop
+x-μ-loop hops firsts i k known₀ at told s2 past j₀ known j = past - j
+
+x-returns : (t : ℕ) → x-lts.Need-returns (x-calls t) (x-at t) x.Post x-Inv-loop x-μ-loop
+x-returns t c = (survives-none _ _ _ (c .before .before .before .before .pre .1 .0 .0) (c .before .before .before .before .pre .1 .0 .1) (c .if1 .taken), c .before .before .before .before .pre .1 .1 .right)
+
+x-mul-at : (t : ℕ) → x-lts.Need-mul-at (x-calls t) (x-at t) x.Post x-Inv-loop x-μ-loop
+x-mul-at t c = omega arith
+
+x-add-at : (t : ℕ) → x-lts.Need-add-at (x-calls t) (x-at t) x.Post x-Inv-loop x-μ-loop
+x-add-at t c = omega arith
+
+x-slice-read-told : (t : ℕ) → x-lts.Need-slice-read-told (x-calls t) (x-at t) x.Post x-Inv-loop x-μ-loop
+x-slice-read-told t c = omega arith
+
+x-returns-2 : (t : ℕ) → x-lts.Need-returns-2 (x-calls t) (x-at t) x.Post x-Inv-loop x-μ-loop
+x-returns-2 t c =
+    let s = c .before .before .before .before .before .before in
+    (told _ _ (s .pre .1 .1 .right) (s .args .k) (s .args .i) false (omega arith) (c .if2 .taken), s .pre .1 .1 .right)
+
+x-returns-3 : (t : ℕ) → x-lts.Need-returns-3 (x-calls t) (x-at t) x.Post x-Inv-loop x-μ-loop
+x-returns-3 t c =
+    let s = c .before .before .before .before .before .before .before in
+    (told _ _ (s .pre .1 .1 .right) (s .args .k) (s .args .i) true (omega arith) (c .if3 .taken), s .pre .1 .1 .right)
+
+x-from-at-requires : (t : ℕ) → x-lts.Need-from-at-requires (x-calls t) (x-at t) x.Post x-Inv-loop x-μ-loop
+x-from-at-requires t c κs = search needs
+
+x-to-at-requires : (t : ℕ) → x-lts.Need-to-at-requires (x-calls t) (x-at t) x.Post x-Inv-loop x-μ-loop
+x-to-at-requires t c κs = search needs
+
+-- the state that the hop leaves has a place of its own
+x-low : (t : ℕ) (c : x-lts.After-from-at (x-calls t) (x-at t) x.Post x-Inv-loop x-μ-loop) → c .from-at .result .0 < 1024
+x-low t c =
+    let s = c .before .before .before .before .before .before .before .before in
+    let l : from (s .args .hops .now) (s .args .i) < 1024 = from-low _ _ (s .pre .1 .1 .admitted) _ (s .pre .1 .0 .0) in
+    omega arith
+
+x-past-place-requires : (t : ℕ) → x-lts.Need-past-place-requires (x-calls t) (x-at t) x.Post x-Inv-loop x-μ-loop
+x-past-place-requires t c κs = omega (arith, x-low t (c .before))
+
+x-first-place-requires : (t : ℕ) → x-lts.Need-first-place-requires (x-calls t) (x-at t) x.Post x-Inv-loop x-μ-loop
+x-first-place-requires t c κs = omega (arith, x-low t (c .before .before))
+
+x-loop-holds : (t : ℕ) → x-lts.Need-loop-holds (x-calls t) (x-at t) x.Post x-Inv-loop x-μ-loop
+x-loop-holds t c =
+    let s = c .before .before .before .before .before .before .before .before .before .before .before in
+    let ix = s .pre .1 .1 .index in
+    let e = c .before .before .before .from-at .ensures in
+    let l : from (s .args .hops .now) (s .args .i) < 1024 = from-low _ _ (s .pre .1 .1 .admitted) _ (s .pre .1 .0 .0) in
+    let f = first-noted _ _ ix _ e l (c .first-place .ensures) in
+    (past-noted _ _ ix _ e l (c .before .past-place .ensures), omega arith, through-none _ f, s .pre .1 .1 .right, refl)
+
+x-sub-y : (t : ℕ) → x-lts.Need-sub-y (x-calls t) (x-at t) x.Post x-Inv-loop x-μ-loop
+x-sub-y t c = omega arith
+
+x-y-requires : (t : ℕ) → x-lts.Need-y-requires (x-calls t) (x-at t) x.Post x-Inv-loop x-μ-loop
+x-y-requires t c κs =
+    let s = c .before .before .before .before .before .before .before .before .before .before .before .before .before .before in
+    let r = s .pre .1 .1 in
+    let l : to (s .args .hops .now) (s .args .i) < 1024 = to-low _ _ (r .admitted) _ (s .pre .1 .0 .0) in (
+      omega arith,
+      (
+        (omega (arith, past-within _ (r .index .ascending) (from (s .args .hops .now) (s .args .i))), omega arith),
+        record { shape = r .shape; admitted = r .admitted; index = r .index; room = omega arith; right = c .before .before .loop .inv .3 },
+      ),
+    )
+
+x-slice-write-known : (t : ℕ) → x-lts.Need-slice-write-known (x-calls t) (x-at t) x.Post x-Inv-loop x-μ-loop
+x-slice-write-known t c = omega arith
+
+x-same-length : (t : ℕ) → x-lts.Need-same-length (x-calls t) (x-at t) x.Post x-Inv-loop x-μ-loop
+x-same-length t c = simp length-set (omega arith)
+
+x-returns-4 : (t : ℕ) → x-lts.Need-returns-4 (x-calls t) (x-at t) x.Post x-Inv-loop x-μ-loop
+x-returns-4 t c =
+    let s = c .before .before .before .before .before .before .before .before .before .before .before .before .before .before .before .before .before .before in
+    let b = c .before .before .before .before .before .before in
+    let v = c .before .before .before .y .ensures in
+    let e =
+    survives-more _ _ _ (s .pre .1 .0 .0) (s .pre .1 .0 .1) (c .before .before .before .before .before .before .before .before .before .before .before .before .before .before .if1 .left) (c .before .before .before .before .before .before .before .before .before .to-at .ensures)
+    (closes-no _ (s .pre .1 .1 .index .ascending) _ _ _ (b .loop .inv .0) (c .before .before .before .before .before .loop-test .taken) (b .loop .inv .1)
+    (sym (v .0) ∙ not-true _ (c .if4 .taken))) in
+    (e, note _ _ (v .1) (s .args .k) (s .args .i) false (omega arith) (omega arith) e)
+
+x-add-j : (t : ℕ) → x-lts.Need-add-j (x-calls t) (x-at t) x.Post x-Inv-loop x-μ-loop
+x-add-j t c = omega arith
+
+x-loop-less : (t : ℕ) → x-lts.Need-loop-less (x-calls t) (x-at t) x.Post x-Inv-loop x-μ-loop
+x-loop-less t c = omega arith
+
+x-loop-again : (t : ℕ) → x-lts.Need-loop-again (x-calls t) (x-at t) x.Post x-Inv-loop x-μ-loop
+x-loop-again t c =
+    let b = c .before .before .before .before .before .before .loop .inv in
+    let v = c .before .before .before .y .ensures in
+    (b .0, omega arith, through-more _ (b .2) (sym (v .0) ∙ not-false _ (c .if4 .left)), v .1, omega arith)
+
+x-slice-write-known-2 : (t : ℕ) → x-lts.Need-slice-write-known-2 (x-calls t) (x-at t) x.Post x-Inv-loop x-μ-loop
+x-slice-write-known-2 t c = omega arith
+
+x-same-length-2 : (t : ℕ) → x-lts.Need-same-length-2 (x-calls t) (x-at t) x.Post x-Inv-loop x-μ-loop
+x-same-length-2 t c = simp length-set (omega arith)
+
+x-returns-5 : (t : ℕ) → x-lts.Need-returns-5 (x-calls t) (x-at t) x.Post x-Inv-loop x-μ-loop
+x-returns-5 t c =
+    let s = c .before .before .before .before .before .before .before .before .before .before .before .before .before in
+    let b = c .before .loop .inv in
+    let e =
+    survives-more _ _ _ (s .pre .1 .0 .0) (s .pre .1 .0 .1) (c .before .before .before .before .before .before .before .before .before .if1 .left) (c .before .before .before .before .to-at .ensures)
+    (closes-yes _ (s .pre .1 .1 .index .ascending) _ _ _ (b .0) (c .loop-test .left) (b .2)) in
+    (e, note _ _ (b .3) (s .args .k) (s .args .i) true (omega arith) (omega arith) e)
+
+abbrev y-Inv-loop : y-lts.InvT-loop
+y-Inv-loop hops firsts i s2 k known₀ a s3 past j₀ known j =
+    (labelledFrom hops (s2 .0) (a .0) ≤ j) ×
+    Through (λ (q : ℕ). closing (survives hops k) (s3 .0) (to hops q) ≡ false) (labelledFrom hops (s2 .0) (a .0)) j × Right hops known ×
+    (length known ≡ length known₀)
+
+abbrev y-μ-loop : y-lts.MeasureT-loop
+y-μ-loop hops firsts i s2 k known₀ a s3 past j₀ known j = past - j
+
+y-label-at-requires : (t : ℕ) → y-lts.Need-label-at-requires (y-calls t) (y-at t) y.Post y-Inv-loop y-μ-loop
+y-label-at-requires t c κs = search needs
+
+y-to-at-requires : (t : ℕ) → y-lts.Need-to-at-requires (y-calls t) (y-at t) y.Post y-Inv-loop y-μ-loop
+y-to-at-requires t c κs = search needs
+
+y-labelled-past-requires : (t : ℕ) → y-lts.Need-labelled-past-requires (y-calls t) (y-at t) y.Post y-Inv-loop y-μ-loop
+y-labelled-past-requires t c κs =
+    let s = c .before .before .before .before .before in
+    let l : label (s .args .hops .now) (s .args .i) < 1024 = label-low _ _ (s .pre .1 .1 .admitted) _ (s .pre .1 .0 .0) in
+    (s .pre .1 .1 .index, s .pre .1 .0 .1, omega arith)
+
+y-labelled-from-requires : (t : ℕ) → y-lts.Need-labelled-from-requires (y-calls t) (y-at t) y.Post y-Inv-loop y-μ-loop
+y-labelled-from-requires t c κs =
+    let s = c .before .before .before .before .before .before in
+    (s .pre .1 .1 .index, s .pre .1 .0 .1)
+
+y-loop-holds : (t : ℕ) → y-lts.Need-loop-holds (y-calls t) (y-at t) y.Post y-Inv-loop y-μ-loop
+y-loop-holds t c = (omega arith, through-none _ (c .labelled-from .ensures), c .before .before .before .before .before .before .before .pre .1 .1 .right, refl)
+
+-- a place of the walk is one of the list
+y-within : (t : ℕ) (c : y-lts.In-loop (y-calls t) (y-at t) y.Post y-Inv-loop y-μ-loop) → c .before .loop .j < count (c .before .before .before .before .before .before .before .before .before .args .hops .now)
+y-within t c =
+    let s = c .before .before .before .before .before .before .before .before .before in
+    omega (arith, labelled-within (s .args .hops .now) (s .pre .1 .1 .index .ascending) (s .args .s2 .0) (c .before .before .before .before .before .label-at .result .0))
+
+y-to-at-requires-2 : (t : ℕ) → y-lts.Need-to-at-requires-2 (y-calls t) (y-at t) y.Post y-Inv-loop y-μ-loop
+y-to-at-requires-2 t c κs = y-within t c
+
+y-z-requires : (t : ℕ) → y-lts.Need-z-requires (y-calls t) (y-at t) y.Post y-Inv-loop y-μ-loop
+y-z-requires t c κs =
+    let s = c .before .before .before .before .before .before .before .before .before .before .before in
+    let r = s .pre .1 .1 in
+    let l : to (s .args .hops .now) (s .args .i) < 1024 = to-low _ _ (r .admitted) _ (s .pre .1 .0 .0) in
+    (omega arith, (omega arith, record { shape = r .shape; admitted = r .admitted; index = r .index; room = omega arith; right = c .before .before .before .loop .inv .2 }))
+
+y-same-length : (t : ℕ) → y-lts.Need-same-length (y-calls t) (y-at t) y.Post y-Inv-loop y-μ-loop
+y-same-length t c = omega arith
+
+y-returns : (t : ℕ) → y-lts.Need-returns (y-calls t) (y-at t) y.Post y-Inv-loop y-μ-loop
+y-returns t c =
+    let v = c .before .before .before .z .ensures in (
+      answered-at _ _ _ _ (c .before .before .before .before .before .before .before .before .before .before .before .label-at .ensures) (c .before .before .before .before .before .before .before .before .before .before .to-at .ensures)
+          (answers-hop _ (c .before .before .before .before .before .before .before .before .before .before .before .before .before .before .before .pre .1 .1 .index .ascending) _ _ _ _ (c .before .before .before .before .before .before .before .before .before .labelled-past .ensures) (c .before .before .before .before .before .before .loop-test .taken) (c .before .before .before .before .before .before .before .loop .inv .0)
+          (c .before .before .before .before .before .to-at2 .ensures) (sym (v .0) ∙ c .if1 .taken)),
+      v .1,
+    )
+
+y-add-j : (t : ℕ) → y-lts.Need-add-j (y-calls t) (y-at t) y.Post y-Inv-loop y-μ-loop
+y-add-j t c = omega arith
+
+y-loop-less : (t : ℕ) → y-lts.Need-loop-less (y-calls t) (y-at t) y.Post y-Inv-loop y-μ-loop
+y-loop-less t c = omega arith
+
+y-loop-again : (t : ℕ) → y-lts.Need-loop-again (y-calls t) (y-at t) y.Post y-Inv-loop y-μ-loop
+y-loop-again t c =
+    let b = c .before .before .before .before .before .before .before .loop .inv in
+    let v = c .before .before .before .z .ensures in
+    (omega arith, through-more _ (b .1) (rw (← (c .before .before .before .before .before .to-at2 .ensures)) (sym (v .0) ∙ c .if1 .left)), v .1, omega arith)
+
+y-z-requires-2 : (t : ℕ) → y-lts.Need-z-requires-2 (y-calls t) (y-at t) y.Post y-Inv-loop y-μ-loop
+y-z-requires-2 t c κs =
+    let s = c .before .before .before .before .before .before .before .before .before .before .before .before in
+    let r = s .pre .1 .1 in
+    let l : to (s .args .hops .now) (s .args .i) < 1024 = to-low _ _ (r .admitted) _ (s .pre .1 .0 .0) in
+    (omega arith, (omega arith, record { shape = r .shape; admitted = r .admitted; index = r .index; room = omega arith; right = c .before .before .before .before .loop .inv .2 }))
+
+y-same-length-2 : (t : ℕ) → y-lts.Need-same-length-2 (y-calls t) (y-at t) y.Post y-Inv-loop y-μ-loop
+y-same-length-2 t c = omega arith
+
+y-returns-2 : (t : ℕ) → y-lts.Need-returns-2 (y-calls t) (y-at t) y.Post y-Inv-loop y-μ-loop
+y-returns-2 t c =
+    let v = c .before .before .z2 .ensures in (
+      answered-at _ _ _ _ (c .before .before .before .before .before .before .before .before .before .before .before .label-at .ensures) (c .before .before .before .before .before .before .before .before .before .before .to-at .ensures)
+          (v .0 ∙ answers-still _ (c .before .before .before .before .before .before .before .before .before .before .before .before .before .before .before .pre .1 .1 .index .ascending) _ _ _ _ (c .before .before .before .before .before .before .before .before .before .labelled-past .ensures) (c .before .before .before .before .before .before .loop-test .left) (c .before .before .before .before .before .before .before .loop .inv .1)
+          (c .before .before .before .before .if2 .taken)),
+      v .1,
+    )
+
+y-same-length-3 : (t : ℕ) → y-lts.Need-same-length-3 (y-calls t) (y-at t) y.Post y-Inv-loop y-μ-loop
+y-same-length-3 t c = omega arith
+
+y-returns-3 : (t : ℕ) → y-lts.Need-returns-3 (y-calls t) (y-at t) y.Post y-Inv-loop y-μ-loop
+y-returns-3 t c = (
+  answered-at _ _ _ _ (c .before .before .before .before .before .before .before .label-at .ensures) (c .before .before .before .before .before .before .to-at .ensures)
+      (answers-no _ (c .before .before .before .before .before .before .before .before .before .before .before .pre .1 .1 .index .ascending) _ _ _ _ (c .before .before .before .before .before .labelled-past .ensures) (c .before .before .loop-test .left) (c .before .before .before .loop .inv .1)
+      (c .if2 .left)),
+  c .before .before .before .loop .inv .2,
+)
+
+z-returns : (t : ℕ) → z-lts.Need-returns (z-calls t) (z-at t) z.Post
+z-returns t c = (closing-same _ _ _ (c .if1 .taken), c .before .before .before .before .before .before .pre .1 .1 .right)
+
+z-silent-place-requires : (t : ℕ) → z-lts.Need-silent-place-requires (z-calls t) (z-at t) z.Post
+z-silent-place-requires t c κs = (c .before .before .before .before .before .before .pre .1 .1 .index, c .before .before .before .before .before .before .pre .1 .0)
+
+z-enum-known-found : (t : ℕ) → z-lts.Need-enum-known-found (z-calls t) (z-at t) z.Post
+z-enum-known-found t c = search needs
+
+z-x-requires : (t : ℕ) → z-lts.Need-x-requires (z-calls t) (z-at t) z.Post
+z-x-requires t c κs =
+    let r = c .before .before .before .before .before .before .before .before .before .before .before .pre .1 .1 in (
+      omega arith,
+      (
+        found-silent _ _ _ (sym (c .before .before .before .before .silent-place .ensures) ∙ c .before .before .found .given .1),
+        record { shape = r .shape; admitted = r .admitted; index = r .index; room = omega arith; right = r .right },
+      ),
+    )
+
+z-enum-told : (t : ℕ) → z-lts.Need-enum-told (z-calls t) (z-at t) z.Post
+z-enum-told t c = search needs
+
+z-same-length : (t : ℕ) → z-lts.Need-same-length (z-calls t) (z-at t) z.Post
+z-same-length t c = omega arith
+
+z-returns-2 : (t : ℕ) → z-lts.Need-returns-2 (z-calls t) (z-at t) z.Post
+z-returns-2 t c =
+    let v = c .before .before .x .ensures in
+    (closing-at _ _ _ _ (c .before .before .before .before .before .before .before .before .if1 .left) (sym (c .before .before .before .before .before .before .before .silent-place .ensures) ∙ c .before .before .before .before .before .found .given .1) (v .0), v .1)
+
+z-returns-3 : (t : ℕ) → z-lts.Need-returns-3 (z-calls t) (z-at t) z.Post
+z-returns-3 t c =
+    let r = c .before .before .before .before .before .before .before .before .before .pre .1 .1 in
+    (closing-none _ _ _ _ (c .before .before .before .if1 .left) (r .index .ascending) (sym (c .before .before .silent-place .ensures) ∙ c .enum-told .given .1), r .right)
+
+pub +x+y+z-spec : {M : Type 1} → statement M
++x+y+z-spec = close μ-x μ-y μ-z (λ t. x-lts.spec (x-calls t)
+    (x-at t)
+    x.Post
+    x-Inv-loop
+    x-μ-loop
+    (x-returns t)
+    (x-mul-at t)
+    (x-add-at t)
+    (x-slice-read-told t)
+    (x-returns-2 t)
+    (x-returns-3 t)
+    (x-from-at-requires t)
+    (x-to-at-requires t)
+    (x-past-place-requires t)
+    (x-first-place-requires t)
+    (x-loop-holds t)
+    (x-sub-y t)
+    (x-y-requires t)
+    (x-slice-write-known t)
+    (x-same-length t)
+    (x-returns-4 t)
+    (x-add-j t)
+    (x-loop-less t)
+    (x-loop-again t)
+    (x-slice-write-known-2 t)
+    (x-same-length-2 t)
+    (x-returns-5 t))
+    (λ t. y-lts.spec (y-calls t)
+    (y-at t)
+    y.Post
+    y-Inv-loop
+    y-μ-loop
+    (y-label-at-requires t)
+    (y-to-at-requires t)
+    (y-labelled-past-requires t)
+    (y-labelled-from-requires t)
+    (y-loop-holds t)
+    (y-to-at-requires-2 t)
+    (y-z-requires t)
+    (y-same-length t)
+    (y-returns t)
+    (y-add-j t)
+    (y-loop-less t)
+    (y-loop-again t)
+    (y-z-requires-2 t)
+    (y-same-length-2 t)
+    (y-returns-2 t)
+    (y-same-length-3 t)
+    (y-returns-3 t))
+    λ t. z-lts.spec (z-calls t)
+    (z-at t)
+    z.Post
+    (z-returns t)
+    (z-silent-place-requires t)
+    (z-enum-known-found t)
+    (z-x-requires t)
+    (z-enum-told t)
+    (z-same-length t)
+    (z-returns-2 t)
+    (z-returns-3 t)

@@ -1,0 +1,89 @@
+// The entry: rows 1 to 4, then 9, then 10, and then the equations.
+use super::RoundAnswer;
+use super::cycle::x;
+use super::index::note_firsts;
+use graph::Answer;
+use graph::Shape;
+use graph::hops::hop_count;
+use graph::hops::label_at;
+use graph::limits::accept;
+use graph::limits::check;
+use graph::limits::refuse;
+ghost use mathlib.Core.Path.{_≡_};
+ghost use Prim.Native.Nat.{_<_, _≤_};
+ghost use Rattle.graph.specs.Hops.{count, from, label, to};
+ghost use Rattle.graph.specs.Check.{Admitted};
+ghost use Rattle.confluence.specs.Rounds.{survives};
+ghost use Rattle.rounds.specs.Question.{most-rounds, silentPlace, fewRounds, questionAnswer, questionOf};
+
+const MOST_ROUNDS: u32 = 4;
+
+// Row 9.
+fn check_place(hops: &[u16], place: usize) -> Answer
+    ensures { λ r. ⌜ r ≡ silentPlace (now (hops .entry)) place ⌝ }
+{
+    if hop_count(hops) <= place {
+        return refuse(9, 0);
+    }
+    let a = label_at(hops, place);
+    if a.0 != 0 {
+        return refuse(9, 0);
+    }
+    accept()
+}
+
+// Row 10.
+fn check_rounds(rounds: u32) -> Answer
+    ensures { λ r. ⌜ r ≡ fewRounds rounds ⌝ }
+{
+    if rounds <= MOST_ROUNDS {
+        accept()
+    } else {
+        refuse(10, 0)
+    }
+}
+
+// The first row that speaks.
+fn question_answer(shape: Shape, hops: &[u16], place: usize, rounds: u32) -> Answer
+    ensures { λ r. ⌜ r ≡ questionAnswer shape (now (hops .entry)) place rounds ⌝ }
+{
+    let checked = check(shape, hops);
+    if checked.number != 0 {
+        return checked;
+    }
+    let silent = check_place(hops, place);
+    if silent.number != 0 {
+        return silent;
+    }
+    check_rounds(rounds)
+}
+
+// The equations, with nothing known yet.
+fn survives_rounds(shape: Shape, hops: &[u16], place: usize, rounds: usize) -> bool
+    requires { ⌜ Admitted shape (now hops) ⌝ }
+    requires { ⌜ (place < count (now hops)) × (label (now hops) place ≡ 0) × (rounds ≤ most-rounds) ⌝ }
+    ensures { λ r. ⌜ r ≡ survives (now (hops .entry)) rounds (from (now (hops .entry)) place) (to (now (hops .entry)) place) ⌝ }
+{
+    let mut firsts = [0usize; 1025];
+    note_firsts(hops, &mut firsts);
+    let mut known = [0u8; 20480];
+    x(hops, &firsts, place, rounds, &mut known)
+}
+
+// The entry.
+pub fn round_question(shape: Shape, hops: &[u16], place: usize, rounds: u32) -> RoundAnswer
+    ensures { λ r. ⌜ r ≡ questionOf shape (now (hops .entry)) place rounds ⌝ }
+{
+    let answer = question_answer(shape, hops, place, rounds);
+    if answer.number != 0 {
+        return RoundAnswer {
+            answer,
+            survives: 0,
+        };
+    }
+    let survives = survives_rounds(shape, hops, place, rounds as usize);
+    RoundAnswer {
+        answer,
+        survives: survives as u32,
+    }
+}

@@ -1,0 +1,99 @@
+-- Laws of ranking: a state whose silent hops all lead to states on no ring is on no ring, so that ranking keeps ranked states off rings; and
+-- where all states are ranked there is none. Assumes nothing.
+use Prim.Native.Nat.{ℕ, _+_, _<_, _≤_}
+use mathlib.Core.Path.{_≡_, refl, sym, ap, _∙_}
+use mathlib.Core.Bool.{Bool, true, false, not, _||_}
+use mathlib.Core.List.{List}
+use mathlib.Core.Logic.{_⊎_, inl, inr, ⊎-elim}
+use native.Mathlib.Omega.{arith}
+use borrow.Author.Tests.{not-true}
+use lib.ListN.{length, set, replicate, getD-replicate}
+use Rattle.graph.specs.Tests.{all}
+use Rattle.graph.specs.Hops.{count, to}
+use Rattle.graph.specs.Check.{InRange}
+use Rattle.graph.specs.declared.Shape.{Shape}
+use Rattle.graph.proofs.Bools.{clash, decided, or-left, or-right, or-no, or-yes, not-yes, not-no}
+use Rattle.graph.proofs.Tests.{all-at, all-fails, tally-less, tally-within}
+use Rattle.graph.proofs.Lookup.{all-range}
+use Rattle.lts.specs.Star.{stay, go}
+use Rattle.lts.proofs.Star.{one, join}
+use Rattle.silent.specs.Silent.{SilentOf, OnRing, silentFrom, lowestOnRing}
+use Rattle.silent.specs.Reach.{noted}
+use Rattle.silent.specs.Ring.{endsNoted, Unringed, Ranked}
+use Rattle.silent.proofs.Hops.{silent-place, silent-end, silent-within, silent-only}
+use Rattle.silent.proofs.Front.{noted-no, noted-set, noted-set-same, noted-set-back}
+use Rattle.silent.proofs.Spread.{Range, place-within}
+use Rattle.silent.proofs.Rings.{lowest-is}
+
+-- a ring through v goes on through the end of a silent hop of v
+pub ring-goes-on : (hs : List ℕ) (v : ℕ) → OnRing hs v → (t : ℕ) × SilentOf hs v t × OnRing hs t
+ring-goes-on hs v (t, r, stay) = (v, r, (v, r, stay))
+ring-goes-on hs v (t, r, go {m} a p) = (t, r, (m, a, join p (one r)))
+
+module _ (hs ranked : List ℕ) (v : ℕ) where
+  -- the hop at place i is no silent one of v, or leads to a noted state
+  abbrev fine : ℕ → Bool
+  fine i = not (silentFrom hs v i) || noted ranked (to hs i)
+
+  pub ends-at : endsNoted hs ranked v ≡ true → (t : ℕ) → SilentOf hs v t → noted ranked t ≡ true
+  unfolding endsNoted
+  ends-at e t r =
+      let (i, l, d, q) = silent-place hs v t r in
+      ⊎-elim (λ f. clash d (not-true _ f)) (λ f. ap (noted ranked) (sym q) ∙ f) (or-yes (not (silentFrom hs v i)) (noted ranked (to hs i)) (all-at fine (count hs) e l))
+
+  module _ {sh : Shape} {lo hi : ℕ} (r : Range sh hs v lo hi) where
+    pub ends-fails : (i : ℕ) → lo ≤ i → i < hi → noted ranked (to hs i) ≡ false → endsNoted hs ranked v ≡ false
+    unfolding endsNoted
+    ends-fails i l m e =
+        all-fails fine (count hs) (place-within r i m)
+        (or-no (not-yes (silent-only hs (r .admitted .ascending) v i (place-within r i m) (omega (arith, r .lo-is)) (omega (arith, r .hi-is)))) e)
+
+    pub ends-all : ((j : ℕ) → lo ≤ j → j < hi → noted ranked (to hs j) ≡ true) → endsNoted hs ranked v ≡ true
+    unfolding endsNoted
+    ends-all f = all-range fine (count hs) lo hi (λ j l e. out j l e) (λ j a b. or-right (not (silentFrom hs v j)) (f j a b)) where
+      out : (j : ℕ) → j < count hs → fine j ≡ false → (lo ≤ j) × (j < hi)
+      out j l e = go (decided (silentFrom hs v j)) where
+        go : (silentFrom hs v j ≡ true) ⊎ (silentFrom hs v j ≡ false) → (lo ≤ j) × (j < hi)
+        go (inl d) = let (a, b) = silent-within hs (r .admitted .ascending) v j l d in (omega (arith, r .lo-is), omega (arith, r .hi-is))
+        go (inr d) = clash (or-left (noted ranked (to hs j)) (not-no d)) e
+
+-- no state is ranked at first
+pub unringed-none : (hs : List ℕ) (n k : ℕ) → n ≤ k → Unringed hs n (replicate k 0)
+unringed-none hs n k h t l e w =
+    clash e (noted-no (replicate k 0) t (λ d. let z : _≡_ {A = ℕ} 0 1 = sym (getD-replicate k t 0 0 (omega arith)) ∙ d in omega arith))
+
+module _ {hs : List ℕ} {n : ℕ} where
+  pub ranked-none : (ranked : List ℕ) → Unringed hs n ranked → Ranked hs n ranked ranked 0
+  ranked-none ranked u = record { unringed = u; gained = omega arith }
+
+  pub ranked-join : {a b c : List ℕ} {q r : ℕ} → Ranked hs n a b q → Ranked hs n b c r → Ranked hs n a c (q + r)
+  ranked-join x y = record { unringed = y .unringed; gained = omega (arith, x .gained, y .gained) }
+
+  pub ranked-within : {a b : List ℕ} {r : ℕ} → Ranked hs n a b r → r ≤ n
+  ranked-within {b = b} x = omega (arith, x .gained, tally-within (noted b) n)
+
+  -- n of n
+  pub ranked-all : {a b : List ℕ} {r : ℕ} → Ranked hs n a b r → n ≤ r → (t : ℕ) → t < n → OnRing hs t → ⊥
+  ranked-all {b = b} {r} x h t l = x .unringed t l (go (decided (noted b t))) where
+    go : (noted b t ≡ true) ⊎ (noted b t ≡ false) → noted b t ≡ true
+    go (inl e) = e
+    go (inr e) =
+        absurd (omega (arith, x .gained, tally-less (noted b) (λ (j : ℕ). true) n (λ j k d. refl) l e refl, tally-within (λ (j : ℕ). true) n))
+
+module _ {sh : Shape} {hs : List ℕ} (ranged : InRange sh hs) where
+  -- v is ranked
+  pub ranked-one : (ranked : List ℕ) (v : ℕ) → Unringed hs (sh .states) ranked → sh .states ≤ length ranked → v < sh .states →
+      noted ranked v ≡ false → endsNoted hs ranked v ≡ true → Ranked hs (sh .states) ranked (set ranked v 1) 1
+  ranked-one ranked v u room l e d = record {
+    unringed = λ t k f. ⊎-elim (u t k) (λ q. rw q off) (noted-set-back ranked v t f);
+    gained = omega (arith, tally-less (noted ranked) (noted (set ranked v 1)) (sh .states) (λ j k f. noted-set ranked v j within f) l e (noted-set-same ranked v within));
+  } where
+    within : v < length ranked
+    within = omega arith
+
+    off : OnRing hs v → ⊥
+    off w = let (t, r, x) = ring-goes-on hs v w in u t (silent-end ranged v t r) (ends-at hs ranked v d t r) x
+
+  -- all are ranked: no state is on a ring
+  pub lowest-none : ((t : ℕ) → t < sh .states → OnRing hs t → ⊥) → sh .states ≡ lowestOnRing sh hs
+  lowest-none f = sym (lowest-is ranged (sh .states) (omega arith) f (λ l. absurd (omega arith)))

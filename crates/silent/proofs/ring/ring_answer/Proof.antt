@@ -1,0 +1,23 @@
+-- `silent::ring::ring_answer` meets its contract: the two ways out are the two cases of the definition. Assumes nothing.
+use borrow.Author.Needs.{needs}
+use borrow.Author.Tests.{lt-ltb, le-ltb}
+use Rattle.silent.specs.Silent.{ringless}
+use Rattle.silent.proofs.ring.ring_answer.Statement.{statement}
+use Rattle.silent.proofs.ring.ring_answer.Tie as tie
+
+lowest-on-ring-requires : tie.Need-lowest-on-ring-requires
+lowest-on-ring-requires c κs = search needs
+
+cast-if1 : tie.Need-cast-if1
+cast-if1 c = search needs
+
+returns : tie.Need-returns
+unfolding ringless
+returns c = rw (← c .before .before .lowest-on-ring .ensures, lt-ltb _ _ (c .if1 .taken))
+
+returns-2 : tie.Need-returns-2
+unfolding ringless
+returns-2 c = rw (← c .before .before .lowest-on-ring .ensures, le-ltb _ _ (c .if1 .left))
+
+pub ring-answer-spec : {M : Type 1} → statement M
+ring-answer-spec = tie.close (tie.spec lowest-on-ring-requires cast-if1 returns returns-2)

@@ -1,0 +1,178 @@
+-- "Graphs worked by hand": P1 to P10 as one table, and what the definitions give for the same graphs. Assumes nothing: these are definitions.
+use Prim.Native.Nat.{ℕ, _+_}
+use mathlib.Core.Bool.{Bool, cond, not, _&&_}
+use mathlib.Core.List.{List, [], _∷_, map}
+use lib.ListN.{length}
+use lib.Dec.{eqb}
+use Rattle.graph.specs.Tests.{least, listed}
+use Rattle.graph.specs.Hops.{count, from, label, to, flat}
+use Rattle.graph.specs.Check.{accepted, refused}
+use Rattle.graph.specs.declared.Hop.{Hop}
+use Rattle.graph.specs.declared.Shape.{Shape}
+use Rattle.graph.specs.declared.Answer.{Answer}
+use Rattle.confluence.specs.Rounds.{survives}
+use Rattle.confluence.specs.Mark.{marksOf, markAnswer}
+use Rattle.quotient.specs.Short.{mapList, shortHops, shortShape}
+use Rattle.bisimulation.specs.Faults.{faultsOf}
+
+-- a hop as document 01 writes it, and a shape with initial state 0
+abbrev pub hop : ℕ → ℕ → ℕ → Hop
+hop s a t = record { from = s; label = a; to = t }
+
+abbrev pub shape : ℕ → ℕ → Shape
+shape n l = record { states = n; labels = l; initial = 0 }
+
+-- what is said of a graph: the answer of `mark` and `reduce` to outputs that are long enough, the marks, for each hop the round in which it falls
+-- (0: it is visible, or survives every round), the map, the short graph's state count and its hops
+pub record Outcome : Type 0 where
+  pub answer : Answer
+  pub marks : List ℕ
+  pub falls : List ℕ
+  pub map : List ℕ
+  pub states : ℕ
+  pub short : List Hop
+
+-- what is said of an audit: graph 1, graph 2, the map, the fault count
+pub record Audited : Type 0 where
+  pub shape1 : Shape
+  pub hops1 : List Hop
+  pub shape2 : Shape
+  pub hops2 : List Hop
+  pub map : List ℕ
+  pub faults : ℕ
+
+pub record Entry : Type 0 where
+  pub graph : Shape
+  pub hops : List Hop
+  pub outcome : Outcome
+
+pub record Table : Type 0 where
+  pub graphs : List Entry
+  pub audits : List Audited
+
+-- the definitions' own account of a graph; nothing is said past a refusal
+unfoldable pub fallsIn : List ℕ → ℕ → ℕ
+fallsIn hs i =
+    cond (eqb (label hs i) 0 && not (survives hs (count hs) (from hs i) (to hs i)))
+    (least (count hs) (λ (k : ℕ). not (survives hs k (from hs i) (to hs i)))) 0
+
+abbrev pub refusedWith : Answer → Outcome
+refusedWith a = record { answer = a; marks = []; falls = []; map = []; states = 0; short = [] }
+
+unfoldable pub outcomeOf : Shape → List ℕ → Outcome
+outcomeOf sh hs =
+    cond (eqb (markAnswer sh hs hs .number) 0)
+    (record {
+      answer = markAnswer sh hs hs;
+      marks = marksOf hs;
+      falls = listed (count hs) (fallsIn hs);
+      map = mapList sh hs;
+      states = shortShape sh hs .states;
+      short = shortHops sh hs;
+    })
+    (refusedWith (markAnswer sh hs hs))
+
+abbrev pub entryOf : Entry → Entry
+entryOf e = record { graph = e .graph; hops = e .hops; outcome = outcomeOf (e .graph) (flat (e .hops)) }
+
+abbrev pub auditedOf : Audited → Audited
+auditedOf a = record {
+  shape1 = a .shape1;
+  hops1 = a .hops1;
+  shape2 = a .shape2;
+  hops2 = a .hops2;
+  map = a .map;
+  faults = faultsOf (a .shape1) (a .shape2) (flat (a .hops1)) (flat (a .hops2)) (a .map);
+}
+
+abbrev pub tableOf : Table → Table
+tableOf t = record { graphs = map entryOf (t .graphs); audits = map auditedOf (t .audits) }
+
+-- the hop lists, in ascending order
+abbrev p1 : List Hop
+p1 = hop 0 0 1 ∷ hop 0 1 2 ∷ hop 1 1 3 ∷ hop 2 0 3 ∷ []
+
+abbrev p2 : List Hop
+p2 = hop 0 0 1 ∷ hop 0 1 2 ∷ hop 1 1 3 ∷ []
+
+abbrev p3 : List Hop
+p3 = hop 0 0 1 ∷ hop 0 0 2 ∷ []
+
+abbrev p4 : List Hop
+p4 = hop 0 0 1 ∷ hop 0 0 2 ∷ hop 1 0 2 ∷ []
+
+abbrev p5 : List Hop
+p5 = hop 0 0 1 ∷ hop 0 0 2 ∷ hop 1 0 3 ∷ hop 1 1 4 ∷ hop 2 0 3 ∷ []
+
+abbrev p6 : List Hop
+p6 = hop 0 0 1 ∷ hop 0 1 0 ∷ hop 1 1 1 ∷ []
+
+abbrev p7 : List Hop
+p7 = hop 0 0 0 ∷ []
+
+abbrev p8 : List Hop
+p8 = hop 0 0 1 ∷ hop 1 0 2 ∷ hop 2 0 1 ∷ []
+
+abbrev p10 : List Hop
+p10 = hop 0 0 1 ∷ hop 0 1 2 ∷ hop 1 1 3 ∷ hop 2 0 3 ∷ hop 2 2 4 ∷ []
+
+abbrev accepts : List ℕ → List ℕ → List ℕ → ℕ → List Hop → Outcome
+accepts m f t n s = record { answer = accepted; marks = m; falls = f; map = t; states = n; short = s }
+
+-- document 01's figures
+abbrev pub table : Table
+table = record {
+  graphs =
+      record {
+        graph = shape 4 2;
+        hops = p1;
+        outcome = accepts (1 ∷ 0 ∷ 0 ∷ 1 ∷ []) (0 ∷ 0 ∷ 0 ∷ 0 ∷ []) (0 ∷ 0 ∷ 1 ∷ 1 ∷ []) 2 (hop 0 1 1 ∷ []);
+      } ∷
+      record {
+        graph = shape 4 2;
+        hops = p2;
+        outcome = accepts (0 ∷ 0 ∷ 0 ∷ []) (1 ∷ 0 ∷ 0 ∷ []) (0 ∷ 1 ∷ 2 ∷ 3 ∷ []) 4 p2;
+      } ∷
+      record {
+        graph = shape 3 1;
+        hops = p3;
+        outcome = accepts (0 ∷ 0 ∷ []) (1 ∷ 1 ∷ []) (0 ∷ 1 ∷ 2 ∷ []) 3 p3;
+      } ∷
+      record {
+        graph = shape 3 1;
+        hops = p4;
+        outcome = accepts (1 ∷ 1 ∷ 1 ∷ []) (0 ∷ 0 ∷ 0 ∷ []) (0 ∷ 0 ∷ 0 ∷ []) 1 [];
+      } ∷
+      record {
+        graph = shape 5 2;
+        hops = p5;
+        outcome =
+            accepts (1 ∷ 0 ∷ 0 ∷ 0 ∷ 1 ∷ []) (0 ∷ 2 ∷ 1 ∷ 0 ∷ 0 ∷ []) (0 ∷ 0 ∷ 1 ∷ 1 ∷ 2 ∷ []) 3 (hop 0 0 1 ∷ hop 0 1 2 ∷ []);
+      } ∷
+      record {
+        graph = shape 2 2;
+        hops = p6;
+        outcome = accepts (1 ∷ 0 ∷ 0 ∷ []) (0 ∷ 0 ∷ 0 ∷ []) (0 ∷ 0 ∷ []) 1 (hop 0 1 0 ∷ []);
+      } ∷
+      record { graph = shape 1 1; hops = p7; outcome = refusedWith (refused 5 0) } ∷
+      record { graph = shape 3 1; hops = p8; outcome = refusedWith (refused 5 1) } ∷
+      record {
+        graph = shape 5 3;
+        hops = p10;
+        outcome = accepts (0 ∷ 0 ∷ 0 ∷ 0 ∷ 0 ∷ []) (2 ∷ 0 ∷ 0 ∷ 1 ∷ 0 ∷ []) (0 ∷ 1 ∷ 2 ∷ 3 ∷ 4 ∷ []) 5 p10;
+      } ∷
+      [];
+  -- P9: P1 with its result; with the short hop taken out; with (1,1,1) added to the short graph
+  audits =
+      record { shape1 = shape 4 2; hops1 = p1; shape2 = shape 2 2; hops2 = hop 0 1 1 ∷ []; map = 0 ∷ 0 ∷ 1 ∷ 1 ∷ []; faults = 0 } ∷
+      record { shape1 = shape 4 2; hops1 = p1; shape2 = shape 2 2; hops2 = []; map = 0 ∷ 0 ∷ 1 ∷ 1 ∷ []; faults = 2 } ∷
+      record {
+        shape1 = shape 4 2;
+        hops1 = p1;
+        shape2 = shape 2 2;
+        hops2 = hop 0 1 1 ∷ hop 1 1 1 ∷ [];
+        map = 0 ∷ 0 ∷ 1 ∷ 1 ∷ [];
+        faults = 2;
+      } ∷
+      [];
+}

@@ -1,0 +1,104 @@
+// Document 01's graphs worked by hand. P1 to P10 are a table in specs/, with one proof that the definitions give its entries; this program
+// runs the graphs at the limits, and bad input, through the entries and prints what they answer.
+use graph::Answer;
+use graph::Shape;
+use graph::limits::check;
+use io::print_decimal;
+use libc::STDOUT_FILENO;
+
+fn print_answer(a: Answer) {
+    print_decimal(STDOUT_FILENO, a.number as u64);
+    io::write_all(STDOUT_FILENO, b" ");
+    print_decimal(STDOUT_FILENO, a.table as u64);
+    io::write_all(STDOUT_FILENO, b" ");
+    print_decimal(STDOUT_FILENO, a.place as u64);
+    io::write_all(STDOUT_FILENO, b"\n");
+}
+
+fn shape(states: u32, labels: u32, initial: u32) -> Shape {
+    Shape {
+        states,
+        labels,
+        initial,
+    }
+}
+
+// The first n numbers of `hops` as a graph's hop list.
+fn print_check(name: &[u8], shape: Shape, hops: &[u16], n: usize) {
+    io::write_all(STDOUT_FILENO, name);
+    io::write_all(STDOUT_FILENO, b": ");
+    if n <= hops.len() {
+        print_answer(check(shape, &hops[0..n]));
+    }
+}
+
+// A number of the list made another.
+fn put(hops: &mut [u16], at: usize, number: u16) {
+    if at < hops.len() {
+        hops[at] = number;
+    }
+}
+
+// Hops in ascending order, four a state: the hop at place i is i / 4, i % 4, 0.
+fn fill(hops: &mut [u16]) {
+    let mut i = 0;
+    while i < 4097 {
+        put(hops, 3 * i, (i / 4) as u16);
+        put(hops, 3 * i + 1, (i % 4) as u16);
+        i += 1;
+    }
+}
+
+fn limits(hops: &[u16]) {
+    print_check(b"4096 hops", shape(1024, 4, 0), hops, 12288);
+    print_check(b"4097 hops", shape(1024, 4, 0), hops, 12291);
+    print_check(b"no multiple of three", shape(1024, 4, 0), hops, 7);
+    print_check(b"no hops", shape(1, 1, 0), hops, 0);
+    print_check(b"1024 states", shape(1024, 1, 1023), hops, 0);
+    print_check(b"1025 states", shape(1025, 1, 0), hops, 0);
+    print_check(b"0 states", shape(0, 1, 0), hops, 0);
+    print_check(b"1024 labels", shape(1, 1024, 0), hops, 0);
+    print_check(b"1025 labels", shape(1, 1025, 0), hops, 0);
+    print_check(b"0 labels", shape(1, 0, 0), hops, 0);
+}
+
+fn bad_numbers(hops: &[u16]) {
+    print_check(b"initial state at the count", shape(4, 1, 4), hops, 0);
+    print_check(
+        b"largest counts",
+        shape(4294967295, 4294967295, 4294967295),
+        hops,
+        0,
+    );
+    print_check(
+        b"largest initial state",
+        shape(1024, 4, 4294967295),
+        hops,
+        12288,
+    );
+    print_check(b"a state out of range", shape(1023, 4, 0), hops, 12288);
+    print_check(b"a label out of range", shape(1024, 3, 0), hops, 12288);
+}
+
+// A number made another, and the list of 4,096 hops checked.
+fn changed(name: &[u8], hops: &mut [u16], at: usize, number: u16) {
+    put(hops, at, number);
+    print_check(name, shape(1024, 4, 0), hops, 12288);
+}
+
+fn main() {
+    let mut hops = [0u16; 12291];
+    fill(&mut hops);
+    limits(&hops);
+    bad_numbers(&hops);
+    // the place is the first such hop, and a hop out of range speaks before any out of order
+    changed(b"the largest state", &mut hops, 300, 65535);
+    changed(b"a hop below the one before", &mut hops, 300, 24);
+    changed(b"a hop equal to the one before", &mut hops, 301, 3);
+    changed(
+        b"out of range speaks before out of order",
+        &mut hops,
+        602,
+        1024,
+    );
+}
