@@ -5,3 +5,5 @@ pub mod Front
 pub mod Entry
 pub mod Encoded
 pub mod Given
+pub mod Sound
+pub mod Again
