@@ -7,3 +7,4 @@ pub mod Encoded
 pub mod Given
 pub mod Sound
 pub mod Again
+pub mod Back

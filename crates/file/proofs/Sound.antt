@@ -17,7 +17,7 @@ use Rattle.file.specs.Read.{most-bytes, idleBit, namesAnswer, formatAnsw
 use Rattle.file.proofs.Given.{both-accept}
 
 -- a check that can only refuse did not speak
-past : (t : Bool) (r x : Answer) → (r .number ≡ 0 → ⊥) → (cond t r x) .number ≡ 0 → (t ≡ false) × (x .number ≡ 0)
+pub past : (t : Bool) (r x : Answer) → (r .number ≡ 0 → ⊥) → (cond t r x) .number ≡ 0 → (t ≡ false) × (x .number ≡ 0)
 past true r x n e = absurd (n e)
 past false r x n e = (refl, e)
 
