@@ -17,19 +17,21 @@ use Rattle.graph.specs.Hops.{count}
 use Rattle.graph.specs.Check.{accepted, refused, checkOf, Admitted}
 use Rattle.graph.specs.declared.Shape.{Shape}
 use Rattle.graph.specs.declared.Answer.{Answer}
-use Rattle.graph.proofs.Bools.{eq-or-not, lt-or-le}
+use Rattle.graph.proofs.Bools.{eq-or-not, lt-or-le, or-no}
 use Rattle.graph.proofs.Tests.{getD-listed}
-use Rattle.graph.proofs.Checked.{admitted-check}
+use Rattle.graph.proofs.Checked.{check-admitted, admitted-check}
 use Rattle.names.specs.Block.{nameAt, firstBad}
 use Rattle.names.proofs.Blocks.{name-first, name-later, name-short}
 use Rattle.file.specs.Format.{numberAt, bitMap, hasInitial, hasHops, hasNames, statesIn, labelsIn, initialIn, hopsPlace, hopsIn, namesPlace, namesIn, restOf, need, shapeIn, hopListIn, blockPlace, blockLength, blockIn}
 use Rattle.file.specs.Read.{most-bytes, idleBit, formatAnswer, readAnswer, readOf, contentsOf}
 use Rattle.file.specs.Encode.{number, numbers, bitsOf, initialBytes, hopBytes, headBytes, encode}
-use Rattle.file.specs.Write.{blockAnswer, namesGiven}
+use Rattle.file.specs.Write.{blockAnswer, namesGiven, graphAnswer}
+use Rattle.file.specs.declared.Contents.{Contents}
 use Rattle.file.proofs.Encoded.{length-numbers, initial-none, initial-some, initial-most, hops-none, hops-some, length-hops-some, hop-bytes-most, length-head, length-encode}
 use Rattle.file.proofs.Fields.{initial-on, initial-off, hops-on, hops-off, names-on, names-off}
 use Rattle.file.proofs.Answers.{names-good}
 use Rattle.file.proofs.Entry.{length-hop-list, count-hop-list, none-speaks}
+use Rattle.file.proofs.Given.{both-accept}
 use Rattle.file.proofs.Sound.{past}
 
 -- a bit is set over each field that is there, and no higher bit
@@ -89,8 +91,18 @@ given-legal sh ns e = ⊎-elim none some (eq-or-not (length ns) 0) where
 zero-right : (n : ℕ) → n + 0 ≡ n
 zero-right n = omega arith
 
+no-elements : (l : List ℕ) → length l ≡ 0 → l ≡ []
+no-elements [] e = refl
+no-elements (x ∷ l) e = absurd (omega arith)
+
 head-long : (sh : Shape) (hs ns : List ℕ) → length (headBytes sh (bitsOf sh hs ns) ++ initialBytes sh) ≡ 5 + length (initialBytes sh)
 head-long sh hs ns = rw (length-append (headBytes sh (bitsOf sh hs ns)), length-head sh hs ns)
+
+-- what writing accepts
+written-means : (sh : Shape) (hs ns : List ℕ) → graphAnswer sh hs ns .number ≡ 0 → Admitted sh hs × Legal ns (named sh ns)
+unfolding graphAnswer
+written-means sh hs ns e =
+    let (p, q) = both-accept (checkOf sh hs) (namesGiven sh ns) e in (check-admitted sh hs p, given-legal sh ns q)
 
 -- the initial state of a written file
 initial-number : (sh : Shape) (hs ns : List ℕ) → (sh .initial ≡ 0 → ⊥) → numberAt (encode sh hs ns) 5 ≡ sh .initial
@@ -163,3 +175,85 @@ module _ (sh : Shape) (hs ns : List ℕ) (three : length hs % 3 ≡ 0) where
         getD-listed (λ (j : ℕ). numberAt file (hopsPlace file + 2 + 2 * j)) (3 * hopsIn file) (omega (arith, length-hop-list file)) ∙
         number-drop file (hopsPlace file + 2) (2 * i) ∙
         rw (from-list (λ z. omega (arith, same-length, three))) (number-in hs ns i (omega (arith, same-length)))
+
+  names-back : (namesIn file ≡ named sh ns) × (blockIn file ≡ ns) × (blockLength file ≡ length ns)
+  unfolding blockIn restOf
+  names-back = ⊎-elim none some (eq-or-not (length ns) 0) where
+    sized : length ns ≡ length file - namesPlace file
+    sized = ap length (sym rest-back) ∙ length-drop (namesPlace file) file
+
+    none : length ns ≡ 0 → (namesIn file ≡ named sh ns) × (blockIn file ≡ ns) × (blockLength file ≡ length ns)
+    none z =
+        let (n, p, l) = names-off file (bits-back .2 ∙ rw (eq-eqb _ _ z)) in
+        (n ∙ rw (eq-eqb _ _ z), rw l (sym (no-elements ns z)), l ∙ sym z)
+
+    some : (length ns ≡ 0 → ⊥) → (namesIn file ≡ named sh ns) × (blockIn file ≡ ns) × (blockLength file ≡ length ns)
+    some y =
+        let (n, p, l) = names-on file (bits-back .2 ∙ rw (ne-eqb _ _ y)) in
+        (n ∙ rw (ne-eqb _ _ y, labels-back), rw (p, l, rest-back, ← sized) (take-length ns), l ∙ sym sized)
+
+  module _ (legal : Legal ns (named sh ns)) where
+    need-back : need file ≡ length file
+    unfolding need
+    need-back =
+        rw (rest-back, names-back .0) (omega (arith, legal .whole, hops-back .1, length-encode sh hs ns))
+
+    -- no bit stands over what absence means
+    names-two : (length ns ≡ 0 → ⊥) → 1 < sh .labels
+    names-two n = ⊎-elim (λ l. absurd (n (sym (legal .whole) ∙ ap (nameAt ns) (none l) ∙ sym (name-first ns)))) (λ l. l) (lt-or-le (sh .labels) 2) where
+      none : sh .labels < 2 → named sh ns ≡ 0
+      none l = rw (ne-eqb _ _ n) (omega arith)
+
+    busy-back : idleBit file ≡ false
+    unfolding idleBit
+    busy-back =
+        rw (bits-back .0, initial-back .0, bits-back .1, hops-back .0, bits-back .2, labels-back)
+        (or-no (never (eqb (sh .initial) 0)) (or-no (never (eqb (count hs) 0)) names-busy)) where
+          never : (t : Bool) → (not t && t) ≡ false
+          never true = refl
+          never false = refl
+
+          names-busy : (not (eqb (length ns) 0) && leb (sh .labels) 1) ≡ false
+          names-busy = ⊎-elim (λ z. rw (eq-eqb (length ns) 0 z)) (λ n. rw (ne-eqb (length ns) 0 n, lt-leb _ _ (names-two n))) (eq-or-not (length ns) 0)
+
+    module _ (a : Admitted sh hs) where
+      named-most : named sh ns ≤ 1023
+      named-most = ⊎-elim (λ z. rw (eq-eqb (length ns) 0 z) (omega arith)) (λ n. rw (ne-eqb (length ns) 0 n) (omega (arith, a .labels-most))) (eq-or-not (length ns) 0)
+
+      short-back : length file ≤ most-bytes
+      short-back =
+          omega (arith, length-encode sh hs ns, initial-most sh, hop-bytes-most hs, a .hops-most, three, legal .whole, name-short ns (named sh ns) (named sh ns) (legal .clean), named-most)
+
+      format-back : formatAnswer file ≡ accepted
+      format-back =
+          sym (names-good file short-back (bits-back .3) (omega (arith, need-back)) (omega (arith, need-back)) refl busy-back (rw (rest-back, names-back .0) (legal .clean)))
+
+      shape-back : shapeIn file ≡ sh
+      unfolding shapeIn
+      shape-back = rw (states-back, labels-back, initial-back .0)
+
+      answer-back : (room : ℕ) → length hs ≤ room → readAnswer file room ≡ accepted
+      answer-back room l =
+          sym (none-speaks file room refl (ap (λ (x : Answer). x .number) format-back) refl (rw (shape-back, list-back) (ap (λ (x : Answer). x .number) (admitted-check sh hs a))) refl (omega (arith, hops-back .0, three)))
+
+-- "The longest legal file has 58,344 bytes"
+pub longest : (sh : Shape) (hs ns : List ℕ) → graphAnswer sh hs ns .number ≡ 0 → length (encode sh hs ns) ≤ most-bytes
+longest sh hs ns e = let (a, l) = written-means sh hs ns e in short-back sh hs ns (a .three-a-hop) l a
+
+-- what is read of a file that was written
+pub record ReadBack (sh : Shape) (hs ns b : List ℕ) (room : ℕ) : Type 0 where
+  pub accepts : readAnswer b room ≡ accepted
+  pub same-graph : contentsOf b ≡ record { answer = accepted; shape = sh; hops = count hs; «names_place» = blockPlace b; «names_len» = length ns }
+  pub same-hops : hopListIn b ≡ hs
+  pub same-block : blockIn b ≡ ns
+
+pub encode-decode : (sh : Shape) (hs ns : List ℕ) (room : ℕ) → graphAnswer sh hs ns .number ≡ 0 → length hs ≤ room → ReadBack sh hs ns (encode sh hs ns) room
+encode-decode sh hs ns room e m =
+    let (a, l) = written-means sh hs ns e in
+    let t = a .three-a-hop in
+    record {
+      accepts = answer-back sh hs ns t l a room m;
+      same-graph = rw (shape-back sh hs ns t l a, hops-back sh hs ns t .0, names-back sh hs ns t .2);
+      same-hops = list-back sh hs ns t;
+      same-block = names-back sh hs ns t .1;
+    }
