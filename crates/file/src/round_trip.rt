@@ -31,7 +31,13 @@ pub fn copy_file(file: &[u8], out: &mut [u8]) -> Written
 }
 
 // Writes the graph and reads what was written: the same graph comes back, with the same block at the place that is named.
-pub fn graph_back(shape: Shape, hops: &[u16], names: &[u8], file: &mut [u8], again: &mut [u16]) -> Contents
+pub fn graph_back(
+    shape: Shape,
+    hops: &[u16],
+    names: &[u8],
+    file: &mut [u8],
+    again: &mut [u16],
+) -> Contents
     ensures answers { λ r. ⌜ r ≡ backOf shape (now (hops .entry)) (now (names .entry)) (length (now (file .entry))) (length (now (again .entry))) ⌝ }
     ensures file { λ _. ⌜ now (file .exit) ≡ backBytes shape (now (hops .entry)) (now (names .entry)) (now (file .entry)) (length (now (again .entry))) ⌝ }
     ensures hops { λ _. ⌜ now (again .exit) ≡ backHops shape (now (hops .entry)) (now (names .entry)) (length (now (file .entry))) (now (again .entry)) ⌝ }
