@@ -1,0 +1,70 @@
+// The entries `check` and `mark` over a lent slice of records, with the answers that their flat list is given.
+use confluence::mark::mark;
+use graph::Answer;
+use graph::Hop;
+use graph::Shape;
+use graph::hops::part;
+use graph::limits::check;
+use graph::limits::refuse;
+ghost use mathlib.Core.Path.{_≡_};
+ghost use Prim.Native.Nat.{_<_, _≤_};
+ghost use mathlib.Core.List.{_++_};
+ghost use lib.ListN.{length, drop};
+ghost use Rattle.graph.specs.Hops.{count, between, flat};
+ghost use Rattle.graph.specs.Check.{most-hops, refused, checkOf};
+ghost use Rattle.confluence.specs.Mark.{markAnswer, markOutput};
+ghost use Rattle.records.specs.Records.{put, unlessOver};
+
+const MOST_HOPS: usize = 4096;
+
+// Writes the three numbers of the record at the place.
+fn put3(out: &mut [u16], i: usize, h: Hop)
+    requires { ⌜ i < count (now out) ⌝ }
+    ensures { λ _. ⌜ now (out .exit) ≡ put (now (out .entry)) i h ⌝ }
+{
+    out[3 * i] = h.from;
+    out[3 * i + 1] = h.label;
+    out[3 * i + 2] = h.to;
+}
+
+// Writes the flat list of the records at the front of `out`.
+fn flatten(hops: &[Hop], out: &mut [u16])
+    requires { ⌜ length (now hops) ≤ count (now out) ⌝ }
+    ensures { λ _. ⌜ now (out .exit) ≡ flat (now (hops .entry)) ++ drop (length (flat (now (hops .entry)))) (now (out .entry)) ⌝ }
+{
+    let mut i = 0;
+    while i < hops.len() {
+        put3(out, i, hops[i]);
+        i += 1;
+    }
+}
+
+// The same at the front of an array of its own. Of more records than a graph may have hops it says nothing.
+fn flat_of(hops: &[Hop]) -> [u16; 12288]
+    ensures { λ r. ⌜ (length (now (hops .entry)) ≤ most-hops → between r 0 (length (now (hops .entry))) ≡ flat (now (hops .entry))) ⌝ }
+{
+    let mut nums = [0u16; 12288];
+    if MOST_HOPS < hops.len() {
+        return nums;
+    }
+    flatten(hops, &mut nums);
+    nums
+}
+
+// `check` of the first n hops of an array, where a graph may have as many.
+fn check_of(shape: Shape, nums: [u16; 12288], n: usize) -> Answer
+    ensures { λ r. ⌜ r ≡ unlessOver n (refused 1 0) (checkOf shape (between nums 0 n)) ⌝ }
+{
+    if MOST_HOPS < n {
+        return refuse(1, 0);
+    }
+    check(shape, part(&nums, 0, n))
+}
+
+// The entry `check` over records.
+pub fn check_records(shape: Shape, hops: &[Hop]) -> Answer
+    ensures { λ r. ⌜ r ≡ checkOf shape (flat (now (hops .entry))) ⌝ }
+{
+    let n = hops.len();
+    check_of(shape, flat_of(hops), n)
+}
