@@ -18,6 +18,7 @@ use Rattle.graph.specs.declared.Shape.{Shape}
 use Rattle.graph.proofs.Bools.{not-no, and-no-left, and-no-right}
 use Rattle.graph.proofs.Checked.{check-counts}
 use Rattle.graph.proofs.Places.{length-flat, count-flat, flat-at}
+use Rattle.confluence.specs.Mark.{markAnswer, markOutput}
 use Rattle.records.specs.Records.{put, unlessOver}
 
 -- xs with the first j numbers of ns at its front
@@ -64,3 +65,11 @@ pub check-over : (sh : Shape) (ys : List Hop) → most-hops < length ys → chec
 unfolding countsFit
 check-over sh ys l =
     sym (check-counts sh (flat ys) refl (not-no (and-no-left (whole (flat ys)) (and-no-right (leb 1 (sh .states) && leb (sh .states) most-states && leb 1 (sh .labels) && leb (sh .labels) most-labels) (lt-leb (count (flat ys)) most-hops (rw (count-flat ys) l))))))
+
+pub mark-over : (sh : Shape) (ys : List Hop) (out : List ℕ) → most-hops < length ys → markAnswer sh (flat ys) out ≡ refused 1 0
+unfolding markAnswer
+mark-over sh ys out l = rw (check-over sh ys l)
+
+pub output-over : (sh : Shape) (ys : List Hop) (out : List ℕ) → most-hops < length ys → markOutput sh (flat ys) out ≡ out
+unfolding markOutput
+output-over sh ys out l = rw (mark-over sh ys out l)
