@@ -11,7 +11,7 @@ use borrow.Author.Tests.{ltb-true, ltb-false, lt-leb}
 use lib.Dec.{ltb, leb}
 use lib.ListN.{length, take, drop, getD, set}
 use lib.Seq.{paste-suc, length-paste, take-length, take-at}
-use Rattle.graph.specs.Hops.{count, whole, hopAt, noHop, flat, between}
+use Rattle.graph.specs.Hops.{count, whole, noHop, flat, between}
 use Rattle.graph.specs.Check.{most-states, most-labels, most-hops, refused, countsFit, checkOf}
 use Rattle.graph.specs.declared.Hop.{Hop}
 use Rattle.graph.specs.declared.Shape.{Shape}
