@@ -1,17 +1,17 @@
 -- "with the same answers": a list of records and the flat list that holds them are checked and marked alike, since that flat list is the records' own.
 -- Assumes nothing.
-use Prim.Native.Nat.{ℕ, zero, suc, _+_, _*_, _/_, _%_, _<_}
+use Prim.Native.Nat.{ℕ, _%_, _<_}
 use mathlib.Core.Path.{_≡_, sym, ap, _∙_}
-use mathlib.Core.List.{List}
-use native.Mathlib.Nat.{add-zero}
+use mathlib.Core.List.{List, [], _++_, append-nil}
 use native.Mathlib.Omega.{arith}
 use borrow.Author.Tests.{eqb-true, eq-eqb}
-use lib.ListN.{length, getD}
-use lib.Seq.{ext-getD}
-use Rattle.graph.specs.Hops.{hopAt, flat}
+use lib.ListN.{length, drop}
+use lib.Seq.{drop-length, ext-getD}
+use Rattle.graph.specs.Hops.{noHop, flat, front, over}
 use Rattle.graph.specs.Check.{checkOf}
 use Rattle.graph.specs.declared.Hop.{Hop}
 use Rattle.graph.specs.declared.Shape.{Shape}
+use Rattle.graph.proofs.Fronts.{length-front, getD-front, over-front}
 use Rattle.graph.proofs.Places.{length-flat, count-flat, flat-at}
 use Rattle.confluence.specs.Mark.{markAnswer, markOutput}
 use Rattle.records.specs.Records.{Holds}
@@ -26,18 +26,21 @@ flat-holds ys = record {
 
 -- and no other does
 pub holds-flat : (hs : List ℕ) (ys : List Hop) → Holds hs ys → flat ys ≡ hs
-holds-flat hs ys h = ext-getD 0 (flat ys) hs as-long (λ j l. at j (j / 3) (j % 3) (omega arith) (omega arith) (omega (arith, length-flat ys))) where
+unfolding over
+holds-flat hs ys h = sym (append-nil (flat ys)) ∙ ap (λ (l : List ℕ). flat ys ++ l) (sym nothing-past) ∙ written where
   as-long : length (flat ys) ≡ length hs
   as-long = omega (arith, length-flat ys, h .as-many, eqb-true (length hs % 3) 0 (h .three-a-hop))
 
-  same : (i : ℕ) → i < length ys → hopAt (flat ys) i ≡ hopAt hs i
-  same i l = flat-at ys i ∙ sym (h .at-each i l)
+  nothing-past : drop (length (flat ys)) hs ≡ []
+  nothing-past = rw as-long (drop-length hs)
 
-  at : (j i k : ℕ) → 3 * i + k ≡ j → k < 3 → i < length ys → getD (flat ys) j 0 ≡ getD hs j 0
-  at j i zero e b l = rw (← e, add-zero) (ap (λ (x : Hop). x .from) (same i l))
-  at j i (suc zero) e b l = rw (← e) (ap (λ (x : Hop). x .label) (same i l))
-  at j i (suc (suc zero)) e b l = rw (← e) (ap (λ (x : Hop). x .to) (same i l))
-  at j i (suc (suc (suc k))) e b l = absurd (omega arith)
+  firsts : front (length ys) hs ≡ ys
+  firsts =
+      ext-getD noHop (front (length ys) hs) ys (length-front hs (length ys))
+      (λ i l. let k : i < length ys = omega (arith, length-front hs (length ys)) in getD-front hs (length ys) k ∙ h .at-each i k)
+
+  written : over ys hs ≡ hs
+  written = ap (λ (xs : List Hop). over xs hs) (sym firsts) ∙ over-front hs (length ys) (omega (arith, h .as-many))
 
 pub same-answers : (sh : Shape) (ys : List Hop) (hs out : List ℕ) → Holds hs ys
     → (checkOf sh (flat ys) ≡ checkOf sh hs) × (markAnswer sh (flat ys) out ≡ markAnswer sh hs out) × (markOutput sh (flat ys) out ≡ markOutput sh hs out)

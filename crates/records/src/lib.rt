@@ -4,37 +4,27 @@ use graph::Answer;
 use graph::Hop;
 use graph::Shape;
 use graph::hops::part;
+use graph::hops::put_hop;
 use graph::limits::check;
 use graph::limits::refuse;
 ghost use mathlib.Core.Path.{_≡_};
-ghost use Prim.Native.Nat.{_<_, _≤_};
-ghost use mathlib.Core.List.{_++_};
-ghost use lib.ListN.{length, drop};
-ghost use Rattle.graph.specs.Hops.{count, between, flat};
+ghost use Prim.Native.Nat.{_≤_};
+ghost use lib.ListN.{length};
+ghost use Rattle.graph.specs.Hops.{count, between, flat, over};
 ghost use Rattle.graph.specs.Check.{most-hops, refused, checkOf};
 ghost use Rattle.confluence.specs.Mark.{markAnswer, markOutput};
-ghost use Rattle.records.specs.Records.{put, unlessOver};
+ghost use Rattle.records.specs.Records.{unlessOver};
 
 const MOST_HOPS: usize = 4096;
-
-// Writes the three numbers of the record at the place.
-fn put3(out: &mut [u16], i: usize, h: Hop)
-    requires { ⌜ i < count (now out) ⌝ }
-    ensures { λ _. ⌜ now (out .exit) ≡ put (now (out .entry)) i h ⌝ }
-{
-    out[3 * i] = h.from;
-    out[3 * i + 1] = h.label;
-    out[3 * i + 2] = h.to;
-}
 
 // Writes the flat list of the records at the front of `out`.
 fn flatten(hops: &[Hop], out: &mut [u16])
     requires { ⌜ length (now hops) ≤ count (now out) ⌝ }
-    ensures { λ _. ⌜ now (out .exit) ≡ flat (now (hops .entry)) ++ drop (length (flat (now (hops .entry)))) (now (out .entry)) ⌝ }
+    ensures { λ _. ⌜ now (out .exit) ≡ over (now (hops .entry)) (now (out .entry)) ⌝ }
 {
     let mut i = 0;
     while i < hops.len() {
-        put3(out, i, hops[i]);
+        put_hop(out, i, hops[i]);
         i += 1;
     }
 }

@@ -1,5 +1,5 @@
 -- `records::flatten` meets its contract: a walk of its MIR, by hand, with a loop. `hops` is looked into once, before the loop, and shut once, after it.
--- In a turn the record is copied out of its row, and `out` is lent again to `put3` for a lifetime that is made for the call, and comes back (`Again.antt`).
+-- In a turn the record is copied out of its row, and `out` is lent again to `put_hop` for a lifetime that is made for the call, and comes back (`Again.antt`).
 --     At i         the loop's invariant: `out` holds the numbers of the first i records (`Flats.antt`'s `done`).        turns     a turn from it
 -- Assumes nothing.
 use mathlib.Core.Path.{_≡_, refl, sym, _∙_, ap, subst}
@@ -48,17 +48,16 @@ use denote.Triple.Clauses.{ensured, lasts}
 use denote.Triple.Table.{entered, cited}
 use denote.Triple.Walked.{says, needs, Stays, stay-none-slice, stay-slice, walkOf, goes-none-slice, goes-slice, Walks, ends-at, walked, walk-meets}
 use denote.Exit.{yes}
-use Rattle.graph.specs.Hops.{count, noHop}
-use Rattle.records.specs.Records.{put as putᴴ}
+use Rattle.graph.specs.Hops.{count, noHop, flat, over, put as putᴴ}
 use Rattle.graph.specs.declared.Hop.{Hop}
 use Rattle.records.proofs.Again.{LentAgain, lends-again, comes-back}
 use Rattle.records.proofs.Flats.{done, done-n, done-length, done-step}
 use Rattle.graph.proofs.Hop as T
 use Rattle.graph.proofs.Hop.Laws as T′
-use Rattle.records.proofs.put3 as put3
-use Rattle.records.proofs.put3.Symbol as put3-def
-use Rattle.records.proofs.put3.Symbol.{name as #records·put3}
-use Rattle.records.proofs.put3.Met as put3-thm
+use Rattle.graph.proofs.hops.put_hop as put-hop
+use Rattle.graph.proofs.hops.put_hop.Symbol as put-hop-def
+use Rattle.graph.proofs.hops.put_hop.Symbol.{name as #graph·hops·put-hop}
+use Rattle.graph.proofs.hops.put_hop.Met as put-hop-thm
 use Rattle.records.proofs.flatten.Key.{name as #records·flatten}
 use Rattle.records.proofs.flatten as flatten
 use Rattle.records.proofs.flatten.Statement as stated
@@ -95,8 +94,8 @@ abbrev lent-ty : Ty
 lent-ty = tyRef erased mut (tyInt w16)
 
 -- the contract that the proof cites
-abbrev Put3 : {M : Type 1} (𝓤 : URA M) (H : Heap 𝓤) (A : Atoms 𝓤) (mem : Memory → SProp 𝓤) (run : Routine → Fun 𝓤) → Contract 𝓤
-Put3 𝓤 H A mem run = tripleOf 𝓤 H A put3.signature (put3.spec 𝓤 H A mem run)
+abbrev PutHop : {M : Type 1} (𝓤 : URA M) (H : Heap 𝓤) (A : Atoms 𝓤) (mem : Memory → SProp 𝓤) (run : Routine → Fun 𝓤) → Contract 𝓤
+PutHop 𝓤 H A mem run = tripleOf 𝓤 H A put-hop.signature (put-hop.spec 𝓤 H A mem run)
 
 module _ {M : Type 1} (𝓤 : URA M) (H : Heap 𝓤) (A : Atoms 𝓤) (W : Given 𝓤 H A) (mem : Memory → SProp 𝓤) (run : Routine → Fun 𝓤)
     (κ κ′ : Lft) (q q′ : Share) (b o : ℕ) (γ : GName) (ys : List Hop) (b′ o′ : ℕ) (γ′ : GName) (xs : List ℕ)
@@ -146,12 +145,12 @@ module _ {M : Type 1} (𝓤 : URA M) (H : Heap 𝓤) (A : Atoms 𝓤) (W : Given
       same : length (done ys xs i) ≡ length xs
       same = done-length ys xs enough i (omega arith)
 
-  -- ---- the call: what `put3`'s triple binds outside, at `out` lent again for the lifetime ν, under the name δ
-  abbrev to-put3 : ℕ → ℕ → GName → Put3 𝓤 H A mem run .Ghost
-  to-put3 i ν δ = (((ν ∷ [], tt), (fullShare, tt), tt, (z δ (l i), (i, (h i, tt))), (s (l i) ∷ [], (vint w64 i ∷ [], (T′.lowered (h i) ∷ [], tt)))), tt)
+  -- ---- the call: what `put_hop`'s triple binds outside, at `out` lent again for the lifetime ν, under the name δ
+  abbrev to-put-hop : ℕ → ℕ → GName → PutHop 𝓤 H A mem run .Ghost
+  to-put-hop i ν δ = (((ν ∷ [], tt), (fullShare, tt), tt, (z δ (l i), (i, (h i, tt))), (s (l i) ∷ [], (vint w64 i ∷ [], (T′.lowered (h i) ∷ [], tt)))), tt)
 
   goes : (i : ℕ) → i < n → Is T.the-row (h i) (T′.lowered (h i) ∷ []) → (ν : ℕ) (δ : GName)
-      → ent 𝓤 (sep 𝓤 (A .lft (ν ∷ []) fullShare) (sem 𝓤 H A (MutSlice (named 0) (ν ∷ []) u16 .own (z δ (l i)) (s (l i) ∷ [])))) (Put3 𝓤 H A mem run .pre (to-put3 i ν δ))
+      → ent 𝓤 (sep 𝓤 (A .lft (ν ∷ []) fullShare) (sem 𝓤 H A (MutSlice (named 0) (ν ∷ []) u16 .own (z δ (l i)) (s (l i) ∷ [])))) (PutHop 𝓤 H A mem run .pre (to-put-hop i ν δ))
   goes i less is ν δ =
       qed W (‵ (flft (ν ∷ []) fullShare) ∷ ‵ (MutSlice (named 0) (ν ∷ []) u16 .own (z δ (l i)) (s (l i) ∷ [])) ∷ []) ∵ says ! (omega (arith, done-length ys xs enough i (omega arith))) $ nothing ! $ move ! (1 ∷ 0 ∷ []) $ join ! $ frame ! $
       nothing ! $ owned ! T.the-row (Is T.the-row) (LL.makes T.the-type T′.the-plain 𝓤 H A) (h i) _ is $ fjoin ! $
@@ -167,7 +166,7 @@ module _ {M : Type 1} (𝓤 : URA M) (H : Heap 𝓤) (A : Atoms 𝓤) (W : Given
   Nearer-wf : WellFounded Nearer
   Nearer-wf = InvImage·wf (λ (i : Upto). n - i .0) (Nat·lt-wfRel .wf)
 
-  module _ (𝓣 : Tables 𝓤 H) (known : Triple 𝓤 (𝓣 .C #records·put3) (Put3 𝓤 H A mem run)) (p : Share) (l₀ l₁ l₂ l₃ l₄ l₅ l₆ l₇ l₈ l₉ l₁₀ : ℕ) where
+  module _ (𝓣 : Tables 𝓤 H) (known : Triple 𝓤 (𝓣 .C #graph·hops·put-hop) (PutHop 𝓤 H A mem run)) (p : Share) (l₀ l₁ l₂ l₃ l₄ l₅ l₆ l₇ l₈ l₉ l₁₀ : ℕ) where
     abbrev C : Calls 𝓤 H
     C = 𝓣 .C
 
@@ -203,10 +202,10 @@ module _ {M : Type 1} (𝓤 : URA M) (H : Heap 𝓤) (A : Atoms 𝓤) (W : Given
         -- [the records; _10; …; _0; …; what shuts them; what hops owns; what out owns; out's token]: out is lent again, for a lifetime ν of the call
         lft-new ! tt (λ ν. move ! (26 ∷ 27 ∷ []) $
         use2 W (later (some (λ (δ : GName). ‵ (MutSlice (named 0) (ν ∷ []) u16 .own (z δ (l (i .0))) (s (l (i .0)) ∷ [])) ⊛ ‵ (LentAgain u16 κ′ (ν ∷ []) q′ γ′ b′ o′ δ (l (i .0)))))) (lends-again u16 κ′ (ν ∷ []) q′ γ′ b′ o′ 𝓤 H A W (named 1) (named 0) (l (i .0))) $ await ! tt $ pick ! (λ δ. split ! $
-        move ! (2 ∷ 0 ∷ []) $ use2 W (raw (Put3 𝓤 H A mem run .pre (to-put3 (i .0) ν δ))) (goes (i .0) less is ν δ) $
-        calls-at ! (fmOf 𝓤 H (W .laws) 𝓣) (Put3 𝓤 H A mem run) known (to-put3 (i .0) ν δ) (and-then ! (load ! (from ! (stop !)) (look ! 7 refl)) (and-then ! (load ! (from ! (stop !)) (look ! 17 refl)) (and-then ! (load ! (from ! (stop !)) (look ! 3 refl)) (no-more !)))) (λ w.
-        use1 W (later (some (λ (r : Unit {0}). ((‵ (flft (ν ∷ []) fullShare) ⊛ ‵ ftrue) ⊛ ‵ (unit .own r (w ∷ []))) ⊛ raw (ensured 𝓤 H A put3.ended (put3.clauses 𝓤 H A mem run) (ν ∷ [], tt) (z δ (l (i .0)), (i .0, (h (i .0), tt))) tt r)))) (id⊢ 𝓤 _) $ await ! tt $ pick ! (λ r.
-        split ! $ move ! (1 ∷ []) $ use1 W (some (λ (zs : List ℕ × (Unit {0} × (Unit {0} × Unit {0}))). ‵ (lasts put3.ended (ν ∷ [], tt) (z δ (l (i .0)), (i .0, (h (i .0), tt))) zs) ⊛ raw (fact 𝓤 (zs .0 ≡ putᴴ (l (i .0)) (i .0) (h (i .0)))))) (id⊢ 𝓤 _) $ pick ! (λ zs.
+        move ! (2 ∷ 0 ∷ []) $ use2 W (raw (PutHop 𝓤 H A mem run .pre (to-put-hop (i .0) ν δ))) (goes (i .0) less is ν δ) $
+        calls-at ! (fmOf 𝓤 H (W .laws) 𝓣) (PutHop 𝓤 H A mem run) known (to-put-hop (i .0) ν δ) (and-then ! (load ! (from ! (stop !)) (look ! 7 refl)) (and-then ! (load ! (from ! (stop !)) (look ! 17 refl)) (and-then ! (load ! (from ! (stop !)) (look ! 3 refl)) (no-more !)))) (λ w.
+        use1 W (later (some (λ (r : Unit {0}). ((‵ (flft (ν ∷ []) fullShare) ⊛ ‵ ftrue) ⊛ ‵ (unit .own r (w ∷ []))) ⊛ raw (ensured 𝓤 H A put-hop.ended (put-hop.clauses 𝓤 H A mem run) (ν ∷ [], tt) (z δ (l (i .0)), (i .0, (h (i .0), tt))) tt r)))) (id⊢ 𝓤 _) $ await ! tt $ pick ! (λ r.
+        split ! $ move ! (1 ∷ []) $ use1 W (some (λ (zs : List ℕ × (Unit {0} × (Unit {0} × Unit {0}))). ‵ (lasts put-hop.ended (ν ∷ [], tt) (z δ (l (i .0)), (i .0, (h (i .0), tt))) zs) ⊛ raw (fact 𝓤 (zs .0 ≡ putᴴ (l (i .0)) (i .0) (h (i .0)))))) (id⊢ 𝓤 _) $ pick ! (λ zs.
         split ! $ move ! (1 ∷ []) $ heard ! (zs .0 ≡ putᴴ (l (i .0)) (i .0) (h (i .0))) (λ e. fsplit ! $ fsplit ! $ move ! (1 ∷ []) $ feqL ! (λ same.
         -- [the last list; …; the token and the result; what was lent; the records; _10; …]
         move ! (2 ∷ []) $ split ! $ move ! (1 ∷ []) $ feqL ! (λ is-unit.
@@ -251,7 +250,8 @@ module _ {M : Type 1} (𝓤 : URA M) (H : Heap 𝓤) (A : Atoms 𝓤) (W : Given
         move ! (9 ∷ 10 ∷ []) $ free1 ! $ move ! (7 ∷ 8 ∷ []) $ free1 ! $ move ! (5 ∷ 6 ∷ []) $ free1 ! $ move ! (3 ∷ 4 ∷ []) $ free1 ! $ move ! (1 ∷ 2 ∷ []) $ free1 ! $ free0 ! $
         by ! (exits (i .0) (le-antisymm (i .1) (nltb→le (i .0) n over))))
 
-  walk : (𝓣 : Tables 𝓤 H) → Triple 𝓤 (𝓣 .C #records·put3) (Put3 𝓤 H A mem run) → ent 𝓤 (onEntry 𝓤 H A flatten.signature (κ, (κ′, tt)) (q, (q′, tt)) a vals) (WpFn 𝓤 H (𝓣 .C) (𝓣 .Λ) code.function (sliceVal (b, o) n ∷ s xs ∷ []) Post)
+  walk : (𝓣 : Tables 𝓤 H) → Triple 𝓤 (𝓣 .C #graph·hops·put-hop) (PutHop 𝓤 H A mem run) → ent 𝓤 (onEntry 𝓤 H A flatten.signature (κ, (κ′, tt)) (q, (q′, tt)) a vals) (WpFn 𝓤 H (𝓣 .C) (𝓣 .Λ) code.function (sliceVal (b, o) n ∷ s xs ∷ []) Post)
+  unfolding over flat
   walk 𝓣 known =
       qed W ((‵ (flft κ q) ⊛ ‵ (flft κ′ q′) ⊛ ‵ ftrue) ∷ ‵ (owns (ShrSlice (named 0) κ T.the-row ∷ MutSlice (named 1) κ′ u16 ∷ []) a vals) ∷ []) ∵ enter ! (𝓣 .C) (𝓣 .Λ) code.function (sliceVal (b, o) n ∷ s xs ∷ []) _ $
       alloc1 ! (λ l₀. alloc1 ! (λ l₁. alloc1 ! (λ l₂. alloc1 ! (λ l₃. alloc1 ! (λ l₄. alloc1 ! (λ l₅. alloc1 ! (λ l₆. alloc1 ! (λ l₇. alloc1 ! (λ l₈. alloc1 ! (λ l₉. alloc1 ! (λ l₁₀. alloc0 ! $ params1 ! $
@@ -266,12 +266,12 @@ module _ {M : Type 1} (𝓤 : URA M) (H : Heap 𝓤) (A : Atoms 𝓤) (W : Given
       first ! $ blocks ! $ loops ! 𝓣 Nearer Nearer-wf (At 𝓣 known p l₀ l₁ l₂ l₃ l₄ l₅ l₆ l₇ l₈ l₉ l₁₀) (turns 𝓣 known p l₀ l₁ l₂ l₃ l₄ l₅ l₆ l₇ l₈ l₉ l₁₀) (0, zero-le)))))))))))))
 
 module _ {M : Type 1} (𝓤 : URA M) (H : Heap 𝓤) (A : Atoms 𝓤) (W : Given 𝓤 H A) (mem : Memory → SProp 𝓤) (run : Routine → Fun 𝓤) (𝓣 : Tables 𝓤 H) where
-  flatten-walks : Triple 𝓤 (𝓣 .C #records·put3) (Put3 𝓤 H A mem run) → Walks 𝓤 H A flatten.ended stayed (WpFn 𝓤 H (𝓣 .C) (𝓣 .Λ) code.function) (flatten.clauses 𝓤 H A mem run)
+  flatten-walks : Triple 𝓤 (𝓣 .C #graph·hops·put-hop) (PutHop 𝓤 H A mem run) → Walks 𝓤 H A flatten.ended stayed (WpFn 𝓤 H (𝓣 .C) (𝓣 .Λ) code.function) (flatten.clauses 𝓤 H A mem run)
   flatten-walks known = walked 𝓤 H A flatten.ended stayed (flatten.clauses 𝓤 H A mem run) (WpFn 𝓤 H (𝓣 .C) (𝓣 .Λ) code.function) (λ κs. (slice-vals, (slice-vals, tt))) (λ κs. (shr-slice-tells (named 0) (κs .0) T.the-row, (mut-slice-tells (named 1) (κs .1 .0) u16, tt)))
       (λ κs qs bounds a g are. needs 𝓤 (length (now (a .0)) ≤ count (now (a .1 .0))) _ (λ enough.
       walk 𝓤 H A W mem run (κs .0) (κs .1 .0) (qs .0) (qs .1 .0) (a .0 .ptr .0) (a .0 .ptr .1) (a .0 .name) (a .0 .now) (a .1 .0 .ptr .0) (a .1 .0 .ptr .1) (a .1 .0 .name) (a .1 .0 .now) (are .0 .0 .1) (are .1 .0 .0 .1) enough 𝓣 known))
 
-  flatten-meets : Triple 𝓤 (𝓣 .C #records·put3) (Put3 𝓤 H A mem run) → Meets 𝓤 H A flatten.signature (WpFn 𝓤 H (𝓣 .C) (𝓣 .Λ) code.function) (flatten.spec 𝓤 H A mem run)
+  flatten-meets : Triple 𝓤 (𝓣 .C #graph·hops·put-hop) (PutHop 𝓤 H A mem run) → Meets 𝓤 H A flatten.signature (WpFn 𝓤 H (𝓣 .C) (𝓣 .Λ) code.function) (flatten.spec 𝓤 H A mem run)
   flatten-meets known =
       walk-meets 𝓤 H A flatten.ended stayed W (goes-none-slice 𝓤 H A W 2 (0 ∷ []) tt (plain (λ _. T.the-row)) yes, (goes-slice 𝓤 H A W 2 1 tt (plain (λ _. u16)), tt)) (flatten.clauses 𝓤 H A mem run)
       (WpFn 𝓤 H (𝓣 .C) (𝓣 .Λ) code.function) (WpFn-mono 𝓤 H (W .laws) 𝓣 code.function) (flatten-walks known)
@@ -282,4 +282,4 @@ flatten-spec 𝓤 H 𝓜 𝓖 𝓡 =
     entered 𝓤 H (tripleOf 𝓤 H (𝓖 .A) flatten.signature (flatten.spec 𝓤 H (𝓖 .A) (𝓜 .mem) (𝓡 .run)))
     (tables 𝓤 H 𝓜 𝓡 code.env .C) (tables 𝓤 H 𝓜 𝓡 code.env .Λ) #records·flatten code.function (code.unfolded 𝓤 H 𝓜 𝓡)
     (flatten-meets 𝓤 H (𝓖 .A) (givenOf 𝓤 H 𝓜 𝓖) (𝓜 .mem) (𝓡 .run) (tablesOf 𝓤 H 𝓜 (tables 𝓤 H 𝓜 𝓡 code.env))
-    (cited 𝓤 H (Put3 𝓤 H (𝓖 .A) (𝓜 .mem) (𝓡 .run)) 𝓜 𝓡 code.env #records·put3 put3-def.routine code.calls-records·put3 (put3-thm.met 𝓤 H 𝓜 𝓖 𝓡)))
+    (cited 𝓤 H (PutHop 𝓤 H (𝓖 .A) (𝓜 .mem) (𝓡 .run)) 𝓜 𝓡 code.env #graph·hops·put-hop put-hop-def.routine code.calls-graph·hops·put-hop (put-hop-thm.met 𝓤 H 𝓜 𝓖 𝓡)))
