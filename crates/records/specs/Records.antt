@@ -9,11 +9,11 @@ use Rattle.graph.specs.Hops.{count, whole, hopAt, noHop}
 use Rattle.graph.specs.Check.{most-hops}
 use Rattle.graph.specs.declared.Hop.{Hop}
 
--- of n hops: z if a graph may not have as many, else m
+-- "0 to 4,096 hops"; of n hops: z if a graph may not have as many, else m
 abbrev pub unlessOver : {A : Type 0} → ℕ → A → A → A
 unlessOver n z m = cond (ltb most-hops n) z m
 
--- a flat list holds the records ys: whole hops only, as many, and at each place the same
+-- "lends hops as a list of records of three numbers": a flat list holds the records ys, whole hops only, as many, and at each place the same
 pub record Holds (hs : List ℕ) (ys : List Hop) : Type 0 where
   pub three-a-hop : whole hs ≡ true
   pub as-many : count hs ≡ length ys

@@ -25,8 +25,8 @@ same-length c = search needs
 
 returns-2 : tie.Need-returns-2
 returns-2 c =
-    rw (le-ltb _ _ (c .before .before .before .before .before .before .if1 .left), ← c .before .before .before .before .part .ensures .0)
-    (c .before .before .mark .ensures)
+    rw (le-ltb _ _ (c .before .before .before .before .before .before .if1 .left))
+    (rw (c .before .before .before .before .part .ensures .0) at (c .before .before .mark .ensures))
 
 pub mark-of-spec : {M : Type 1} → statement M
 mark-of-spec =
