@@ -5,3 +5,4 @@ pub mod Places
 pub mod Ordered
 pub mod Lookup
 pub mod Checked
+pub mod Fronts

@@ -1,9 +1,9 @@
 -- The hop list of document 01: "one flat list of numbers, three a hop", seen by places that count hops from 0.
 -- Only this file, the accessors and their laws know how many numbers a hop takes. Assumes nothing: these are definitions.
-use Prim.Native.Nat.{ℕ, _+_, _-_, _*_, _/_, _%_}
+use Prim.Native.Nat.{ℕ, zero, suc, _+_, _-_, _*_, _/_, _%_}
 use mathlib.Core.Bool.{Bool, _&&_}
-use mathlib.Core.List.{List, [], _∷_}
-use lib.ListN.{length, getD, take, drop}
+use mathlib.Core.List.{List, [], _∷_, _++_}
+use lib.ListN.{length, getD, set, take, drop}
 use lib.Dec.{eqb}
 use denote.Ref.{RefT, ptr}
 use Rattle.graph.specs.Tests.{any}
@@ -38,6 +38,19 @@ noHop = record { from = 0; label = 0; to = 0 }
 unfoldable pub flat : List Hop → List ℕ
 flat [] = []
 flat (h ∷ hs) = h .from ∷ h .label ∷ h .to ∷ flat hs
+
+-- the list with h for the hop at place i
+abbrev pub put : List ℕ → ℕ → Hop → List ℕ
+put hs i h = set (set (set hs (3 * i) (h .from)) (3 * i + 1) (h .label)) (3 * i + 2) (h .to)
+
+-- the first n hops of a list
+unfoldable pub front : ℕ → List ℕ → List Hop
+front zero hs = []
+front (suc n) hs = front n hs ++ (hopAt hs n ∷ [])
+
+-- the list with the hops xs written at its front
+unfoldable pub over : List Hop → List ℕ → List ℕ
+over xs hs = flat xs ++ drop (length (flat xs)) hs
 
 -- the hop at place i is s, a, t
 unfoldable pub is : List ℕ → ℕ → ℕ → ℕ → ℕ → Bool

@@ -5,7 +5,7 @@ use super::OldState;
 ghost use mathlib.Core.Path.{_≡_};
 ghost use Prim.Native.Nat.{_<_, _≤_};
 ghost use denote.Ref.{ptr};
-ghost use Rattle.graph.specs.Hops.{count, whole, from, label, to, hopAt, is, between, standsAt};
+ghost use Rattle.graph.specs.Hops.{count, whole, from, label, to, hopAt, put, is, between, standsAt};
 
 // How many hops the list holds.
 pub fn hop_count(hops: &[u16]) -> usize
@@ -60,6 +60,16 @@ pub fn is_hop_at(hops: &[u16], i: usize, h: Hop) -> bool
     ensures { λ r. ⌜ r ≡ is (now (hops .entry)) (h .from) (h .label) (h .to) i ⌝ }
 {
     (hops[3 * i] == h.from) & ((hops[3 * i + 1] == h.label) & (hops[3 * i + 2] == h.to))
+}
+
+// Writes the hop at the place.
+pub fn put_hop(hops: &mut [u16], i: usize, h: Hop)
+    requires { ⌜ i < count (now hops) ⌝ }
+    ensures { λ _. ⌜ now (hops .exit) ≡ put (now (hops .entry)) i h ⌝ }
+{
+    hops[3 * i] = h.from;
+    hops[3 * i + 1] = h.label;
+    hops[3 * i + 2] = h.to;
 }
 
 // The hops from one place up to another, as a part of the list itself.

@@ -1,3 +1,4 @@
 pub mod Representative
 pub mod Short
 pub mod Reduce
+pub mod Tables

@@ -1,0 +1,123 @@
+-- The answer of `reduce` row by row, what its acceptance gives, and what is returned and written in either case. Assumes nothing.
+use Prim.Native.Nat.{ℕ, _<_, _≤_}
+use mathlib.Core.Path.{_≡_, refl, sym, ap, _∙_}
+use mathlib.Core.Bool.{Bool, true, false, _||_}
+use mathlib.Core.List.{List}
+use mathlib.Core.Logic.{_⊎_, inl, inr}
+use native.Mathlib.Omega.{arith}
+use borrow.Author.Tests.{ne-eqb, le-leb, lt-leb, ltb-true, ltb-false}
+use lib.ListN.{length}
+use lib.Dec.{eqb, ltb}
+use Rattle.graph.specs.Check.{checkOf, accepted, refused, andThen, roomFor}
+use Rattle.graph.specs.Hops.{flat}
+use Rattle.graph.specs.declared.Shape.{Shape}
+use Rattle.graph.specs.declared.Answer.{Answer}
+use Rattle.graph.proofs.Bools.{clash, or-yes, lt-or-le}
+use Rattle.graph.proofs.Checked.{check-admitted}
+use Rattle.silent.specs.Silent.{ringless}
+use Rattle.confluence.proofs.Entry.{then-first, then-next, then-both, room-given}
+use Rattle.quotient.specs.Short.{shortHops, mapList}
+use Rattle.quotient.specs.Reduce.{reduceAnswer, reduction, reduceOf, written, mapOutput, shortOutput}
+use Rattle.quotient.specs.Tables.{Reducible, refusal}
+
+module _ (sh : Shape) (hs : List ℕ) (m k : ℕ) where
+  -- row 6 of both outputs
+  abbrev room : Answer
+  room = andThen (roomFor (sh .states) m) (roomFor (length hs) k)
+
+  -- the ways out of the code, in order
+  pub answer-checked : {c : Answer} → c ≡ checkOf sh hs → (c .number ≡ 0 → ⊥) → c ≡ reduceAnswer sh hs m k
+  unfolding reduceAnswer
+  answer-checked e n = e ∙ sym (then-first (checkOf sh hs) (andThen (ringless sh hs) room) (rw e at n))
+
+  module _ {c : Answer} (e : c ≡ checkOf sh hs) (z : c .number ≡ 0) where
+    rest : andThen (ringless sh hs) room ≡ reduceAnswer sh hs m k
+    unfolding reduceAnswer
+    rest = sym (then-next (checkOf sh hs) (andThen (ringless sh hs) room) (rw e at z))
+
+    pub answer-ringed : {d : Answer} → d ≡ ringless sh hs → (d .number ≡ 0 → ⊥) → d ≡ reduceAnswer sh hs m k
+    answer-ringed f n = f ∙ (sym (then-first (ringless sh hs) room (rw f at n)) ∙ rest)
+
+    module _ {d : Answer} (f : d ≡ ringless sh hs) (y : d .number ≡ 0) where
+      last : room ≡ reduceAnswer sh hs m k
+      last = sym (then-next (ringless sh hs) room (rw f at y)) ∙ rest
+
+      pub answer-narrow : (ltb m (sh .states) || ltb k (length hs)) ≡ true → refused 6 0 ≡ reduceAnswer sh hs m k
+      answer-narrow t = both (lt-or-le m (sh .states)) (or-yes (ltb m (sh .states)) (ltb k (length hs)) t) ∙ last where
+        both : (m < sh .states) ⊎ (sh .states ≤ m) → (ltb m (sh .states) ≡ true) ⊎ (ltb k (length hs) ≡ true) → refused 6 0 ≡ room
+        both (inl l) w = rw (lt-leb (sh .states) m l)
+        both (inr l) (inl w) = absurd (omega (arith, ltb-true m (sh .states) w))
+        both (inr l) (inr w) = rw (le-leb (sh .states) m l, lt-leb (length hs) k (ltb-true k (length hs) w))
+
+      pub answer-accepts : (ltb m (sh .states) || ltb k (length hs)) ≡ false → accepted ≡ reduceAnswer sh hs m k
+      answer-accepts t =
+          rw (le-leb (sh .states) m (ltb-false m (sh .states) (or-no-left (ltb m (sh .states)) (ltb k (length hs)) t)), le-leb (length hs) k (ltb-false k (length hs) (or-no-right (ltb m (sh .states)) (ltb k (length hs)) t)))
+          at last where
+            or-no-left : (a b : Bool) → (a || b) ≡ false → a ≡ false
+            or-no-left true b q = q
+            or-no-left false b q = refl
+
+            or-no-right : (a b : Bool) → (a || b) ≡ false → b ≡ false
+            or-no-right true b q = clash refl q
+            or-no-right false b q = q
+
+  -- what acceptance gives
+  module _ (z : reduceAnswer sh hs m k .number ≡ 0) where
+    checked : (checkOf sh hs .number ≡ 0) × (andThen (ringless sh hs) room .number ≡ 0)
+    unfolding reduceAnswer
+    checked = then-both (checkOf sh hs) (andThen (ringless sh hs) room) z
+
+    ringed : (ringless sh hs .number ≡ 0) × (room .number ≡ 0)
+    ringed = then-both (ringless sh hs) room (checked .1)
+
+    roomed : (roomFor (sh .states) m .number ≡ 0) × (roomFor (length hs) k .number ≡ 0)
+    roomed = then-both (roomFor (sh .states) m) (roomFor (length hs) k) (ringed .1)
+
+    pub reduce-reducible : Reducible sh hs
+    reduce-reducible = record { admitted = check-admitted sh hs (checked .0); free = ringed .0 }
+
+    pub reduce-map-room : sh .states ≤ m
+    reduce-map-room = room-given (sh .states) m (roomed .0)
+
+    pub reduce-short-room : length hs ≤ k
+    reduce-short-room = room-given (length hs) k (roomed .1)
+
+    pub reduce-accepted : reduceAnswer sh hs m k ≡ accepted
+    unfolding reduceAnswer
+    reduce-accepted =
+        then-next (checkOf sh hs) (andThen (ringless sh hs) room) (checked .0) ∙ then-next (ringless sh hs) room (ringed .0) ∙
+        rw (le-leb (sh .states) m reduce-map-room, le-leb (length hs) k reduce-short-room)
+
+-- what is returned and written, a being the answer
+module _ (sh : Shape) (hs map short : List ℕ) {a : Answer} (e : a ≡ reduceAnswer sh hs (length map) (length short)) where
+  module _ (n : a .number ≡ 0 → ⊥) where
+    refuses : eqb (reduceAnswer sh hs (length map) (length short) .number) 0 ≡ false
+    refuses = ne-eqb _ 0 (rw e at n)
+
+    pub refused-returns : refusal a ≡ reduceOf sh hs (length map) (length short)
+    unfolding reduceOf
+    refused-returns = rw refuses (ap refusal e)
+
+    pub refused-map : map ≡ mapOutput sh hs map short
+    unfolding mapOutput
+    refused-map = rw refuses
+
+    pub refused-short : short ≡ shortOutput sh hs map short
+    unfolding shortOutput
+    refused-short = rw refuses
+
+  module _ (z : a .number ≡ 0) where
+    pub accepts : reduceAnswer sh hs (length map) (length short) .number ≡ 0
+    accepts = rw e at z
+
+    pub accepted-returns : reduction sh hs accepted ≡ reduceOf sh hs (length map) (length short)
+    unfolding reduceOf
+    accepted-returns = ap (reduction sh hs) (sym (reduce-accepted sh hs (length map) (length short) accepts))
+
+    pub accepted-map : written accepted (mapList sh hs) map ≡ mapOutput sh hs map short
+    unfolding mapOutput
+    accepted-map = ap (λ (x : Answer). written x (mapList sh hs) map) (sym (reduce-accepted sh hs (length map) (length short) accepts))
+
+    pub accepted-short : written accepted (flat (shortHops sh hs)) short ≡ shortOutput sh hs map short
+    unfolding shortOutput
+    accepted-short = ap (λ (x : Answer). written x (flat (shortHops sh hs)) short) (sym (reduce-accepted sh hs (length map) (length short) accepts))
