@@ -1,0 +1,11 @@
+pub mod Choice
+pub mod Fields
+pub mod Answers
+pub mod Front
+pub mod Entry
+pub mod Encoded
+pub mod Given
+pub mod Sound
+pub mod Again
+pub mod Back
+pub mod Both
