@@ -10,6 +10,9 @@ use Rattle.graph.specs.declared.Answer.{Answer}
 use Rattle.rounds.specs.declared.RoundAnswer.{RoundAnswer}
 use Rattle.outgoing.specs.declared.Span.{Span}
 use Rattle.quotient.specs.declared.Reduction.{Reduction}
+use Rattle.bisimulation.specs.declared.Audit.{Audit}
+use Rattle.file.specs.declared.Contents.{Contents}
+use Rattle.file.specs.declared.Written.{Written}
 
 -- a shape from three numbers, which pass through unchanged
 abbrev pub shapeOf : ℕ → ℕ → ℕ → Shape
@@ -30,6 +33,20 @@ spanNumbers p = p .start ∷ p .length ∷ []
 -- "7: + states, labels, hops, initial"
 abbrev pub reductionNumbers : Reduction → List ℕ
 reductionNumbers r = numbersOf (r .answer) (r .shape .states ∷ r .shape .labels ∷ r .hops ∷ r .shape .initial ∷ [])
+
+-- "4: + faults"
+abbrev pub auditNumbers : Audit → List ℕ
+auditNumbers a = numbersOf (a .answer) (a .faults ∷ [])
+
+-- "9: + states, labels, initial, hops, name block's place and length"
+abbrev pub contentsNumbers : Contents → List ℕ
+contentsNumbers c =
+    numbersOf (c .answer)
+    (c .shape .states ∷ c .shape .labels ∷ c .shape .initial ∷ c .hops ∷ c .«names_place» ∷ c .«names_len» ∷ [])
+
+-- "4: + length"
+abbrev pub writtenNumbers : Written → List ℕ
+writtenNumbers w = numbersOf (w .answer) (w .length ∷ [])
 
 -- what is returned: the entry's number if it refuses, else 0, or 6 for an answer slice too short for n numbers
 unfoldable pub returned : Answer → ℕ → ℕ → ℕ

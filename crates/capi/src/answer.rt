@@ -1,4 +1,5 @@
 // What an entry tells its caller: numbers at the front of the answer slice, and the number that is returned.
+use file::Contents;
 use graph::Answer;
 use graph::Shape;
 use outgoing::Span;
@@ -7,7 +8,7 @@ ghost use mathlib.Core.Path.{_≡_};
 ghost use mathlib.Core.List.{[], _∷_, _++_};
 ghost use Prim.Native.Nat.{_<_, _≤_};
 ghost use lib.ListN.{length, drop};
-ghost use Rattle.capi.specs.Interface.{shapeOf, numbersOf, spanNumbers, reductionNumbers, returned};
+ghost use Rattle.capi.specs.Interface.{shapeOf, numbersOf, spanNumbers, reductionNumbers, contentsNumbers, returned};
 
 pub(crate) fn shape_of(states: u32, labels: u32, initial: u32) -> Shape
     ensures { λ r. ⌜ r ≡ shapeOf states labels initial ⌝ }
@@ -42,14 +43,14 @@ pub(crate) fn put_answer(out: &mut [u64], a: Answer)
 }
 
 // An answer and one figure.
-pub(crate) fn put_figure(out: &mut [u64], a: Answer, figure: u32)
+pub(crate) fn put_figure(out: &mut [u64], a: Answer, figure: u64)
     requires { ⌜ 4 ≤ length (now out) ⌝ }
     ensures { λ r. ⌜ now (out .exit) ≡ numbersOf a (figure ∷ []) ++ drop 4 (now (out .entry)) ⌝ }
 {
     out[0] = a.number as u64;
     out[1] = a.table as u64;
     out[2] = a.place as u64;
-    out[3] = figure as u64;
+    out[3] = figure;
 }
 
 // Start and length of a part.
@@ -75,4 +76,22 @@ pub(crate) fn put_reduction(out: &mut [u64], reduction: Reduction)
     out[4] = shape.labels as u64;
     out[5] = reduction.hops as u64;
     out[6] = shape.initial as u64;
+}
+
+// An answer, the graph's counts and initial state, and where its name block stands.
+pub(crate) fn put_contents(out: &mut [u64], contents: Contents)
+    requires { ⌜ 9 ≤ length (now out) ⌝ }
+    ensures { λ r. ⌜ now (out .exit) ≡ contentsNumbers contents ++ drop 9 (now (out .entry)) ⌝ }
+{
+    let a = contents.answer;
+    let shape = contents.shape;
+    out[0] = a.number as u64;
+    out[1] = a.table as u64;
+    out[2] = a.place as u64;
+    out[3] = shape.states as u64;
+    out[4] = shape.labels as u64;
+    out[5] = shape.initial as u64;
+    out[6] = contents.hops as u64;
+    out[7] = contents.names_place as u64;
+    out[8] = contents.names_len as u64;
 }

@@ -2,4 +2,5 @@
 pub mod answer; // answer.rt: what an entry tells its caller
 pub mod marking; // marking.rt: check, mark and the round question
 pub mod span; // span.rt: hops of a state
-pub mod reducing; // reducing.rt: reduce
+pub mod reducing; // reducing.rt: reduce and audit
+pub mod files; // files.rt: read and write

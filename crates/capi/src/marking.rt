@@ -83,6 +83,6 @@ pub extern "C" fn zf_round(
     if answer.len() < 4 {
         return short_number(a, answer.len(), 4);
     }
-    put_figure(answer, a, question.survives);
+    put_figure(answer, a, question.survives as u64);
     a.number
 }

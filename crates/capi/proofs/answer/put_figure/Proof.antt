@@ -1,4 +1,4 @@
--- `capi::answer::put_figure` meets its contract: the stores are the answer's numbers. Assumes nothing.
+-- `capi::answer::put_figure` meets its contract: the stores are the answer's numbers and the figure. Assumes nothing.
 use borrow.Author.Needs.{needs}
 use native.Mathlib.Omega.{arith}
 use lib.ListN.{length-set}

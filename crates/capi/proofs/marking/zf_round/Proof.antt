@@ -23,6 +23,9 @@ returns c =
     let e = rw (c .before .before .before .before .shape-of .ensures) at (c .before .before .before .round-question .ensures) in
     (returned-of 4 _ (ap (λ (q : RoundAnswer). q .answer) e) (c .short-number .ensures), short-told 4 _ _ (c .before .if1 .taken))
 
+cast-put-figure : tie.Need-cast-put-figure
+cast-put-figure c = search needs
+
 put-figure-requires : tie.Need-put-figure-requires
 put-figure-requires c κs = search needs
 
@@ -32,8 +35,8 @@ same-length c = search needs
 returns-2 : tie.Need-returns-2
 unfolding questionOf
 returns-2 c =
-    let e = rw (c .before .before .before .before .before .before .before .shape-of .ensures) at (c .before .before .before .before .before .before .round-question .ensures) in
-    let l = c .before .before .before .before .if1 .left in
+    let e = rw (c .before .before .before .before .before .before .before .before .shape-of .ensures) at (c .before .before .before .before .before .before .before .round-question .ensures) in
+    let l = c .before .before .before .before .before .if1 .left in
     (returned-of 4 _ (ap (λ (q : RoundAnswer). q .answer) e) (long-returns _ 4 _ l), told-of 4 _ (ap roundNumbers e) (c .before .before .put-figure .ensures ∙ long-told 4 _ _ l))
 
 pub zf-round-spec : {M : Type 1} → statement M
@@ -44,6 +47,7 @@ zf-round-spec =
     round-question-requires
     short-number-requires
     returns
+    cast-put-figure
     put-figure-requires
     same-length
     returns-2)
