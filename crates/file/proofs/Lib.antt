@@ -9,3 +9,4 @@ pub mod Sound
 pub mod Again
 pub mod Back
 pub mod Both
+pub mod Longest
