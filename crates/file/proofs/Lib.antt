@@ -10,3 +10,5 @@ pub mod Again
 pub mod Back
 pub mod Both
 pub mod Longest
+pub mod Cut
+pub mod Example
