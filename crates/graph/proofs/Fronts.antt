@@ -7,7 +7,7 @@ use mathlib.Core.Logic.{⊎-elim}
 use native.Mathlib.Nat.{eq-or-lt-of-le, le-of-suc-le-suc, not-suc-le-zero}
 use native.Mathlib.Numerals.{add-one}
 use native.Mathlib.Omega.{arith}
-use lib.ListN.{length, getD, set, drop, length-append, length-set, List·getD-append}
+use lib.ListN.{length, getD, set, drop, length-append, length-drop, length-set, List·getD-append}
 use lib.Seq.{drop-cons, drop-drop, drop-append-add, getD-at, ext-getD}
 use Rattle.graph.specs.Hops.{count, from, label, to, hopAt, noHop, flat, put, front, over}
 use Rattle.graph.specs.declared.Hop.{Hop}
@@ -100,6 +100,10 @@ module _ (hs : List ℕ) where
   put-over h xs {i} l =
       ap (λ (m : List ℕ). put m i h) (over-is xs) ∙ put-flat _ h xs l ∙
       ap (λ (k : ℕ). flat (set xs i h) ++ drop (3 * k) hs) (sym (length-set xs i h)) ∙ sym (over-is (set xs i h))
+
+  pub length-over : (xs : List Hop) → length xs ≤ count hs → length (over xs hs) ≡ length hs
+  unfolding over
+  length-over xs l = simp (length-append, length-drop, length-flat) (omega arith)
 
   pub front-over : (xs : List Hop) → front (length xs) (over xs hs) ≡ xs
   front-over xs =
