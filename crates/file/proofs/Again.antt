@@ -17,11 +17,11 @@ use Rattle.graph.specs.Hops.{count}
 use Rattle.graph.proofs.Bools.{decided}
 use Rattle.names.specs.Block.{nameAt}
 use Rattle.names.proofs.Blocks.{name-first, name-later}
-use Rattle.file.specs.Format.{numberAt, bitMap, hasInitial, hasHops, hasNames, statesIn, labelsIn, initialIn, hopsPlace, hopsIn, namesPlace, namesIn, restOf, need, shapeIn, hopListIn, blockIn}
+use Rattle.fields.specs.Format.{numberAt, bitMap, hasInitial, hasHops, hasNames, statesIn, labelsIn, initialIn, hopsPlace, hopsIn, namesPlace, namesIn, restOf, need, shapeIn, hopListIn, blockIn}
 use Rattle.file.specs.Read.{readAnswer}
 use Rattle.file.specs.Encode.{number, numbers, bitsOf, initialBytes, hopBytes, headBytes, encode}
 use Rattle.file.proofs.Encoded.{numbers-append, initial-none, initial-some, hops-none, hops-some}
-use Rattle.file.proofs.Fields.{names-place-least, hops-before-names, initial-on, initial-off, hops-on, hops-off, names-on, names-off}
+use Rattle.fields.proofs.Laws.{names-place-least, hops-before-names, initial-on, initial-off, hops-on, hops-off, names-on, names-off}
 use Rattle.file.proofs.Entry.{count-hop-list}
 use Rattle.file.proofs.Sound.{Sound, accepted-sound, initial-there, hops-there, names-there}
 

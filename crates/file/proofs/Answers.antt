@@ -12,9 +12,9 @@ use lib.Seq.{take-all}
 use Rattle.graph.specs.Check.{accepted, refused}
 use Rattle.names.specs.Block.{nameAt, firstBad, Searchable}
 use Rattle.names.proofs.Blocks.{name-less, name-least}
-use Rattle.file.specs.Format.{bitMap, namesPlace, namesIn, restOf, need}
-use Rattle.file.specs.Read.{most-bytes, idleBit, namesAnswer, RestAt, formatAnswer}
-use Rattle.file.proofs.Fields.{names-place-least}
+use Rattle.fields.specs.Format.{bitMap, namesPlace, namesIn, restOf, need, idleBit}
+use Rattle.file.specs.Read.{most-bytes, namesAnswer, RestAt, formatAnswer}
+use Rattle.fields.proofs.Laws.{names-place-least}
 
 module _ (b : List ℕ) where
   pub over-length : most-bytes < length b → refused 13 most-bytes ≡ formatAnswer b

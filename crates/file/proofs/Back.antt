@@ -20,13 +20,13 @@ use Rattle.graph.proofs.Tests.{getD-listed}
 use Rattle.graph.proofs.Checked.{check-admitted, admitted-check}
 use Rattle.names.specs.Block.{nameAt, firstBad}
 use Rattle.names.proofs.Blocks.{name-first, name-short}
-use Rattle.file.specs.Format.{numberAt, bitMap, hasInitial, hasHops, hasNames, statesIn, labelsIn, initialIn, hopsPlace, hopsIn, namesPlace, namesIn, restOf, need, shapeIn, hopListIn, blockPlace, blockLength, blockIn}
-use Rattle.file.specs.Read.{most-bytes, idleBit, formatAnswer, readAnswer, contentsOf}
+use Rattle.fields.specs.Format.{numberAt, bitMap, hasInitial, hasHops, hasNames, statesIn, labelsIn, initialIn, hopsPlace, hopsIn, namesPlace, namesIn, restOf, need, shapeIn, hopListIn, blockPlace, blockLength, blockIn, idleBit}
+use Rattle.file.specs.Read.{most-bytes, formatAnswer, readAnswer, contentsOf}
 use Rattle.file.specs.Encode.{number, numbers, bitsOf, initialBytes, hopBytes, headBytes, encode}
 use Rattle.file.specs.Write.{blockAnswer, namesGiven, graphAnswer}
 use Rattle.file.specs.RoundTrip.{blockStart, sameGraph}
 use Rattle.file.proofs.Encoded.{initial-none, initial-some, initial-most, hops-none, hops-some, length-hops-some, hop-bytes-most, length-head, length-encode}
-use Rattle.file.proofs.Fields.{initial-on, initial-off, hops-on, hops-off, names-on, names-off}
+use Rattle.fields.proofs.Laws.{initial-on, initial-off, hops-on, hops-off, names-on, names-off}
 use Rattle.file.proofs.Answers.{names-good}
 use Rattle.file.proofs.Entry.{length-hop-list, none-speaks}
 use Rattle.file.proofs.Given.{both-accept}

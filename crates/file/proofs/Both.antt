@@ -16,14 +16,14 @@ use Rattle.graph.specs.declared.Answer.{Answer}
 use Rattle.graph.proofs.Bools.{decided}
 use Rattle.graph.proofs.Checked.{check-admitted, admitted-check}
 use Rattle.names.proofs.Blocks.{name-later}
-use Rattle.file.specs.Format.{hasNames, labelsIn, hopsIn, namesPlace, namesIn, restOf, need, shapeIn, hopListIn, blockPlace, blockLength, blockIn}
+use Rattle.fields.specs.Format.{hasNames, labelsIn, hopsIn, namesPlace, namesIn, restOf, need, shapeIn, hopListIn, blockPlace, blockLength, blockIn}
 use Rattle.file.specs.Read.{formatAnswer, readAnswer, nothing, contentsOf, readOf, readHops}
 use Rattle.file.specs.Encode.{encode}
 use Rattle.file.specs.Write.{blockAnswer, namesGiven, graphAnswer, writeAnswer, nothingWritten, writeOf, writeBytes}
 use Rattle.file.specs.RoundTrip.{most-numbers, copyAnswer, copyOf, copyBytes, backAnswer, backOf, backBytes, backHops}
 use Rattle.file.specs.declared.Contents.{Contents}
 use Rattle.file.specs.declared.Written.{Written}
-use Rattle.file.proofs.Fields.{names-on, names-off}
+use Rattle.fields.proofs.Laws.{names-on, names-off}
 use Rattle.file.proofs.Entry.{count-hop-list, length-hop-list}
 use Rattle.file.proofs.Given.{both-accept, block-good}
 use Rattle.file.proofs.Sound.{Sound, accepted-sound}

@@ -12,11 +12,11 @@ use Rattle.graph.specs.Check.{refused}
 use Rattle.graph.proofs.Bools.{decided, lt-or-le}
 use Rattle.names.specs.Block.{nameAt}
 use Rattle.names.proofs.Blocks.{name-later}
-use Rattle.file.specs.Format.{numberAt, bitMap, hasInitial, hasHops, hasNames, hopsPlace, hopsIn, namesPlace, namesIn, restOf, need}
+use Rattle.fields.specs.Format.{numberAt, bitMap, hasInitial, hasHops, hasNames, hopsPlace, hopsIn, namesPlace, namesIn, restOf, need}
 use Rattle.file.specs.Read.{readAnswer}
 use Rattle.file.proofs.Answers.{ends-early}
 use Rattle.file.proofs.Entry.{format-speaks}
-use Rattle.file.proofs.Fields.{names-place-least, hops-on, hops-off}
+use Rattle.fields.proofs.Laws.{names-place-least, hops-on, hops-off}
 use Rattle.file.proofs.Sound.{Sound, accepted-sound}
 
 module _ (b : List ℕ) (k : ℕ) (shorter : k < length b) where

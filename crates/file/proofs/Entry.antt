@@ -16,7 +16,7 @@ use Rattle.graph.specs.declared.Answer.{Answer}
 use Rattle.graph.proofs.Bools.{and-no-left, and-no-right, not-no}
 use Rattle.graph.proofs.Tests.{length-listed}
 use Rattle.graph.proofs.Checked.{check-counts}
-use Rattle.file.specs.Format.{numberAt, hopsPlace, hopsIn, shapeIn, hopListIn}
+use Rattle.fields.specs.Format.{numberAt, hopsPlace, hopsIn, shapeIn, hopListIn}
 use Rattle.file.specs.Read.{formatAnswer, readAnswer, readOf, readHops, nothing, contentsOf, onFront}
 
 -- a graph with too many hops is refused whatever they are

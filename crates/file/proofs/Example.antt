@@ -8,8 +8,8 @@ use Rattle.graph.specs.Order.{before}
 use Rattle.graph.specs.Check.{accepted, refused, countsFit, inside, firstOutside, rises, firstFalling, checkOf}
 use Rattle.graph.specs.declared.Shape.{Shape}
 use Rattle.names.specs.Block.{nameAt, sameByte, sameName, repeated, lengthFits, bad, firstBad}
-use Rattle.file.specs.Format.{hasInitial, hasHops, hasNames, initialIn, hopsPlace, hopsIn, namesPlace, namesIn, restOf, need, shapeIn, hopListIn}
-use Rattle.file.specs.Read.{idleBit, namesAnswer, formatAnswer, readAnswer}
+use Rattle.fields.specs.Format.{hasInitial, hasHops, hasNames, initialIn, hopsPlace, hopsIn, namesPlace, namesIn, restOf, need, shapeIn, hopListIn, idleBit}
+use Rattle.file.specs.Read.{namesAnswer, formatAnswer, readAnswer}
 use Rattle.file.specs.Encode.{numbers, bitsOf, initialBytes, hopBytes, headBytes, encode}
 
 abbrev shape : Shape

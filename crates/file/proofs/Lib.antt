@@ -1,5 +1,3 @@
-pub mod Choice
-pub mod Fields
 pub mod Answers
 pub mod Front
 pub mod Entry

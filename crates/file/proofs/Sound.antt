@@ -12,8 +12,8 @@ use Rattle.graph.specs.Check.{accepted, andThen, roomFor, checkOf}
 use Rattle.graph.specs.declared.Answer.{Answer}
 use Rattle.graph.proofs.Bools.{clash}
 use Rattle.names.specs.Block.{firstBad}
-use Rattle.file.specs.Format.{bitMap, hasInitial, hasHops, hasNames, labelsIn, initialIn, hopsIn, namesIn, restOf, need, shapeIn, hopListIn}
-use Rattle.file.specs.Read.{most-bytes, idleBit, namesAnswer, formatAnswer, readAnswer}
+use Rattle.fields.specs.Format.{bitMap, hasInitial, hasHops, hasNames, labelsIn, initialIn, hopsIn, namesIn, restOf, need, shapeIn, hopListIn, idleBit}
+use Rattle.file.specs.Read.{most-bytes, namesAnswer, formatAnswer, readAnswer}
 use Rattle.file.proofs.Given.{both-accept}
 
 -- a check that can only refuse did not speak

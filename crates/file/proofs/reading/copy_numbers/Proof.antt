@@ -4,7 +4,7 @@ use mathlib.Core.Path.{_≡_, refl}
 use native.Mathlib.Omega.{arith}
 use lib.ListN.{length, length-set}
 use Rattle.graph.specs.Tests.{listed}
-use Rattle.file.specs.Format.{numberAt}
+use Rattle.fields.specs.Format.{numberAt}
 use Rattle.file.specs.Read.{onFront}
 use Rattle.file.proofs.Front.{listed-none, listed-more, listed-done}
 use borrow.Author.Needs.{needs}

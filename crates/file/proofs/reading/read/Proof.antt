@@ -1,7 +1,7 @@
 -- `file::reading::read` meets its contract: each way out is a case of the definition, and only the last one writes. Assumes nothing.
 use mathlib.Core.Path.{_∙_}
 use native.Mathlib.Omega.{arith}
-use Rattle.file.proofs.Fields.{hops-place-most}
+use Rattle.fields.proofs.Laws.{hops-place-most}
 use Rattle.file.proofs.Entry.{format-speaks, graph-speaks, room-speaks, none-speaks, six-refuses, refused-gives, accepted-gives, front-copied}
 use borrow.Author.Needs.{needs}
 use Rattle.file.proofs.reading.read.Statement.{statement}
