@@ -1,0 +1,4 @@
+pub mod Format
+pub mod Encode
+pub mod Read
+pub mod Write
