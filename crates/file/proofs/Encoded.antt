@@ -113,7 +113,7 @@ head-put sh bits old l p q r =
       first = set-split old 0 bits (omega arith)
 
 module _ (sh : Shape) (hs ns : List ℕ) where
-  length-head : length (headBytes sh (bitsOf sh hs ns)) ≡ 5
+  pub length-head : length (headBytes sh (bitsOf sh hs ns)) ≡ 5
   unfolding headBytes
   length-head = refl
 

@@ -26,6 +26,9 @@ unfit sh hs l =
     and-no-left (whole hs)
     (and-no-right (leb 1 (sh .states) && leb (sh .states) most-states && leb 1 (sh .labels) && leb (sh .labels) most-labels) (lt-leb _ _ l))
 
+pub six-refuses : {a : Answer} → a ≡ refused 6 0 → a .number ≡ 0 → ⊥
+six-refuses {a} e z = let d : a .number ≡ 6 = ap (λ (x : Answer). x .number) e in omega arith
+
 module _ (b : List ℕ) where
   pub length-hop-list : length (hopListIn b) ≡ 3 * hopsIn b
   unfolding hopListIn
@@ -68,9 +71,6 @@ module _ (b : List ℕ) where
         pub none-speaks : 3 * n ≤ room → accepted ≡ readAnswer b room
         unfolding readAnswer
         none-speaks l = rw (← f, eq-eqb _ _ z, ← e, eq-eqb _ _ y, ← d, le-leb _ _ l)
-
-  pub six-refuses : {a : Answer} → a ≡ refused 6 0 → a .number ≡ 0 → ⊥
-  six-refuses {a} e z = let d : a .number ≡ 6 = ap (λ (x : Answer). x .number) e in omega arith
 
   -- what a refusal and an acceptance give and write
   module _ (old : List ℕ) where

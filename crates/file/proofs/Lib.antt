@@ -5,3 +5,6 @@ pub mod Front
 pub mod Entry
 pub mod Encoded
 pub mod Given
+pub mod Sound
+pub mod Again
+pub mod Back

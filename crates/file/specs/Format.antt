@@ -3,7 +3,7 @@
 use Prim.Native.Nat.{ℕ, _+_, _-_, _*_, _/_, _%_}
 use mathlib.Core.Bool.{Bool, cond, _&&_, _||_}
 use mathlib.Core.List.{List, []}
-use lib.ListN.{length, getD, drop}
+use lib.ListN.{length, getD, take, drop}
 use lib.Dec.{eqb, leb, ltb}
 use Rattle.graph.specs.Tests.{listed}
 use Rattle.graph.specs.declared.Shape.{Shape}
@@ -70,3 +70,7 @@ blockPlace b = cond (hasNames b) (namesPlace b) 0
 
 unfoldable pub blockLength : List ℕ → ℕ
 blockLength b = cond (hasNames b) (length b - namesPlace b) 0
+
+-- the block itself
+unfoldable pub blockIn : List ℕ → List ℕ
+blockIn b = take (blockLength b) (drop (blockPlace b) b)

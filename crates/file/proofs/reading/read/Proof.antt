@@ -43,7 +43,7 @@ refusal-requires-3 : tie.Need-refusal-requires-3
 refusal-requires-3 c κs = search needs
 
 returns-3 : tie.Need-returns-3
-returns-3 c = let g = refused-gives _ _ (c .before .refuse .ensures ∙ room-speaks _ _ (c .before .before .before .before .before .before .before .before .before .format-answer .ensures) (c .before .before .before .before .before .before .before .if1 .left) (c .before .before .before .before .before .before .graph-answer .ensures) (c .before .before .before .before .if2 .left) (c .before .before .before .hops-in .ensures) (c .before .before .if3 .taken)) (six-refuses _ (c .before .refuse .ensures)) in
+returns-3 c = let g = refused-gives _ _ (c .before .refuse .ensures ∙ room-speaks _ _ (c .before .before .before .before .before .before .before .before .before .format-answer .ensures) (c .before .before .before .before .before .before .before .if1 .left) (c .before .before .before .before .before .before .graph-answer .ensures) (c .before .before .before .before .if2 .left) (c .before .before .before .hops-in .ensures) (c .before .before .if3 .taken)) (six-refuses (c .before .refuse .ensures)) in
     (c .refusal3 .ensures ∙ g .0, g .1)
 
 hops-place-requires : tie.Need-hops-place-requires

@@ -28,7 +28,7 @@ returns : tie.Need-returns
 returns c = hops-put (c .before .before .before .before .before .before .before .before .before .before .before .before .args .at) (c .before .before .before .before .before .before .before .before .before .before .before .before .args .out .now) (c .before .before .before .before .before .before .before .before .before .before .before .before .args .hops .now) (c .before .before .before .before .before .before .before .before .before .hop-count .ensures) (c .before .before .before .before .before .before .before .before .if1 .taken) (c .before .before .before .before .before .before .put-number .ensures) (c .before .before .put-numbers .ensures) (omega (arith, length-hops-some (c .before .before .before .before .before .before .before .before .before .before .before .before .args .hops .now) (λ z. c .before .before .before .before .before .before .before .before .if1 .taken (c .before .before .before .before .before .before .before .before .before .hop-count .ensures ∙ z)), c .before .before .before .before .before .before .before .before .before .before .before .before .pre))
 
 returns-2 : tie.Need-returns-2
-returns-2 c = hops-put-none _ _ _ (c .before .hop-count .ensures) (c .if1 .left)
+returns-2 c = hops-put-none (c .before .before .before .before .args .at) (c .before .before .before .before .args .out .now) (c .before .before .before .before .args .hops .now) (c .before .hop-count .ensures) (c .if1 .left)
 
 pub put-hops-spec : {M : Type 1} → statement M
 put-hops-spec =

@@ -17,10 +17,10 @@ same-length : tie.Need-same-length
 same-length c = search needs
 
 returns : tie.Need-returns
-returns c = initial-put _ _ _ (c .before .before .before .before .before .if1 .taken) (c .before .before .put-number .ensures)
+returns c = initial-put (c .before .before .before .before .before .before .before .before .args .at) (c .before .before .before .before .before .before .before .before .args .out .now) (c .before .before .before .before .before .before .before .before .args .shape) (c .before .before .before .before .before .if1 .taken) (c .before .before .put-number .ensures)
 
 returns-2 : tie.Need-returns-2
-returns-2 c = initial-put-none _ _ _ (c .if1 .left)
+returns-2 c = initial-put-none (c .before .before .before .args .at) (c .before .before .before .args .out .now) (c .before .before .before .args .shape) (c .if1 .left)
 
 pub put-initial-spec : {M : Type 1} → statement M
 put-initial-spec =

@@ -17,7 +17,7 @@ abbrev μ-loop : tie.MeasureT-loop
 μ-loop out₀ at hops i₀ out i = length hops - i
 
 loop-holds : tie.Need-loop-holds Inv-loop μ-loop
-loop-holds c = (numbers-none _ _ _, refl, omega arith, c .before .before .pre)
+loop-holds c = (numbers-none (c .before .before .args .at) (c .before .before .args .out .now) (c .before .before .args .hops .now), refl, omega arith, c .before .before .pre)
 
 mul-put-number : tie.Need-mul-put-number Inv-loop μ-loop
 mul-put-number c = search needs

@@ -28,7 +28,7 @@ unwritten-requires-2 : tie.Need-unwritten-requires-2
 unwritten-requires-2 c κs = search needs
 
 returns-2 : tie.Need-returns-2
-returns-2 c = let g = refused-writes _ _ _ _ (c .before .refuse .ensures ∙ room-speaks _ _ _ _ (c .before .before .before .before .before .before .graph-answer .ensures) (c .before .before .before .before .if1 .left) (c .before .before .before .encoded-length .ensures) (c .before .before .if2 .taken)) (six-refuses _ (c .before .refuse .ensures)) in
+returns-2 c = let g = refused-writes _ _ _ _ (c .before .refuse .ensures ∙ room-speaks _ _ _ _ (c .before .before .before .before .before .before .graph-answer .ensures) (c .before .before .before .before .if1 .left) (c .before .before .before .encoded-length .ensures) (c .before .before .if2 .taken)) (six-refuses (c .before .refuse .ensures)) in
     (c .unwritten2 .ensures ∙ g .0, g .1)
 
 put-file-requires : tie.Need-put-file-requires

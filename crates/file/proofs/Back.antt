@@ -1,0 +1,259 @@
+-- "A graph written and read again is the same graph with the same block": each field of the written file is found where reading looks for it. And "the
+-- longest legal file has 58,344 bytes". Assumes nothing.
+use Prim.Native.Nat.{ℕ, zero, suc, _+_, _-_, _*_, _/_, _%_, _<_, _≤_}
+use mathlib.Core.Path.{_≡_, refl, sym, ap, _∙_}
+use mathlib.Core.Bool.{Bool, true, false, cond, not, _&&_, _||_}
+use mathlib.Core.List.{List, [], _∷_, _++_, append-assoc}
+use mathlib.Core.Logic.{_⊎_, inl, inr, ⊎-elim}
+use native.Mathlib.Nat.{le-refl}
+use native.Mathlib.Numerals.{add-one}
+use native.Mathlib.Omega.{arith}
+use borrow.Author.Tests.{eq-eqb, ne-eqb, eqb-true, eqb-false, ltb-false, lt-leb}
+use lib.ListN.{length, getD, take, drop, length-append, length-drop}
+use lib.Seq.{drop-at, drop-drop, getD-drop, ext-getD, take-length}
+use lib.Dec.{eqb, leb, ltb}
+use Rattle.graph.specs.Tests.{listed}
+use Rattle.graph.specs.Hops.{count}
+use Rattle.graph.specs.Check.{accepted, refused, checkOf, Admitted}
+use Rattle.graph.specs.declared.Shape.{Shape}
+use Rattle.graph.specs.declared.Answer.{Answer}
+use Rattle.graph.proofs.Bools.{eq-or-not, lt-or-le, or-no}
+use Rattle.graph.proofs.Tests.{getD-listed}
+use Rattle.graph.proofs.Checked.{check-admitted, admitted-check}
+use Rattle.names.specs.Block.{nameAt, firstBad}
+use Rattle.names.proofs.Blocks.{name-first, name-later, name-short}
+use Rattle.file.specs.Format.{numberAt, bitMap, hasInitial, hasHops, hasNames, statesIn, labelsIn, initialIn, hopsPlace, hopsIn, namesPlace, namesIn, restOf, need, shapeIn, hopListIn, blockPlace, blockLength, blockIn}
+use Rattle.file.specs.Read.{most-bytes, idleBit, formatAnswer, readAnswer, readOf, contentsOf}
+use Rattle.file.specs.Encode.{number, numbers, bitsOf, initialBytes, hopBytes, headBytes, encode}
+use Rattle.file.specs.Write.{blockAnswer, namesGiven, graphAnswer}
+use Rattle.file.specs.declared.Contents.{Contents}
+use Rattle.file.proofs.Encoded.{length-numbers, initial-none, initial-some, initial-most, hops-none, hops-some, length-hops-some, hop-bytes-most, length-head, length-encode}
+use Rattle.file.proofs.Fields.{initial-on, initial-off, hops-on, hops-off, names-on, names-off}
+use Rattle.file.proofs.Answers.{names-good}
+use Rattle.file.proofs.Entry.{length-hop-list, count-hop-list, none-speaks}
+use Rattle.file.proofs.Given.{both-accept}
+use Rattle.file.proofs.Sound.{past}
+
+-- a bit is set over each field that is there, and no higher bit
+three-bits : (t u v : Bool) →
+    (eqb ((cond t 0 1 + cond u 0 2 + cond v 0 4) % 2) 1 ≡ not t) × (eqb ((cond t 0 1 + cond u 0 2 + cond v 0 4) / 2 % 2) 1 ≡ not u) ×
+    (eqb ((cond t 0 1 + cond u 0 2 + cond v 0 4) / 4 % 2) 1 ≡ not v) × (cond t 0 1 + cond u 0 2 + cond v 0 4 < 8)
+three-bits true true true = (refl, refl, refl, omega arith)
+three-bits true true false = (refl, refl, refl, omega arith)
+three-bits true false true = (refl, refl, refl, omega arith)
+three-bits true false false = (refl, refl, refl, omega arith)
+three-bits false true true = (refl, refl, refl, omega arith)
+three-bits false true false = (refl, refl, refl, omega arith)
+three-bits false false true = (refl, refl, refl, omega arith)
+three-bits false false false = (refl, refl, refl, omega arith)
+
+-- a number read from the middle of a file
+number-drop : (b : List ℕ) (n i : ℕ) → numberAt b (n + i) ≡ numberAt (drop n b) i
+number-drop b n i = rw (getD-drop n b i, getD-drop n b (i + 1), assoc) where
+  assoc : n + (i + 1) ≡ n + i + 1
+  assoc = omega arith
+
+-- the numbers of a written list
+number-in : (hs rest : List ℕ) (i : ℕ) → i < length hs → numberAt (numbers hs ++ rest) (2 * i) ≡ getD hs i 0
+unfolding numbers
+number-in [] rest i l = absurd (omega arith)
+number-in (h ∷ hs) rest zero l = omega arith
+number-in (h ∷ hs) rest (suc i) l = rw (twice, add-one) (rw add-one at (number-in hs rest i (omega arith))) where
+  twice : 2 * suc i ≡ suc (suc (2 * i))
+  twice = omega arith
+
+-- a block of n names that row 14 does not refuse
+pub record Legal (ns : List ℕ) (n : ℕ) : Type 0 where
+  pub whole : nameAt ns n ≡ length ns
+  pub clean : n ≤ firstBad ns n
+
+block-legal : (ns : List ℕ) (n : ℕ) → blockAnswer ns n .number ≡ 0 → Legal ns n
+unfolding blockAnswer
+block-legal ns n e =
+    let (p, e1) = past (ltb (length ns) (nameAt ns n)) _ _ (λ z. absurd (omega arith)) e in
+    let (q, e2) = past (ltb (nameAt ns n) (length ns)) _ _ (λ z. absurd (omega arith)) e1 in
+    let (r, e3) = past (ltb (firstBad ns n) n) _ _ (λ z. absurd (omega arith)) e2 in
+    record { whole = omega (arith, ltb-false (length ns) (nameAt ns n) p, ltb-false (nameAt ns n) (length ns) q); clean = ltb-false _ _ r }
+
+-- how many names a file of the graph has: none where the block is empty
+abbrev named : Shape → List ℕ → ℕ
+named sh ns = cond (eqb (length ns) 0) 0 (sh .labels - 1)
+
+pub given-legal : (sh : Shape) (ns : List ℕ) → namesGiven sh ns .number ≡ 0 → Legal ns (named sh ns)
+unfolding namesGiven
+given-legal sh ns e = ⊎-elim none some (eq-or-not (length ns) 0) where
+  none : length ns ≡ 0 → Legal ns (named sh ns)
+  none z = rw (eq-eqb _ _ z) (record { whole = sym (name-first ns) ∙ sym z; clean = omega arith })
+
+  some : (length ns ≡ 0 → ⊥) → Legal ns (named sh ns)
+  some n = rw (ne-eqb _ _ n) (block-legal ns (sh .labels - 1) (rw (ne-eqb _ _ n) at e))
+
+zero-right : (n : ℕ) → n + 0 ≡ n
+zero-right n = omega arith
+
+no-elements : (l : List ℕ) → length l ≡ 0 → l ≡ []
+no-elements [] e = refl
+no-elements (x ∷ l) e = absurd (omega arith)
+
+head-long : (sh : Shape) (hs ns : List ℕ) → length (headBytes sh (bitsOf sh hs ns) ++ initialBytes sh) ≡ 5 + length (initialBytes sh)
+head-long sh hs ns = rw (length-append (headBytes sh (bitsOf sh hs ns)), length-head sh hs ns)
+
+-- what writing accepts
+written-means : (sh : Shape) (hs ns : List ℕ) → graphAnswer sh hs ns .number ≡ 0 → Admitted sh hs × Legal ns (named sh ns)
+unfolding graphAnswer
+written-means sh hs ns e =
+    let (p, q) = both-accept (checkOf sh hs) (namesGiven sh ns) e in (check-admitted sh hs p, given-legal sh ns q)
+
+-- the initial state of a written file
+initial-number : (sh : Shape) (hs ns : List ℕ) → (sh .initial ≡ 0 → ⊥) → numberAt (encode sh hs ns) 5 ≡ sh .initial
+unfolding encode headBytes
+initial-number sh hs ns n = rw (initial-some sh n) (omega arith)
+
+module _ (sh : Shape) (hs ns : List ℕ) (three : length hs % 3 ≡ 0) where
+  abbrev file : List ℕ
+  file = encode sh hs ns
+
+  bits-back : (hasInitial file ≡ not (eqb (sh .initial) 0)) × (hasHops file ≡ not (eqb (count hs) 0)) × (hasNames file ≡ not (eqb (length ns) 0)) × (bitMap file < 8)
+  unfolding encode headBytes bitsOf hasInitial hasHops hasNames
+  bits-back = three-bits (eqb (sh .initial) 0) (eqb (count hs) 0) (eqb (length ns) 0)
+
+  states-back : statesIn file ≡ sh .states
+  unfolding encode headBytes
+  states-back = omega arith
+
+  labels-back : labelsIn file ≡ sh .labels
+  unfolding encode headBytes
+  labels-back = omega arith
+
+  initial-back : (initialIn file ≡ sh .initial) × (hopsPlace file ≡ 5 + length (initialBytes sh))
+  initial-back = ⊎-elim none some (eq-or-not (sh .initial) 0) where
+    none : sh .initial ≡ 0 → (initialIn file ≡ sh .initial) × (hopsPlace file ≡ 5 + length (initialBytes sh))
+    none z = let (v, p) = initial-off file (bits-back .0 ∙ rw (eq-eqb _ _ z)) in (v ∙ sym z, rw (initial-none sh z) p)
+
+    some : (sh .initial ≡ 0 → ⊥) → (initialIn file ≡ sh .initial) × (hopsPlace file ≡ 5 + length (initialBytes sh))
+    some n = let (v, p) = initial-on file (bits-back .0 ∙ rw (ne-eqb _ _ n)) in (v ∙ initial-number sh hs ns n, rw (initial-some sh n) p)
+
+  -- what stands behind the initial state, and behind the hops
+  from-hops : drop (hopsPlace file) file ≡ hopBytes hs ++ ns
+  unfolding encode
+  from-hops =
+      rw (initial-back .1, ← append-assoc (headBytes sh (bitsOf sh hs ns)) (initialBytes sh) (hopBytes hs ++ ns))
+      (drop-at (headBytes sh (bitsOf sh hs ns) ++ initialBytes sh) (hopBytes hs ++ ns) (5 + length (initialBytes sh)) (head-long sh hs ns))
+
+  hops-back : (hopsIn file ≡ count hs) × (namesPlace file ≡ 5 + (length (initialBytes sh) + length (hopBytes hs)))
+  hops-back = ⊎-elim none some (eq-or-not (count hs) 0) where
+    none : count hs ≡ 0 → (hopsIn file ≡ count hs) × (namesPlace file ≡ 5 + (length (initialBytes sh) + length (hopBytes hs)))
+    none z = let (v, p) = hops-off file (bits-back .1 ∙ rw (eq-eqb _ _ z)) in (v ∙ sym z, omega (arith, p, initial-back .1, ap length (hops-none hs z)))
+
+    counted : (count hs ≡ 0 → ⊥) → numberAt file (hopsPlace file) ≡ count hs
+    counted n = ap (numberAt file) (sym (zero-right (hopsPlace file))) ∙ number-drop file (hopsPlace file) 0 ∙ rw (from-hops, hops-some hs n) (omega arith)
+
+    some : (count hs ≡ 0 → ⊥) → (hopsIn file ≡ count hs) × (namesPlace file ≡ 5 + (length (initialBytes sh) + length (hopBytes hs)))
+    some n =
+        let (v, p) = hops-on file (bits-back .1 ∙ rw (ne-eqb _ _ n)) in
+        (v ∙ counted n, omega (arith, p, v, counted n, initial-back .1, length-hops-some hs n, three))
+
+  rest-back : restOf file ≡ ns
+  unfolding encode restOf
+  rest-back =
+      rw (hops-back .1, ← append-assoc (initialBytes sh) (hopBytes hs) ns, ← append-assoc (headBytes sh (bitsOf sh hs ns)) (initialBytes sh ++ hopBytes hs) ns)
+      (drop-at (headBytes sh (bitsOf sh hs ns) ++ (initialBytes sh ++ hopBytes hs)) ns (5 + (length (initialBytes sh) + length (hopBytes hs)))
+      (rw (length-append (headBytes sh (bitsOf sh hs ns)), length-append (initialBytes sh)) (ap (λ (n : ℕ). n + (length (initialBytes sh) + length (hopBytes hs))) (length-head sh hs ns))))
+
+  -- the hops themselves
+  from-list : (count hs ≡ 0 → ⊥) → drop (hopsPlace file + 2) file ≡ numbers hs ++ ns
+  from-list n = sym (drop-drop 2 (hopsPlace file) file) ∙ rw (from-hops, hops-some hs n)
+
+  list-back : hopListIn file ≡ hs
+  unfolding hopListIn
+  list-back = ext-getD 0 (hopListIn file) hs same-length at where
+    same-length : length (hopListIn file) ≡ length hs
+    same-length = omega (arith, length-hop-list file, hops-back .0, three)
+
+    at : (i : ℕ) → i < length (hopListIn file) → getD (hopListIn file) i 0 ≡ getD hs i 0
+    at i l =
+        getD-listed (λ (j : ℕ). numberAt file (hopsPlace file + 2 + 2 * j)) (3 * hopsIn file) (omega (arith, length-hop-list file)) ∙
+        number-drop file (hopsPlace file + 2) (2 * i) ∙
+        rw (from-list (λ z. omega (arith, same-length, three))) (number-in hs ns i (omega (arith, same-length)))
+
+  names-back : (namesIn file ≡ named sh ns) × (blockIn file ≡ ns) × (blockLength file ≡ length ns)
+  unfolding blockIn restOf
+  names-back = ⊎-elim none some (eq-or-not (length ns) 0) where
+    sized : length ns ≡ length file - namesPlace file
+    sized = ap length (sym rest-back) ∙ length-drop (namesPlace file) file
+
+    none : length ns ≡ 0 → (namesIn file ≡ named sh ns) × (blockIn file ≡ ns) × (blockLength file ≡ length ns)
+    none z =
+        let (n, p, l) = names-off file (bits-back .2 ∙ rw (eq-eqb _ _ z)) in
+        (n ∙ rw (eq-eqb _ _ z), rw l (sym (no-elements ns z)), l ∙ sym z)
+
+    some : (length ns ≡ 0 → ⊥) → (namesIn file ≡ named sh ns) × (blockIn file ≡ ns) × (blockLength file ≡ length ns)
+    some y =
+        let (n, p, l) = names-on file (bits-back .2 ∙ rw (ne-eqb _ _ y)) in
+        (n ∙ rw (ne-eqb _ _ y, labels-back), rw (p, l, rest-back, ← sized) (take-length ns), l ∙ sym sized)
+
+  module _ (legal : Legal ns (named sh ns)) where
+    need-back : need file ≡ length file
+    unfolding need
+    need-back =
+        rw (rest-back, names-back .0) (omega (arith, legal .whole, hops-back .1, length-encode sh hs ns))
+
+    -- no bit stands over what absence means
+    names-two : (length ns ≡ 0 → ⊥) → 1 < sh .labels
+    names-two n = ⊎-elim (λ l. absurd (n (sym (legal .whole) ∙ ap (nameAt ns) (none l) ∙ sym (name-first ns)))) (λ l. l) (lt-or-le (sh .labels) 2) where
+      none : sh .labels < 2 → named sh ns ≡ 0
+      none l = rw (ne-eqb _ _ n) (omega arith)
+
+    busy-back : idleBit file ≡ false
+    unfolding idleBit
+    busy-back =
+        rw (bits-back .0, initial-back .0, bits-back .1, hops-back .0, bits-back .2, labels-back)
+        (or-no (never (eqb (sh .initial) 0)) (or-no (never (eqb (count hs) 0)) names-busy)) where
+          never : (t : Bool) → (not t && t) ≡ false
+          never true = refl
+          never false = refl
+
+          names-busy : (not (eqb (length ns) 0) && leb (sh .labels) 1) ≡ false
+          names-busy = ⊎-elim (λ z. rw (eq-eqb (length ns) 0 z)) (λ n. rw (ne-eqb (length ns) 0 n, lt-leb _ _ (names-two n))) (eq-or-not (length ns) 0)
+
+    module _ (a : Admitted sh hs) where
+      named-most : named sh ns ≤ 1023
+      named-most = ⊎-elim (λ z. rw (eq-eqb (length ns) 0 z) (omega arith)) (λ n. rw (ne-eqb (length ns) 0 n) (omega (arith, a .labels-most))) (eq-or-not (length ns) 0)
+
+      short-back : length file ≤ most-bytes
+      short-back =
+          omega (arith, length-encode sh hs ns, initial-most sh, hop-bytes-most hs, a .hops-most, three, legal .whole, name-short ns (named sh ns) (named sh ns) (legal .clean), named-most)
+
+      format-back : formatAnswer file ≡ accepted
+      format-back =
+          sym (names-good file short-back (bits-back .3) (omega (arith, need-back)) (omega (arith, need-back)) refl busy-back (rw (rest-back, names-back .0) (legal .clean)))
+
+      shape-back : shapeIn file ≡ sh
+      unfolding shapeIn
+      shape-back = rw (states-back, labels-back, initial-back .0)
+
+      answer-back : (room : ℕ) → length hs ≤ room → readAnswer file room ≡ accepted
+      answer-back room l =
+          sym (none-speaks file room refl (ap (λ (x : Answer). x .number) format-back) refl (rw (shape-back, list-back) (ap (λ (x : Answer). x .number) (admitted-check sh hs a))) refl (omega (arith, hops-back .0, three)))
+
+-- "The longest legal file has 58,344 bytes"
+pub longest : (sh : Shape) (hs ns : List ℕ) → graphAnswer sh hs ns .number ≡ 0 → length (encode sh hs ns) ≤ most-bytes
+longest sh hs ns e = let (a, l) = written-means sh hs ns e in short-back sh hs ns (a .three-a-hop) l a
+
+-- what is read of a file that was written
+pub record ReadBack (sh : Shape) (hs ns b : List ℕ) (room : ℕ) : Type 0 where
+  pub accepts : readAnswer b room ≡ accepted
+  pub same-graph : contentsOf b ≡ record { answer = accepted; shape = sh; hops = count hs; «names_place» = blockPlace b; «names_len» = length ns }
+  pub same-hops : hopListIn b ≡ hs
+  pub same-block : blockIn b ≡ ns
+
+pub encode-decode : (sh : Shape) (hs ns : List ℕ) (room : ℕ) → graphAnswer sh hs ns .number ≡ 0 → length hs ≤ room → ReadBack sh hs ns (encode sh hs ns) room
+encode-decode sh hs ns room e m =
+    let (a, l) = written-means sh hs ns e in
+    let t = a .three-a-hop in
+    record {
+      accepts = answer-back sh hs ns t l a room m;
+      same-graph = rw (shape-back sh hs ns t l a, hops-back sh hs ns t .0, names-back sh hs ns t .2);
+      same-hops = list-back sh hs ns t;
+      same-block = names-back sh hs ns t .1;
+    }
