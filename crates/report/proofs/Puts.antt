@@ -12,7 +12,7 @@ use lib.ListN.{length, set, length-append}
 use lib.Seq.{set-split}
 use Rattle.file.specs.Read.{over}
 use Rattle.file.proofs.Front.{over-none, over-then, length-over}
-use Rattle.report.specs.Text.{digits, lines, Room, Put}
+use Rattle.report.specs.Text.{digits, decimal, spaced, ending, line, lines, Room, Put}
 
 pub put-none : (old : List ℕ) (at : ℕ) → Put old at [] at old
 put-none old at = record { follows = omega arith; stands = over-none at old }
@@ -59,6 +59,20 @@ pub digits-more : (k n : ℕ) → (k ≡ 0 → ⊥) → 10 ≤ n → digits k n 
 unfolding digits
 digits-more zero n z l = absurd (z refl)
 digits-more (suc k) n z l = let q : suc k - 1 ≡ k = omega arith in rw (le-ltb n 10 l, q)
+
+-- the parts of a line, in the order in which they are put
+pub spaced-parts : (n : ℕ) → spaced n ≡ (32 ∷ []) ++ digits 20 n
+unfolding spaced decimal
+spaced-parts n = refl
+
+module _ (word : List ℕ) (a b : ℕ) where
+  pub line2-parts : line word (a ∷ b ∷ []) ≡ word ++ (spaced a ++ (spaced b ++ (10 ∷ [])))
+  unfolding line ending
+  line2-parts = refl
+
+  pub line3-parts : (c : ℕ) → line word (a ∷ b ∷ c ∷ []) ≡ word ++ (spaced a ++ (spaced b ++ (spaced c ++ (10 ∷ []))))
+  unfolding line ending
+  line3-parts c = refl
 
 -- lines, the first i of n being put
 module _ (f : ℕ → List ℕ) where
