@@ -183,7 +183,10 @@ fn encoded_length(shape: Shape, hops: &[u16], names: &[u8]) -> usize
 fn unwritten(answer: Answer) -> Written
     ensures { λ r. ⌜ r ≡ nothingWritten answer ⌝ }
 {
-    Written { answer, length: 0 }
+    Written {
+        answer,
+        length: 0,
+    }
 }
 
 // The entry. Nothing is written before the last check, 6, has passed.
@@ -201,5 +204,8 @@ pub fn write(shape: Shape, hops: &[u16], names: &[u8], out: &mut [u8]) -> Writte
     }
     put_file(shape, hops, names, out);
     let answer = accept();
-    Written { answer, length }
+    Written {
+        answer,
+        length,
+    }
 }

@@ -1,0 +1,48 @@
+use borrow.Author.Needs.{needs}
+use Rattle.report.proofs.rows.put_mark.Statement.{statement}
+use Rattle.report.proofs.rows.put_mark.Tie as tie
+
+shared-slice-read-if1 : tie.Need-shared-slice-read-if1
+shared-slice-read-if1 c = search needs
+
+from-at-requires : tie.Need-from-at-requires
+from-at-requires c κs = search needs
+
+cast-from : tie.Need-cast-from
+cast-from c = search needs
+
+to-at-requires : tie.Need-to-at-requires
+to-at-requires c κs = search needs
+
+cast-to : tie.Need-cast-to
+cast-to c = search needs
+
+slice-aggregate-put-line2 : tie.Need-slice-aggregate-put-line2
+slice-aggregate-put-line2 c = search needs
+
+put-line2-requires : tie.Need-put-line2-requires
+put-line2-requires c κs = search needs
+
+same-length : tie.Need-same-length
+same-length c = search needs
+
+returns : tie.Need-returns
+returns c = search needs
+
+returns-2 : tie.Need-returns-2
+returns-2 c = search needs
+
+pub put-mark-spec : {M : Type 1} → statement M
+put-mark-spec =
+    tie.close
+    (tie.spec
+    shared-slice-read-if1
+    from-at-requires
+    cast-from
+    to-at-requires
+    cast-to
+    slice-aggregate-put-line2
+    put-line2-requires
+    same-length
+    returns
+    returns-2)
