@@ -1,13 +1,13 @@
 -- Laws of hops written at the front of a flat list: what then stands at a place, that a hop put at a place changes that hop alone, and that what
 -- lies past the front stays. Assumes nothing.
-use Prim.Native.Nat.{ℕ, zero, suc, _+_, _-_, _*_, _/_, _<_, _≤_}
-use mathlib.Core.Path.{_≡_, refl, sym, ap, _∙_, subst}
+use Prim.Native.Nat.{ℕ, zero, suc, _+_, _-_, _*_, _<_, _≤_}
+use mathlib.Core.Path.{_≡_, refl, sym, ap, _∙_}
 use mathlib.Core.List.{List, [], _∷_, _++_, append-assoc, append-nil}
 use mathlib.Core.Logic.{⊎-elim}
 use native.Mathlib.Nat.{eq-or-lt-of-le, le-of-suc-le-suc, not-suc-le-zero}
 use native.Mathlib.Numerals.{add-one}
 use native.Mathlib.Omega.{arith}
-use lib.ListN.{length, getD, set, drop, length-append, length-drop, length-set, List·getD-append}
+use lib.ListN.{length, getD, set, drop, length-append, length-set, List·getD-append}
 use lib.Seq.{drop-cons, drop-drop, drop-append-add, getD-at, ext-getD}
 use Rattle.graph.specs.Hops.{count, from, label, to, hopAt, flat, put, front, over}
 use Rattle.graph.specs.declared.Hop.{Hop}
@@ -108,10 +108,6 @@ module _ (hs : List ℕ) where
   put-over h xs {i} l =
       ap (λ (m : List ℕ). put m i h) (over-is xs) ∙ put-flat _ h xs l ∙
       ap (λ (k : ℕ). flat (set xs i h) ++ drop (3 * k) hs) (sym (length-set xs i h)) ∙ sym (over-is (set xs i h))
-
-  pub length-over : (xs : List Hop) → length xs ≤ count hs → length (over xs hs) ≡ length hs
-  unfolding over
-  length-over xs l = simp (length-append, length-drop, length-flat) (omega arith)
 
   pub front-over : (xs : List Hop) → front (length xs) (over xs hs) ≡ xs
   front-over xs =

@@ -114,9 +114,14 @@ module _ (sh : Shape) (hs : List ℕ) where
   pub short-only : (n a m : ℕ) → has (flat (shortHops sh hs)) n a m ≡ true → ShortHop n a m
   unfolding shortHops
   short-only n a m e =
-      let (i, l, f, q) = gathered-only (count hs) (hop n a m) (has-among n a m (gathered sh hs (count hs)) e) in
-      (from hs i, to hs i, f, subst (λ (x : ℕ). has hs (from hs i) x (to hs i) ≡ true) (ap (λ (h : Hop). h .label) q) (has-at hs l),
-        ap (λ (h : Hop). h .from) q, ap (λ (h : Hop). h .to) q)
+      let (i, l, f, q) = gathered-only (count hs) (hop n a m) (has-among n a m (gathered sh hs (count hs)) e) in (
+        from hs i,
+        to hs i,
+        f,
+        subst (λ (x : ℕ). has hs (from hs i) x (to hs i) ≡ true) (ap (λ (h : Hop). h .label) q) (has-at hs l),
+        ap (λ (h : Hop). h .from) q,
+        ap (λ (h : Hop). h .to) q,
+      )
 
   pub short-iff : (n a m : ℕ) → (has (flat (shortHops sh hs)) n a m ≡ true) ↔ ShortHop n a m
   short-iff n a m = (short-only n a m, short-has n a m)

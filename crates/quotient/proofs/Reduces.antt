@@ -64,10 +64,11 @@ module _
     module _ (adm : Admitted sh hs) where
       hop-in : (n a m : ℕ) → ShortHop sh hs n a m → (n < tally (sh .states) (resting hs)) × (a < sh .labels) × (m < tally (sh .states) (resting hs))
       hop-in n a m (r, t, e, k, f, g) =
-          let p = has-place hs r a t k in
-          (rw (← f) (new-over hs r (sh .states) e (rw (p .from-is) at (adm .range .from-in (p .at) (p .within)))),
+          let p = has-place hs r a t k in (
+            rw (← f) (new-over hs r (sh .states) e (rw (p .from-is) at (adm .range .from-in (p .at) (p .within)))),
             rw (p .label-is) at (adm .range .label-in (p .at) (p .within)),
-            rw (← g) (map-in (adm .range) t (rw (p .to-is) at (adm .range .to-in (p .at) (p .within)))))
+            rw (← g) (map-in (adm .range) t (rw (p .to-is) at (adm .range .to-in (p .at) (p .within)))),
+          )
 
       at-in : (i : ℕ) → i < count (flat (shortHops sh hs)) →
           (from (flat (shortHops sh hs)) i < tally (sh .states) (resting hs)) × (label (flat (shortHops sh hs)) i < sh .labels) ×

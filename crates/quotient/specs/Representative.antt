@@ -1,5 +1,5 @@
 -- Classes and representatives (document 01 "Reducing"; SEN-R0123, section 4). Assumes nothing: these are definitions.
-use Prim.Native.Nat.{ℕ, zero, suc, _<_}
+use Prim.Native.Nat.{ℕ, zero, suc}
 use mathlib.Core.Path.{_≡_}
 use mathlib.Core.Bool.{Bool, true, cond, not, _&&_}
 use mathlib.Core.List.{List}

@@ -1,11 +1,10 @@
 -- The short graph: "for each hop r, a, t of a representative r, the hop new(r), a, map(t), once, in ascending order".
 -- Assumes nothing: these are definitions.
 use Prim.Native.Nat.{ℕ, zero, suc}
-use mathlib.Core.Bool.{Bool, cond}
+use mathlib.Core.Bool.{cond}
 use mathlib.Core.List.{List, [], _∷_}
-use lib.ListN.{length}
 use Rattle.graph.specs.Tests.{tally, listed}
-use Rattle.graph.specs.Hops.{count, from, label, to, flat}
+use Rattle.graph.specs.Hops.{count, from, label, to}
 use Rattle.graph.specs.Order.{before}
 use Rattle.graph.specs.declared.Hop.{Hop}
 use Rattle.graph.specs.declared.Shape.{Shape}

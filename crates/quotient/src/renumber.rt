@@ -1,8 +1,8 @@
 // New numbers: "Representatives are renumbered 0, 1, 2 in ascending old order", and the map.
-use graph::NewState;
-use graph::OldState;
 use super::follow::follow;
 use super::follow::is_at_rest;
+use graph::NewState;
+use graph::OldState;
 ghost use mathlib.Core.Path.{_≡_};
 ghost use mathlib.Core.List.{_++_};
 ghost use Prim.Native.Nat.{ℕ, _<_, _≤_};

@@ -7,8 +7,7 @@ use mathlib.Core.List.{List}
 use mathlib.Core.Logic.{_⊎_, inl, inr, ⊎-elim}
 use native.Mathlib.Omega.{arith}
 use borrow.Author.Tests.{ltb-true, ltb-false, lt-ltb, le-ltb}
-use lib.ListN.{length, getD, set}
-use lib.Seq.{getD-set-same, getD-set-other}
+use lib.ListN.{getD}
 use Rattle.graph.specs.Hops.{count, from, label, to, hopAt}
 use Rattle.graph.specs.Order.{before, Ascending}
 use Rattle.graph.specs.Search.{Bracket, firstOf, pastOf}
@@ -17,7 +16,7 @@ use Rattle.graph.specs.declared.Hop.{Hop}
 use Rattle.graph.specs.declared.Shape.{Shape}
 use Rattle.graph.proofs.Bools.{clash, lt-or-le, eq-or-not, no-test}
 use Rattle.graph.proofs.Ordered.{Below, before-below, below-before}
-use Rattle.graph.proofs.Lookup.{lower-law, lower-within, first-law, first-within, past-within}
+use Rattle.graph.proofs.Lookup.{lower-law, lower-within, first-law, first-within, first-past, past-within}
 use Rattle.rounds.specs.Index.{Indexed, labelledFrom, labelledPast}
 
 -- what holds of each place from lo up to j
@@ -33,14 +32,6 @@ through-more P {lo} {j} f p q l h = go (eq-or-not q j) where
   go (inl e) = rw e p
   go (inr n) = f q l (omega (arith, n))
 
--- one more first place is noted
-pub note-first : (hs firsts : List ℕ) (s : ℕ) {v : ℕ} → s < length firsts → v ≡ firstOf hs s →
-    Through (λ (q : ℕ). getD firsts q 0 ≡ firstOf hs q) 0 s → Through (λ (q : ℕ). getD (set firsts s v) q 0 ≡ firstOf hs q) 0 (s + 1)
-note-first hs firsts s {v} l e f =
-    through-more (λ (q : ℕ). getD (set firsts s v) q 0 ≡ firstOf hs q)
-    (λ q a b. getD-set-other firsts s q v 0 (λ z. omega arith) ∙ f q a b)
-    (getD-set-same firsts s v 0 l ∙ e)
-
 module _ (hs firsts : List ℕ) (ix : Indexed hs firsts) where
   -- what is noted of a state
   pub first-noted : (s : ℕ) {t r : ℕ} → t ≡ s → s < 1024 → r ≡ getD firsts t 0 → r ≡ firstOf hs s
@@ -55,23 +46,11 @@ abbrev start : ℕ → ℕ → Hop
 start s a = record { from = s; label = a; to = 0 }
 
 module _ (hs : List ℕ) (up : Ascending hs) where
-  first-past : (s : ℕ) → firstOf hs s ≤ pastOf hs s
-  unfolding pastOf
-  first-past s = go (lt-or-le (firstOf hs (s + 1)) (firstOf hs s)) where
-    go : (firstOf hs (s + 1) < firstOf hs s) ⊎ (firstOf hs s ≤ firstOf hs (s + 1)) → firstOf hs s ≤ firstOf hs (s + 1)
-    go (inl l) =
-        let i = firstOf hs (s + 1) in
-        let m : i < count hs = omega (arith, first-within hs up s) in
-        let a : from hs i < s = ltb-true _ _ (sym (first-law hs up s m) ∙ lt-ltb _ _ l) in
-        let b : s + 1 ≤ from hs i = ltb-false _ _ (sym (first-law hs up (s + 1) m) ∙ le-ltb i i (omega arith)) in
-        absurd (omega arith)
-    go (inr l) = l
-
   -- a hop is searched for among those of its state
   pub bracket : (h : Hop) {a b : ℕ} → a ≡ firstOf hs (h .from) → b ≡ pastOf hs (h .from) → Bracket hs h a b
   unfolding pastOf
   bracket h {a} {b} p q = record {
-    lo-le = omega (arith, first-past (h .from));
+    lo-le = omega (arith, first-past hs up (h .from));
     hi-le = omega (arith, past-within hs up (h .from));
     below = λ j l. earlier j (rw p at l);
     above = λ j l k. later j (rw q at l) k;

@@ -8,14 +8,10 @@ use Rattle.graph.specs.Search.{lower, firstOf}
 use Rattle.graph.specs.Check.{most-states}
 use Rattle.graph.specs.declared.Hop.{Hop}
 
--- a place for each state that a graph can have, and the one past the last
-abbrev pub most-firsts : ℕ
-most-firsts = 1025
-
--- a list that holds at each state's number the first place of its hops; past them stands the first place of the next state's
+-- a list, one place for each state that a graph can have and one past the last, that holds at each state's number the first place of its hops; past them stands the first place of the next state's
 pub record Indexed (hs firsts : List ℕ) : Type 0 where
   pub ascending : Ascending hs
-  pub full : length firsts ≡ most-firsts
+  pub full : length firsts ≡ 1025
   pub first : (s : ℕ) → s ≤ most-states → getD firsts s 0 ≡ firstOf hs s
 
 -- the first place of the hops of s labelled a, and the one past the last

@@ -25,7 +25,7 @@ const SURVIVES: u8 = 2;
 const ROW: usize = 4096;
 
 // X: does the silent hop at place i survive k rounds?
-pub(crate) fn x(hops: &[u16], firsts: &[usize], i: usize, k: usize, known: &mut [u8]) -> bool
+pub(crate) fn x(hops: &[u16], firsts: &[u16], i: usize, k: usize, known: &mut [u8]) -> bool
     requires asks { ⌜ (i < count (now hops)) × (label (now hops) i ≡ 0) ⌝ }
     requires ready { ⌜ Ready (now hops) (now firsts) (now known) k ⌝ }
     ensures { λ r. ⌜ (r ≡ survives (now (hops .entry)) k (from (now (hops .entry)) i) (to (now (hops .entry)) i)) × Right (now (hops .entry)) (now (known .exit)) ⌝ }
@@ -59,7 +59,7 @@ pub(crate) fn x(hops: &[u16], firsts: &[usize], i: usize, k: usize, known: &mut 
 // Y: is the hop at place i, tried against a silent hop to s2, answered from s2 with a closing that survives k rounds?
 pub(crate) fn y(
     hops: &[u16],
-    firsts: &[usize],
+    firsts: &[u16],
     i: usize,
     s2: OldState,
     k: usize,
@@ -90,7 +90,7 @@ pub(crate) fn y(
 // Z, the closing: is s3 the state s4, or does the silent hop s3 to s4 survive k rounds?
 pub(crate) fn z(
     hops: &[u16],
-    firsts: &[usize],
+    firsts: &[u16],
     s3: OldState,
     s4: OldState,
     k: usize,

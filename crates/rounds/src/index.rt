@@ -1,52 +1,37 @@
-// The first place of each state's hops, noted once, so that a search looks among the hops of one state only.
+// Searches among the hops of one state only, by the table of first places.
+use confluence::starts::wide;
 use graph::Found;
 use graph::Hop;
 use graph::Label;
 use graph::OldState;
 use graph::hops::hop_count;
 use graph::hops::is_hop_at;
-use graph::search::first_of;
 use graph::search::lower_between;
 ghost use mathlib.Core.Path.{_≡_};
 ghost use Prim.Native.Nat.{_+_, _<_};
 ghost use lib.ListN.{length, getD};
-ghost use Rattle.graph.specs.Order.{Ascending};
 ghost use Rattle.graph.specs.Search.{lower, placed};
-ghost use Rattle.rounds.specs.Index.{most-firsts, Indexed, labelledFrom, labelledPast, silentHop};
-
-// A place for each state that a graph can have, and the one past the last.
-const FIRSTS: usize = 1025;
-
-pub(crate) fn note_firsts(hops: &[u16], firsts: &mut [usize])
-    requires { ⌜ Ascending (now hops) × (length (now firsts) ≡ most-firsts) ⌝ }
-    ensures { λ _. ⌜ Indexed (now (hops .entry)) (now (firsts .exit)) ⌝ }
-{
-    let mut s = 0;
-    while s < FIRSTS {
-        firsts[s] = first_of(hops, OldState(s as u16));
-        s += 1;
-    }
-}
+ghost use Rattle.rounds.specs.Index.{Indexed, labelledFrom, labelledPast, silentHop};
 
 // The first place of the hops of s, and the one past the last.
-pub(crate) fn first_place(firsts: &[usize], s: OldState) -> usize
+pub(crate) fn first_place(firsts: &[u16], s: OldState) -> usize
     requires { ⌜ s .0 < length (now firsts) ⌝ }
     ensures { λ r. ⌜ r ≡ getD (now (firsts .entry)) (s .0) 0 ⌝ }
 {
     let at = s.0 as usize;
-    firsts[at]
+    wide(firsts[at])
 }
 
-pub(crate) fn past_place(firsts: &[usize], s: OldState) -> usize
+pub(crate) fn past_place(firsts: &[u16], s: OldState) -> usize
     requires { ⌜ s .0 + 1 < length (now firsts) ⌝ }
     ensures { λ r. ⌜ r ≡ getD (now (firsts .entry)) (s .0 + 1) 0 ⌝ }
 {
     let at = s.0 as usize + 1;
-    firsts[at]
+    wide(firsts[at])
 }
 
 // The first place whose hop is not before h, searched for among the hops of one state.
-fn lower_of(hops: &[u16], firsts: &[usize], h: Hop) -> usize
+fn lower_of(hops: &[u16], firsts: &[u16], h: Hop) -> usize
     requires { ⌜ Indexed (now hops) (now firsts) × (h .from < 1024) ⌝ }
     ensures { λ r. ⌜ r ≡ lower (now (hops .entry)) h ⌝ }
 {
@@ -55,7 +40,7 @@ fn lower_of(hops: &[u16], firsts: &[usize], h: Hop) -> usize
 }
 
 // The first place of the hops of s labelled a, and the one past the last.
-pub(crate) fn labelled_from(hops: &[u16], firsts: &[usize], s: OldState, a: Label) -> usize
+pub(crate) fn labelled_from(hops: &[u16], firsts: &[u16], s: OldState, a: Label) -> usize
     requires { ⌜ Indexed (now hops) (now firsts) × (s .0 < 1024) ⌝ }
     ensures { λ r. ⌜ r ≡ labelledFrom (now (hops .entry)) (s .0) (a .0) ⌝ }
 {
@@ -70,7 +55,7 @@ pub(crate) fn labelled_from(hops: &[u16], firsts: &[usize], s: OldState, a: Labe
     )
 }
 
-pub(crate) fn labelled_past(hops: &[u16], firsts: &[usize], s: OldState, a: Label) -> usize
+pub(crate) fn labelled_past(hops: &[u16], firsts: &[u16], s: OldState, a: Label) -> usize
     requires { ⌜ Indexed (now hops) (now firsts) × (s .0 < 1024) × (a .0 < 1024) ⌝ }
     ensures { λ r. ⌜ r ≡ labelledPast (now (hops .entry)) (s .0) (a .0) ⌝ }
 {
@@ -78,7 +63,7 @@ pub(crate) fn labelled_past(hops: &[u16], firsts: &[usize], s: OldState, a: Labe
 }
 
 // Where the silent hop s to t stands, or would stand.
-pub(crate) fn silent_place(hops: &[u16], firsts: &[usize], s: OldState, t: OldState) -> Found
+pub(crate) fn silent_place(hops: &[u16], firsts: &[u16], s: OldState, t: OldState) -> Found
     requires { ⌜ Indexed (now hops) (now firsts) × (s .0 < 1024) ⌝ }
     ensures { λ r. ⌜ r ≡ placed (now (hops .entry)) (silentHop (s .0) (t .0)) ⌝ }
 {

@@ -1,7 +1,7 @@
 // The entry: rows 1 to 4, then 9, then 10, and then the equations.
 use super::RoundAnswer;
 use super::cycle::x;
-use super::index::note_firsts;
+use confluence::starts::starts_of;
 use graph::Answer;
 use graph::Shape;
 use graph::hops::hop_count;
@@ -64,8 +64,7 @@ fn survives_rounds(shape: Shape, hops: &[u16], place: usize, rounds: usize) -> b
     requires { ⌜ (place < count (now hops)) × (label (now hops) place ≡ 0) × (rounds ≤ most-rounds) ⌝ }
     ensures { λ r. ⌜ r ≡ survives (now (hops .entry)) rounds (from (now (hops .entry)) place) (to (now (hops .entry)) place) ⌝ }
 {
-    let mut firsts = [0usize; 1025];
-    note_firsts(hops, &mut firsts);
+    let firsts = starts_of(hops);
     let mut known = [0u8; 20480];
     x(hops, &firsts, place, rounds, &mut known)
 }

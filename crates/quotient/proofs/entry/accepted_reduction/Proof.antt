@@ -22,20 +22,25 @@ slice-aggregate-fill-map c = search needs
 
 fill-map-requires : tie.Need-fill-map-requires
 fill-map-requires c κs =
-    let st = c .before .before .before .before .before .before .before .before .before .before in
-    (st .pre .0 .admitted .states-most,
-      (omega (arith, st .pre .0 .admitted .states-most),
-      (st .pre .1 .0, tabled-closed (st .pre .0) _ (c .before .before .before .before .before .marked-next .ensures))))
+    let st = c .before .before .before .before .before .before .before .before .before .before in (
+      st .pre .0 .admitted .states-most,
+      (
+        omega (arith, st .pre .0 .admitted .states-most),
+        (st .pre .1 .0, tabled-closed (st .pre .0) _ (c .before .before .before .before .before .marked-next .ensures)),
+      ),
+    )
 
 shorten-requires : tie.Need-shorten-requires
 shorten-requires c κs =
     let st = c .before .before .before .before .before .before .before .before .before .before .before .before .before .before .before .before in
-    let adm = st .pre .0 .admitted in
-    (omega (arith, st .pre .1 .1),
-      λ i l.
-        (omega (arith, adm .range .from-in i l, st .pre .1 .0, c .before .before .before .before .before .fill-map .kept),
-          omega (arith, adm .range .to-in i l, st .pre .1 .0, c .before .before .before .before .before .fill-map .kept),
-          omega (arith, adm .range .from-in i l, adm .states-most)))
+    let adm = st .pre .0 .admitted in (
+      omega (arith, st .pre .1 .1),
+      λ i l. (
+        omega (arith, adm .range .from-in i l, st .pre .1 .0, c .before .before .before .before .before .fill-map .kept),
+        omega (arith, adm .range .to-in i l, st .pre .1 .0, c .before .before .before .before .before .fill-map .kept),
+        omega (arith, adm .range .from-in i l, adm .states-most),
+      ),
+    )
 
 cast-kept : tie.Need-cast-kept
 cast-kept c =
@@ -78,9 +83,10 @@ returns c =
     let on = c .before .before .before .before .before .before .before .before .before .before .before .before .before .before .before .before .before .before .before .marked-next .ensures in
     let fill = c .before .before .before .before .before .before .before .before .before .before .before .before .before .before .before .before .before .new-numbers .ensures in
     let map = c .before .before .before .before .before .before .before .before .before .before .before .before .before .fill-map .ensures in
-    let short = c .before .before .before .before .before .before .before .shorten .ensures in
-    (reduced-returns red _ on _ fill _ map (c .before .accept .ensures) (c .before .before .map-at .ensures) (short .1),
-      (reduced-map red _ on _ fill _ map, reduced-short red _ on _ fill _ map _ (short .0)))
+    let short = c .before .before .before .before .before .before .before .shorten .ensures in (
+      reduced-returns red _ on _ fill _ map (c .before .accept .ensures) (c .before .before .map-at .ensures) (short .1),
+      (reduced-map red _ on _ fill _ map, reduced-short red _ on _ fill _ map _ (short .0)),
+    )
 
 pub accepted-reduction-spec : {M : Type 1} → statement M
 accepted-reduction-spec =

@@ -45,9 +45,11 @@ loop-again c =
     let i = c .before .before .before .loop .i in
     let q : i ≡ suc (i - 1) = omega arith in
     let l : i - 1 < count (st .args .hops .now) = omega arith in
-    let f = st .pre .1 (i - 1) l in
-    (omega arith, ap length (c .note .ensures) ∙ length-noted _ _ _ _ ∙ v .1,
-      λ s m. rw (c .note .ensures) (noted-ends _ (i - 1) l _ _ (st .pre .0 .marks (i - 1) l) (omega arith) s (rw q at (v .2 s m))))
+    let f = st .pre .1 (i - 1) l in (
+      omega arith,
+      ap length (c .note .ensures) ∙ length-noted _ _ _ _ ∙ v .1,
+      λ s m. rw (c .note .ensures) (noted-ends _ (i - 1) l _ _ (st .pre .0 .marks (i - 1) l) (omega arith) s (rw q at (v .2 s m))),
+    )
 
 returns : tie.Need-returns Inv-loop μ-loop
 unfolding Onward

@@ -51,10 +51,12 @@ loop-again : tie.Need-loop-again Inv-loop μ-loop
 unfolding numbered
 loop-again c =
     let v = c .before .before .before .loop .inv in
-    let st = c .before .before .before .before .before .before in
-    (omega arith, omega arith,
+    let st = c .before .before .before .before .before .before in (
+      omega arith,
+      omega arith,
       listed-more (numbered (st .args .next .now) (st .args .news .now) (st .args .states)) (st .args .map .now) (omega arith) (v .2)
-      (c .map-at .ensures ∙ ap (λ (k : ℕ). getD (st .args .news .now) k 0) (c .before .follow .ensures)) refl)
+          (c .map-at .ensures ∙ ap (λ (k : ℕ). getD (st .args .news .now) k 0) (c .before .follow .ensures)) refl,
+    )
 
 same-length : tie.Need-same-length Inv-loop μ-loop
 same-length c = length-so-far _ _ (c .before .loop .s) (omega arith) (c .before .loop .inv .2)

@@ -21,9 +21,12 @@ abbrev μ-loop : tie.MeasureT-loop
 μ-loop next news₀ found₀ s₀ news found s = 1024 - s
 
 loop-holds : tie.Need-loop-holds Inv-loop μ-loop
-loop-holds c =
-    (length-replicate {A = ℕ} 1025 0, omega arith, sym (tally-none _),
-      λ t l. let q : t ≡ 0 = omega arith in rw q (getD-replicate {A = ℕ} 1025 0 0 0 (omega arith) ∙ sym (tally-none _)))
+loop-holds c = (
+  length-replicate {A = ℕ} 1025 0,
+  omega arith,
+  sym (tally-none _),
+  λ t l. let q : t ≡ 0 = omega arith in rw q (getD-replicate {A = ℕ} 1025 0 0 0 (omega arith) ∙ sym (tally-none _)),
+)
 
 cast-t7 : tie.Need-cast-t7 Inv-loop μ-loop
 cast-t7 c = search needs
@@ -55,9 +58,12 @@ counted c =
 
 loop-again : tie.Need-loop-again Inv-loop μ-loop
 loop-again c =
-    let v = c .before .before .before .loop .inv in
-    (simp length-set (v .0), omega arith, counted c,
-      filled-more (λ (t : ℕ). tally t (stays (c .before .before .before .before .args .next .now))) (c .before .before .before .loop .news) (omega arith) (counted c) (v .3))
+    let v = c .before .before .before .loop .inv in (
+      simp length-set (v .0),
+      omega arith,
+      counted c,
+      filled-more (λ (t : ℕ). tally t (stays (c .before .before .before .before .args .next .now))) (c .before .before .before .loop .news) (omega arith) (counted c) (v .3),
+    )
 
 returns : tie.Need-returns Inv-loop μ-loop
 returns c = λ s l. c .before .loop .inv .3 s (omega arith)

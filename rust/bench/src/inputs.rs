@@ -1,0 +1,142 @@
+//! The graphs and files that are timed.
+
+use differential::entries::Graph;
+use std::collections::BTreeSet;
+
+/// A graph with its name in the table.
+pub struct Named {
+    pub name: &'static str,
+    pub graph: Graph,
+}
+
+type Hops = BTreeSet<[u16; 3]>;
+
+fn graph(name: &'static str, states: u16, labels: u16, hops: impl IntoIterator<Item = [u16; 3]>) -> Named {
+    let hops: Hops = hops.into_iter().collect();
+    assert!(hops.len() <= 4096, "{name} has {} hops", hops.len());
+    let hops = hops.into_iter().flatten().collect();
+    Named { name, graph: Graph { states: states.into(), labels: labels.into(), initial: 0, hops } }
+}
+
+/// xorshift, always from the same seed.
+pub struct Random(pub u64);
+
+impl Random {
+    pub fn below(&mut self, bound: u16) -> u16 {
+        self.0 ^= self.0 << 13;
+        self.0 ^= self.0 >> 7;
+        self.0 ^= self.0 << 17;
+        ((self.0 >> 20) % u64::from(bound)) as u16
+    }
+}
+
+pub fn graphs() -> Vec<Named> {
+    vec![
+        graph("chain, numbered along", 1024, 1, (0..1023).map(|s| [s, 0, s + 1])),
+        graph("chain, numbered against", 1024, 1, (1..1024).map(|s| [s, 0, s - 1])),
+        grid("grid, silent down, visible across", 1),
+        grid("grid, all silent", 0),
+        random("random, no ring, 3 labels", 3, 40),
+        random("random, no ring, 1 label", 1, 100),
+        random("random, no ring, 1,024 labels", 1024, 30),
+        class(),
+        graph("order of 91 states, all silent", 91, 1, (0..91).flat_map(|s| (s + 1..91).map(move |t| [s, 0, t]))),
+        graph("visible hops only, one label", 1024, 2, (0..1024).flat_map(|s| (0..4).map(move |d| [s, 1, (s + 7 * d + 1) % 1024]))),
+        descending(),
+        falling(),
+    ]
+}
+
+/// 32 by 32 states.
+fn grid(name: &'static str, across: u16) -> Named {
+    let at = |x: u16, y: u16| 32 * x + y;
+    let down = (0..32).flat_map(|x| (0..31).map(move |y| [at(x, y), 0, at(x, y + 1)]));
+    let over = (0..31).flat_map(|x| (0..32).map(move |y| [at(x, y), across, at(x + 1, y)]));
+    graph(name, 1024, 2, down.chain(over))
+}
+
+/// 1,024 states and 4,096 hops, so many of 100 of them silent and leading upward.
+fn random(name: &'static str, labels: u16, silent: u16) -> Named {
+    let mut random = Random(0x2545_f491_4f6c_dd1d);
+    let mut hops = Hops::new();
+    while hops.len() < 4096 {
+        let (s, t) = (random.below(1024), random.below(1024));
+        if labels == 1 || random.below(100) < silent {
+            if s < t {
+                hops.insert([s, 0, t]);
+            }
+        } else {
+            hops.insert([s, 1 + random.below(labels - 1), t]);
+        }
+    }
+    graph(name, 1024, labels, hops)
+}
+
+/// All states are one class: each has silent hops to the next four, and all of them are marked.
+fn class() -> Named {
+    graph("one class of 1,024 states", 1024, 1, (0..1024).flat_map(|s| (s + 1..(s + 5).min(1024)).map(move |t| [s, 0, t])))
+}
+
+/// The images of one state's hops come in descending order, 500 to each of seven labels: each is put in front of those before it.
+fn descending() -> Named {
+    let joined = (0..500).map(|i| [1 + i, 0, 1000 - i]);
+    let asked = (1..8).flat_map(|a| (0..500).map(move |i| [0, a, 1 + i]));
+    graph("3,500 images in descending order", 1001, 8, joined.chain(asked))
+}
+
+/// A ladder whose rungs fall one a sweep, from the far end, beside a block of 32 states whose 496 silent hops stay marked.
+fn falling() -> Named {
+    let (block, rungs) = (32, 490);
+    let (left, right) = (|i: u16| block + i, |i: u16| block + rungs + i);
+    let order = (0..block).flat_map(|s| (s + 1..block).map(move |t| [s, 0, t]));
+    let rung = (0..rungs).map(|i| [left(i), 0, right(i)]);
+    let rails = (0..rungs - 1).flat_map(|i| [[left(i), 1, left(i + 1)], [right(i), 1, right(i + 1)]]);
+    let fault = [[left(rungs - 1), 2, 0]];
+    graph("ladder that falls a rung a sweep, beside a block", block + 2 * rungs, 3, order.chain(rung).chain(rails).chain(fault))
+}
+
+/// For the audit: a ring of silent hops through all states, a map to one state, and as many hops of that state as there can be.
+pub fn worst_audit() -> (Named, Graph, Vec<u16>) {
+    let one = graph(
+        "all states on a silent ring, one class, 4,096 hops to answer",
+        1024,
+        4,
+        (0..1024).flat_map(|s| (1..5).map(move |d| [s, 0, (s + d) % 1024])),
+    );
+    let two = graph("", 1024, 4, (0..1024).flat_map(|q| (0..4).map(move |a| [0, a, q])));
+    (one, two.graph, vec![0; 1024])
+}
+
+/// For the round question: 64 states with silent hops between most of them; each also has a visible hop, tried last, that nothing answers.
+pub fn dense_rounds() -> Named {
+    let silent = (0..64).flat_map(|s| (0..64).filter(move |&t| s != t && (s * 5 + t * 3) % 61 != 1).map(move |t| [s, 0, t]));
+    graph("64 states, silent hops between most", 64, 65, silent.chain((0..64).map(|s| [s, 1 + s, 0])))
+}
+
+/// A file of as many different names of two bytes as fit.
+pub fn many_names() -> Vec<u8> {
+    let count = (58_344 - 5) / 3u16;
+    let mut file = vec![4, 1, 0];
+    file.extend((count + 1).to_le_bytes());
+    for i in 0..count {
+        file.push(2);
+        file.extend(i.to_le_bytes());
+    }
+    file
+}
+
+/// The block of the longest legal file: 1,023 names of 32 bytes that differ at their ends.
+pub fn long_names() -> Vec<u8> {
+    let mut block = vec![];
+    for label in 1..1024u16 {
+        block.push(32);
+        block.extend([b'n'; 30]);
+        block.extend(label.to_be_bytes());
+    }
+    block
+}
+
+/// The graph of the longest legal file.
+pub fn longest() -> Named {
+    graph("the longest legal file", 1024, 1024, (0..4096).map(|i| [i / 4, 1023, i % 4]))
+}

@@ -1,0 +1,311 @@
+//! Rings, marking, the round question, reducing and auditing.
+
+use crate::graph::{Graph, Hop};
+use crate::{refuse, written, Answer, Refusal};
+use std::collections::{BTreeSet, HashSet};
+
+/// An admitted graph: the list as it is, and the same hops once more put together by the state they leave.
+struct Admitted {
+    states: usize,
+    list: Vec<Hop>,
+    leaving: Vec<Vec<Hop>>,
+}
+
+impl Admitted {
+    /// Only for a graph that checks 1 to 4 have passed.
+    fn new(graph: &Graph) -> Admitted {
+        let list = graph.hop_list();
+        let mut leaving = vec![vec![]; graph.states as usize];
+        for hop in &list {
+            leaving[hop.from as usize].push(*hop);
+        }
+        Admitted { states: graph.states as usize, list, leaving }
+    }
+
+    fn has(&self, from: u64, label: u64, to: u64) -> bool {
+        self.leaving[from as usize].contains(&Hop { from, label, to })
+    }
+
+    /// The states that `from` leads to by zero or more silent hops.
+    fn leads_to(&self, from: u64) -> Vec<bool> {
+        let mut reached = vec![false; self.states];
+        reached[from as usize] = true;
+        let mut waiting = vec![from];
+        while let Some(state) = waiting.pop() {
+            for hop in &self.leaving[state as usize] {
+                if hop.label == 0 && !reached[hop.to as usize] {
+                    reached[hop.to as usize] = true;
+                    waiting.push(hop.to);
+                }
+            }
+        }
+        reached
+    }
+
+    /// "A ring is a closed walk of one or more silent hops".
+    fn on_ring(&self, state: u64) -> bool {
+        let reached = self.leads_to(state);
+        self.list.iter().any(|h| h.label == 0 && h.to == state && reached[h.from as usize])
+    }
+
+    fn lowest_on_ring(&self) -> Option<u64> {
+        (0..self.states as u64).find(|&s| self.on_ring(s))
+    }
+
+    fn no_ring(&self) -> Result<(), Refusal> {
+        match self.lowest_on_ring() {
+            Some(state) => refuse(5, state),
+            None => Ok(()),
+        }
+    }
+}
+
+/// A set of pairs of states.
+#[derive(Clone, PartialEq, Eq)]
+struct Pairs {
+    states: usize,
+    held: Vec<bool>,
+}
+
+impl Pairs {
+    fn silent_hops(graph: &Admitted) -> Pairs {
+        let mut pairs = Pairs { states: graph.states, held: vec![false; graph.states * graph.states] };
+        for hop in graph.list.iter().filter(|h| h.label == 0) {
+            pairs.held[hop.from as usize * graph.states + hop.to as usize] = true;
+        }
+        pairs
+    }
+
+    fn has(&self, from: u64, to: u64) -> bool {
+        self.held[from as usize * self.states + to as usize]
+    }
+
+    fn remove(&mut self, from: u64, to: u64) {
+        self.held[from as usize * self.states + to as usize] = false;
+    }
+}
+
+/// "for .. each hop s1, a, s3 there is an s4 such that s2 has a hop labelled a to s4, or a is silent and s4 = s2; and s3 = s4, or the silent
+/// hop s3 to s4 is in U", for the hop `s1` to `s2`.
+fn closes(graph: &Admitted, u: &Pairs, s1: u64, s2: u64) -> bool {
+    graph.leaving[s1 as usize].iter().all(|tried| {
+        let (a, s3) = (tried.label, tried.to);
+        let second = |s4: u64| s3 == s4 || u.has(s3, s4);
+        let answered = graph.leaving[s2 as usize].iter().any(|h| h.label == a && second(h.to));
+        answered || (a == 0 && second(s2))
+    })
+}
+
+/// What survives one round more than `before`: the silent hops for which the condition holds with "in U" read as "in `before`".
+fn one_round(graph: &Admitted, before: &Pairs) -> Pairs {
+    let mut after = Pairs::silent_hops(graph);
+    for hop in graph.list.iter().filter(|h| h.label == 0) {
+        if !closes(graph, before, hop.from, hop.to) {
+            after.remove(hop.from, hop.to);
+        }
+    }
+    after
+}
+
+/// All silent hops, less those that violate the condition, until nothing changes.
+fn greatest(graph: &Admitted) -> Pairs {
+    let mut u = Pairs::silent_hops(graph);
+    loop {
+        let violators: Vec<&Hop> = graph.list.iter().filter(|h| h.label == 0 && u.has(h.from, h.to) && !closes(graph, &u, h.from, h.to)).collect();
+        if violators.is_empty() {
+            return u;
+        }
+        for hop in violators {
+            u.remove(hop.from, hop.to);
+        }
+    }
+}
+
+/// For a graph that checks 1 to 4 pass: the lowest state on a ring.
+pub fn lowest_on_ring(graph: &Graph) -> Option<u64> {
+    Admitted::new(graph).lowest_on_ring()
+}
+
+/// For a graph that checks 1 to 4 pass, with rings or without: one 1 or 0 a hop, 1 for the hops of the marked set.
+pub fn marked(graph: &Graph) -> Vec<u8> {
+    let graph = Admitted::new(graph);
+    marks_of(&graph, &greatest(&graph))
+}
+
+/// For a graph that checks 1 to 4 pass: one 1 or 0 a hop, 1 for the silent hops that survive so many rounds.
+pub fn survivors(graph: &Graph, rounds: u64) -> Vec<u8> {
+    let graph = Admitted::new(graph);
+    marks_of(&graph, &after_rounds(&graph, rounds))
+}
+
+fn after_rounds(graph: &Admitted, rounds: u64) -> Pairs {
+    (0..rounds).fold(Pairs::silent_hops(graph), |u, _| one_round(graph, &u))
+}
+
+fn marks_of(graph: &Admitted, u: &Pairs) -> Vec<u8> {
+    graph.list.iter().map(|h| u8::from(h.label == 0 && u.has(h.from, h.to))).collect()
+}
+
+/// The entry mark: the answer, and what the output for marks holds afterwards. No figures.
+pub fn mark(graph: &Graph, marks: &[u8]) -> (Answer, Vec<u8>) {
+    match try_mark(graph, marks) {
+        Ok(after) => (Answer::accepted(vec![]), after),
+        Err(refusal) => (Answer::refused(refusal, 0), marks.to_vec()),
+    }
+}
+
+fn try_mark(graph: &Graph, marks: &[u8]) -> Result<Vec<u8>, Refusal> {
+    graph.check_1_to_4(1)?;
+    let admitted = Admitted::new(graph);
+    admitted.no_ring()?;
+    if marks.len() < admitted.list.len() {
+        refuse(6, 0)?;
+    }
+    Ok(written(&marked(graph), marks))
+}
+
+/// The entry that answers the round question. One figure: 1 or 0.
+pub fn round(graph: &Graph, place: u64, rounds: u64) -> Answer {
+    match try_round(graph, place, rounds) {
+        Ok(survives) => Answer::accepted(vec![u64::from(survives)]),
+        Err(refusal) => Answer::refused(refusal, 1),
+    }
+}
+
+fn try_round(graph: &Graph, place: u64, rounds: u64) -> Result<bool, Refusal> {
+    graph.check_1_to_4(1)?;
+    let admitted = Admitted::new(graph);
+    let asked = usize::try_from(place).ok().and_then(|p| admitted.list.get(p)).filter(|h| h.label == 0);
+    match asked {
+        None => refuse(9, 0).map(|()| false),
+        Some(_) if rounds > 4 => refuse(10, 0).map(|()| false),
+        Some(hop) => Ok(after_rounds(&admitted, rounds).has(hop.from, hop.to)),
+    }
+}
+
+/// The entry reduce: the answer, and what the outputs for the map and for the short hops hold afterwards. Figures: the short graph's state, label and
+/// hop counts and its initial state.
+pub fn reduce(graph: &Graph, map: &[u16], short: &[u16]) -> (Answer, Vec<u16>, Vec<u16>) {
+    match try_reduce(graph, map, short) {
+        Ok((figures, map, short)) => (Answer::accepted(figures), map, short),
+        Err(refusal) => (Answer::refused(refusal, 4), map.to_vec(), short.to_vec()),
+    }
+}
+
+type Reduced = (Vec<u64>, Vec<u16>, Vec<u16>);
+
+fn try_reduce(graph: &Graph, map_before: &[u16], short_before: &[u16]) -> Result<Reduced, Refusal> {
+    graph.check_1_to_4(1)?;
+    let admitted = Admitted::new(graph);
+    admitted.no_ring()?;
+    if map_before.len() < admitted.states || short_before.len() < 3 * admitted.list.len() {
+        refuse(6, 0)?;
+    }
+    let u = greatest(&admitted);
+    let classes = classes_of(&admitted, &u);
+    // "each class has exactly one state that no marked hop leaves: its representative"
+    let left = |s: usize| admitted.leaving[s].iter().any(|h| h.label == 0 && u.has(h.from, h.to));
+    let stays: Vec<usize> = (0..admitted.states).filter(|&s| !left(s)).collect();
+    let class_count = classes.iter().collect::<BTreeSet<_>>().len();
+    let classes_that_have_one: BTreeSet<usize> = stays.iter().map(|&s| classes[s]).collect();
+    assert!(stays.len() == class_count && classes_that_have_one.len() == class_count, "one representative a class");
+    // "Representatives are renumbered 0, 1, 2 in ascending old order."
+    let new = |s: usize| stays.iter().position(|&r| classes[r] == classes[s]).expect("a representative");
+    let map: Vec<u16> = (0..admitted.states).map(|s| new(s) as u16).collect();
+    let mut short = BTreeSet::new();
+    for (new, &r) in stays.iter().enumerate() {
+        for hop in &admitted.leaving[r] {
+            short.insert((new as u16, hop.label as u16, map[hop.to as usize]));
+        }
+    }
+    let flat: Vec<u16> = short.iter().flat_map(|&(from, label, to)| [from, label, to]).collect();
+    let initial = u64::from(map[graph.initial as usize]);
+    let figures = vec![stays.len() as u64, graph.labels, short.len() as u64, initial];
+    Ok((figures, written(&map, map_before), written(&flat, short_before)))
+}
+
+/// "A class is a set of states joined by marked hops taken either way." Each state with its class's lowest member.
+fn classes_of(graph: &Admitted, u: &Pairs) -> Vec<usize> {
+    let mut joined = vec![vec![]; graph.states];
+    for hop in graph.list.iter().filter(|h| h.label == 0 && u.has(h.from, h.to)) {
+        joined[hop.from as usize].push(hop.to as usize);
+        joined[hop.to as usize].push(hop.from as usize);
+    }
+    let mut class = vec![usize::MAX; graph.states];
+    for lowest in 0..graph.states {
+        if class[lowest] != usize::MAX {
+            continue;
+        }
+        class[lowest] = lowest;
+        let mut waiting = vec![lowest];
+        while let Some(state) = waiting.pop() {
+            for &other in &joined[state] {
+                if class[other] == usize::MAX {
+                    class[other] = lowest;
+                    waiting.push(other);
+                }
+            }
+        }
+    }
+    class
+}
+
+/// The entry audit. One figure: the fault count.
+pub fn audit(graph1: &Graph, graph2: &Graph, map: &[u16]) -> Answer {
+    match try_audit(graph1, graph2, map) {
+        Ok(faults) => Answer::accepted(vec![faults]),
+        Err(refusal) => Answer::refused(refusal, 1),
+    }
+}
+
+fn try_audit(graph1: &Graph, graph2: &Graph, map: &[u16]) -> Result<u64, Refusal> {
+    graph1.check_1_to_4(1)?;
+    graph2.check_1_to_4(2)?;
+    if graph1.labels != graph2.labels {
+        refuse(7, 0)?;
+    }
+    if map.len() as u64 != graph1.states {
+        refuse(8, map.len() as u64)?;
+    }
+    if let Some(entry) = map.iter().position(|&m| u64::from(m) >= graph2.states) {
+        refuse(8, entry as u64)?;
+    }
+    let map: Vec<u64> = map.iter().map(|&m| m.into()).collect();
+    let (one, two) = (Admitted::new(graph1), Admitted::new(graph2));
+
+    // "1 if the map of initial state 1 is not initial state 2"
+    let first = u64::from(map[graph1.initial as usize] != graph2.initial);
+
+    // "1 for each hop s, a, t of graph 1, unless a is silent and map(s) = map(t), or graph 2 has the hop map(s), a, map(t)"
+    let second = one
+        .list
+        .iter()
+        .filter(|h| {
+            let (s, t) = (map[h.from as usize], map[h.to as usize]);
+            !((h.label == 0 && s == t) || two.has(s, h.label, t))
+        })
+        .count() as u64;
+
+    // "1 for each pair of a hop r, a, q of graph 2 and a state s with map(s) = r, unless a is silent and r = q, or s leads by zero or more silent
+    // hops to some u with map(u) = r that has a hop a to some t with map(t) = q"
+    let mut third = 0;
+    for s in 0..one.states {
+        let r = map[s];
+        if two.leaving[r as usize].is_empty() {
+            continue;
+        }
+        let reached = one.leads_to(s as u64);
+        // what such a u offers: a label a, and q for the map of where it leads
+        let offered: HashSet<(u64, u64)> = (0..one.states)
+            .filter(|&u| reached[u] && map[u] == r)
+            .flat_map(|u| one.leaving[u].iter().map(|h| (h.label, map[h.to as usize])))
+            .collect();
+        for hop in &two.leaving[r as usize] {
+            let (a, q) = (hop.label, hop.to);
+            if !((a == 0 && r == q) || offered.contains(&(a, q))) {
+                third += 1;
+            }
+        }
+    }
+    Ok(first + second + third)
+}

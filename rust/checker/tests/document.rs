@@ -1,0 +1,292 @@
+//! The graphs worked by hand, the limits and the examples of the readings, against the checker.
+
+use checker::*;
+
+fn graph(states: u64, labels: u64, hops: &[u16]) -> Graph<'_> {
+    Graph { states, labels, initial: 0, hops }
+}
+
+const P1: [u16; 12] = [0, 0, 1, 0, 1, 2, 1, 1, 3, 2, 0, 3];
+const P10: [u16; 15] = [0, 0, 1, 0, 1, 2, 1, 1, 3, 2, 0, 3, 2, 2, 4];
+
+fn marks(states: u64, labels: u64, hops: &[u16]) -> Vec<u8> {
+    let (answer, after) = mark(&graph(states, labels, hops), &vec![7; hops.len() / 3]);
+    assert_eq!(answer.numbers(), [0, 1, 0]);
+    after
+}
+
+/// Map, short hops and figures; outputs are longer than asked for, and hold what they held there.
+fn reduced(states: u64, labels: u64, hops: &[u16]) -> (Vec<u16>, Vec<u16>, Vec<u64>) {
+    let (answer, map, short) = reduce(&graph(states, labels, hops), &vec![77; states as usize + 2], &vec![88; hops.len() + 2]);
+    assert_eq!((answer.number, answer.table, answer.place), (0, 1, 0));
+    let written = 3 * answer.figures[2] as usize;
+    assert_eq!(map[states as usize..], [77, 77]);
+    assert!(short[written..].iter().all(|&x| x == 88));
+    (map[..states as usize].to_vec(), short[..written].to_vec(), answer.figures)
+}
+
+#[test]
+fn p1() {
+    assert_eq!(marks(4, 2, &P1), [1, 0, 0, 1]);
+    assert_eq!(reduced(4, 2, &P1), (vec![0, 0, 1, 1], vec![0, 1, 1], vec![2, 2, 1, 0]));
+}
+
+#[test]
+fn p2() {
+    assert_eq!(marks(4, 2, &P1[..9]), [0, 0, 0]);
+    assert_eq!(reduced(4, 2, &P1[..9]), (vec![0, 1, 2, 3], P1[..9].to_vec(), vec![4, 2, 3, 0]));
+    let p2 = graph(4, 2, &P1[..9]);
+    assert_eq!(round(&p2, 0, 0).numbers(), [0, 1, 0, 1]);
+    assert_eq!(round(&p2, 0, 1).numbers(), [0, 1, 0, 0]);
+}
+
+#[test]
+fn p3() {
+    assert_eq!(marks(3, 1, &[0, 0, 1, 0, 0, 2]), [0, 0]);
+}
+
+#[test]
+fn p4() {
+    let hops = [0, 0, 1, 0, 0, 2, 1, 0, 2];
+    assert_eq!(marks(3, 1, &hops), [1, 1, 1]);
+    assert_eq!(reduced(3, 1, &hops), (vec![0, 0, 0], vec![], vec![1, 1, 0, 0]));
+}
+
+#[test]
+fn p5() {
+    let hops = [0, 0, 1, 0, 0, 2, 1, 0, 3, 1, 1, 4, 2, 0, 3];
+    assert_eq!(marks(5, 2, &hops), [1, 0, 0, 0, 1]);
+    assert_eq!(reduced(5, 2, &hops), (vec![0, 0, 1, 1, 2], vec![0, 0, 1, 0, 1, 2], vec![3, 2, 2, 0]));
+}
+
+#[test]
+fn p6() {
+    let hops = [0, 0, 1, 0, 1, 0, 1, 1, 1];
+    assert_eq!(marks(2, 2, &hops), [1, 0, 0]);
+    assert_eq!(reduced(2, 2, &hops), (vec![0, 0], vec![0, 1, 0], vec![1, 2, 1, 0]));
+}
+
+#[test]
+fn p7_and_p8() {
+    for (states, hops, place) in [(1, &[0, 0, 0][..], 0), (3, &[0, 0, 1, 1, 0, 2, 2, 0, 1][..], 1)] {
+        let g = graph(states, 1, hops);
+        assert_eq!(check(&g).numbers(), [0, 1, 0]);
+        // 5 comes before 6: the outputs are too short
+        let (answer, after) = mark(&g, &[]);
+        assert_eq!((answer.numbers(), after), (vec![5, 1, place], vec![]));
+        let (answer, map, short) = reduce(&g, &[9], &[8, 8]);
+        assert_eq!((answer.numbers(), map, short), (vec![5, 1, place, 0, 0, 0, 0], vec![9], vec![8, 8]));
+    }
+}
+
+#[test]
+fn p9() {
+    let one = graph(4, 2, &P1);
+    let map = [0, 0, 1, 1];
+    assert_eq!(audit(&one, &graph(2, 2, &[0, 1, 1]), &map).numbers(), [0, 1, 0, 0]);
+    assert_eq!(audit(&one, &graph(2, 2, &[]), &map).numbers(), [0, 1, 0, 2]);
+    assert_eq!(audit(&one, &graph(2, 2, &[0, 1, 1, 1, 1, 1]), &map).numbers(), [0, 1, 0, 2]);
+}
+
+#[test]
+fn p10() {
+    assert_eq!(marks(5, 3, &P10), [0, 0, 0, 0, 0]);
+    let g = graph(5, 3, &P10);
+    let survives = |place, rounds| round(&g, place, rounds).figures[0];
+    assert_eq!([survives(3, 0), survives(3, 1), survives(3, 2)], [1, 0, 0]);
+    assert_eq!([survives(0, 0), survives(0, 1), survives(0, 2), survives(0, 3)], [1, 1, 0, 0]);
+}
+
+#[test]
+fn limits() {
+    assert_eq!(check(&graph(1024, 1, &[])).number, 0);
+    assert_eq!(check(&graph(1025, 1, &[])).numbers(), [1, 1, 0]);
+    assert_eq!(check(&graph(0, 1, &[])).number, 1);
+    assert_eq!(check(&graph(1, 1024, &[])).number, 0);
+    assert_eq!(check(&graph(1, 1025, &[])).number, 1);
+    assert_eq!(check(&graph(1, 0, &[])).number, 1);
+    assert_eq!(check(&graph(1, 1, &[0, 0])).number, 1);
+    let hops: Vec<u16> = (0..4097u16).flat_map(|i| [i / 4, 1, i % 4]).collect();
+    assert_eq!(check(&graph(1024, 2, &hops[..3 * 4096])).number, 0);
+    assert_eq!(check(&graph(1025, 2, &hops)).number, 1);
+    let hops: Vec<u16> = (0..4097u16).flat_map(|i| [i / 8, 1, i % 8]).collect();
+    assert_eq!(check(&graph(1024, 2, &hops)).numbers(), [1, 1, 0]);
+    assert_eq!(check(&Graph { states: 3, labels: 1, initial: 70_000, hops: &[] }).numbers(), [2, 1, 0]);
+}
+
+#[test]
+fn three_is_asked_of_the_whole_list_before_four() {
+    assert_eq!(check(&graph(3, 2, &[1, 0, 0, 1, 0, 0, 2, 0, 3])).numbers(), [3, 1, 2]);
+    assert_eq!(check(&graph(4, 2, &[1, 0, 0, 1, 0, 0, 2, 0, 3])).numbers(), [4, 1, 1]);
+}
+
+#[test]
+fn mark_and_reduce_refuse_short_outputs() {
+    let g = graph(4, 2, &P1);
+    assert_eq!(mark(&g, &[5; 3]), (mark(&g, &[]).0, vec![5; 3]));
+    assert_eq!(mark(&g, &[5; 3]).0.numbers(), [6, 1, 0]);
+    assert_eq!(mark(&g, &[5; 6]).1, [1, 0, 0, 1, 5, 5]);
+    assert_eq!(reduce(&g, &[5; 3], &[6; 12]).0.numbers(), [6, 1, 0, 0, 0, 0, 0]);
+    // enough for the result, but not for three numbers a hop of the input
+    let (answer, map, short) = reduce(&g, &[5; 4], &[6; 11]);
+    assert_eq!((answer.number, map, short), (6, vec![5; 4], vec![6; 11]));
+}
+
+#[test]
+fn the_order_of_nine_and_ten() {
+    let g = graph(4, 2, &P1);
+    assert_eq!(round(&g, 1, 5).numbers(), [9, 1, 0, 0]);
+    assert_eq!(round(&g, 4, 0).numbers(), [9, 1, 0, 0]);
+    assert_eq!(round(&g, u64::MAX, 0).numbers(), [9, 1, 0, 0]);
+    assert_eq!(round(&g, 0, 5).numbers(), [10, 1, 0, 0]);
+    assert_eq!(round(&graph(1, 1, &[0, 0, 0]), 0, 4).numbers(), [0, 1, 0, 1]);
+}
+
+/// E1: the silent way may lead through states with another map value.
+#[test]
+fn audit_through_other_classes() {
+    let one = graph(3, 2, &[0, 0, 1, 1, 0, 2, 2, 1, 2]);
+    let two = graph(2, 2, &[0, 0, 1, 0, 1, 0, 1, 0, 0]);
+    assert_eq!(audit(&one, &two, &[0, 1, 0]).numbers(), [0, 1, 0, 1]);
+}
+
+#[test]
+fn audit_refusals() {
+    let good = graph(4, 2, &P1);
+    let two = graph(2, 2, &[0, 1, 1]);
+    assert_eq!(audit(&graph(4, 1, &P1), &graph(2, 2, &[9, 9, 9]), &[]).numbers(), [3, 1, 1, 0]);
+    assert_eq!(audit(&good, &graph(2, 2, &[0, 1, 1, 0, 0, 0]), &[]).numbers(), [4, 2, 1, 0]);
+    assert_eq!(audit(&good, &graph(2, 3, &[0, 1, 1]), &[]).numbers(), [7, 1, 0, 0]);
+    assert_eq!(audit(&good, &two, &[9; 5]).numbers(), [8, 1, 5, 0]);
+    assert_eq!(audit(&good, &two, &[0, 1, 2, 9]).numbers(), [8, 1, 2, 0]);
+}
+
+/// The bound of the fault count is reached.
+#[test]
+fn most_faults() {
+    let one: Vec<u16> = (0..4096u16).flat_map(|i| [i / 4, 1, i % 4]).collect();
+    let two: Vec<u16> = (0..4096u16).flat_map(|i| [0, 2 + i / 1024, i % 1024]).collect();
+    let g1 = graph(1024, 6, &one);
+    let g2 = Graph { states: 1024, labels: 6, initial: 1, hops: &two };
+    assert_eq!(audit(&g1, &g2, &[0; 1024]).figures, [4_198_401]);
+}
+
+#[test]
+fn hops_of_a_state() {
+    let (g1, g2) = (graph(4, 2, &P1), graph(2, 2, &[0, 1, 1]));
+    assert_eq!(hops_of(1, 0, &g1, &g2), (0, 6));
+    assert_eq!(hops_of(1, 2, &g1, &g2), (9, 3));
+    assert_eq!(hops_of(1, 3, &g1, &g2), (0, 0));
+    assert_eq!(hops_of(2, 0, &g1, &g2), (0, 3));
+    assert_eq!(hops_of(3, 0, &g1, &g2), (0, 0));
+    assert_eq!(hops_of(1, 0, &g1, &graph(1, 2, &[0, 1, 1])), (0, 0));
+}
+
+fn p1_file() -> Vec<u8> {
+    let mut file = vec![2, 4, 0, 2, 0, 4, 0];
+    file.extend(P1.iter().flat_map(|x| x.to_le_bytes()));
+    file
+}
+
+#[test]
+fn p1_as_a_file() {
+    let file = p1_file();
+    assert_eq!(file.len(), 31);
+    let (answer, out) = write(&graph(4, 2, &P1), &[], &[9; 33]);
+    assert_eq!(answer.numbers(), [0, 1, 0, 31]);
+    assert_eq!((&out[..31], &out[31..]), (&file[..], &[9, 9][..]));
+    assert_eq!(write(&graph(4, 2, &P1), &[], &[9; 30]).0.numbers(), [6, 1, 0, 0]);
+    let (answer, hops) = read(&file, &[9; 13]);
+    assert_eq!(answer.numbers(), [0, 1, 0, 4, 2, 0, 4, 0, 0]);
+    assert_eq!((&hops[..12], hops[12]), (&P1[..], 9));
+    assert_eq!(read(&file, &[9; 11]).0.numbers(), [6, 1, 0, 0, 0, 0, 0, 0, 0]);
+    for end in 0..31 {
+        assert_eq!(read(&file[..end], &[]).0.numbers()[..3], [11, 1, end as u64]);
+    }
+}
+
+fn read_answer(file: &[u8]) -> [u64; 2] {
+    let (answer, after) = read(file, &[3; 3]);
+    if answer.number != 0 {
+        assert_eq!(after, [3; 3]);
+        assert_eq!(answer.figures, [0; 6]);
+    }
+    [answer.number, answer.place]
+}
+
+#[test]
+fn the_order_of_reading() {
+    assert_eq!(read_answer(&[]), [11, 0]);
+    assert_eq!(read_answer(&[8]), [12, 0]);
+    assert_eq!(read_answer(&[7]), [11, 1]);
+    assert_eq!(read_answer(&vec![255; 58_345]), [13, 58_344]);
+    assert_eq!(read_answer(&vec![255; 58_344]), [12, 0]);
+    assert_eq!(read_answer(&[0, 1, 0, 1, 0]), [0, 0]);
+    assert_eq!(read_answer(&[0, 1, 0, 0, 0]), [1, 0]);
+    assert_eq!(read_answer(&[0, 1, 0, 1, 0, 0]), [13, 5]);
+    assert_eq!(read_answer(&[1, 1, 0, 1, 0, 0, 0]), [12, 0]);
+    assert_eq!(read_answer(&[1, 1, 0, 1, 0, 0, 0, 0]), [13, 7]);
+    assert_eq!(read_answer(&[1, 1, 0, 1, 0, 1, 0]), [2, 0]);
+    assert_eq!(read_answer(&[2, 1, 0, 1, 0, 0, 0]), [12, 0]);
+    // G5
+    assert_eq!(read_answer(&[4, 1, 0, 0, 0]), [12, 0]);
+    assert_eq!(read_answer(&[4, 1, 0, 1, 0]), [12, 0]);
+    assert_eq!(read_answer(&[4, 1, 0, 0, 0, 1]), [13, 5]);
+}
+
+#[test]
+fn names_in_a_file() {
+    assert_eq!(read(&[4, 1, 0, 2, 0, 1, b'a'], &[]).0.numbers(), [0, 1, 0, 1, 2, 0, 0, 5, 2]);
+    // G4: a refused length still says how many bytes follow
+    let mut file = vec![4, 1, 0, 2, 0, 200];
+    file.extend([1; 100]);
+    assert_eq!(read_answer(&file), [11, 106]);
+    file.extend([1; 100]);
+    assert_eq!(read_answer(&file), [14, 5]);
+    assert_eq!(read_answer(&[4, 1, 0, 2, 0, 0, 1]), [13, 6]);
+    assert_eq!(read_answer(&[4, 1, 0, 2, 0, 0]), [14, 5]);
+    // G8: the first faulty name, whatever its fault
+    assert_eq!(read_answer(&[4, 1, 0, 4, 0, 1, 7, 1, 7, 0]), [14, 7]);
+    // 14 comes before 1
+    assert_eq!(read_answer(&[4, 0, 0, 3, 0, 1, 7, 1, 7]), [14, 7]);
+    assert_eq!(read_answer(&[4, 0, 0, 3, 0, 1, 7, 1, 8]), [1, 0]);
+}
+
+#[test]
+fn names_to_write() {
+    let answer = |labels: u64, block: &[u8]| {
+        let answer = write(&graph(1, labels, &[]), block, &[0; 300]).0;
+        [answer.number, answer.place]
+    };
+    assert_eq!(answer(1024, &[]), [0, 0]);
+    // H2
+    assert_eq!(answer(1, &[1, 2]), [14, 0]);
+    // H3: label count 3 and a block of 33 + 33 bytes
+    let mut block = vec![33];
+    block.extend([5; 33]);
+    assert_eq!(answer(3, &block), [14, 34]);
+    assert_eq!(answer(2, &block), [14, 0]);
+    assert_eq!(answer(2, &block[..20]), [14, 20]);
+    // H4
+    assert_eq!(answer(2, &[0, 1, b'b']), [14, 1]);
+    assert_eq!(answer(3, &[1, 9, 1, 9]), [14, 2]);
+    assert_eq!(answer(3, &[1, 9, 1, 8]), [0, 0]);
+}
+
+/// "The longest legal file has 58,344 bytes."
+#[test]
+fn the_longest_file() {
+    let hops: Vec<u16> = (0..4096u16).flat_map(|i| [i / 4, 1023, i % 4]).collect();
+    let g = Graph { states: 1024, labels: 1024, initial: 1023, hops: &hops };
+    let mut block = vec![];
+    for label in 1..1024u16 {
+        block.push(32);
+        block.extend([0; 30]);
+        block.extend(label.to_be_bytes());
+    }
+    let (answer, file) = write(&g, &block, &vec![0; 58_344]);
+    assert_eq!(answer.numbers(), [0, 1, 0, 58_344]);
+    let (answer, after) = read(&file, &vec![0; 12_288]);
+    assert_eq!(answer.numbers(), [0, 1, 0, 1024, 1024, 1023, 4096, 24_585, 33_759]);
+    assert_eq!(after, hops);
+}

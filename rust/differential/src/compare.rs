@@ -1,0 +1,285 @@
+//! One call of an entry against the checker: the returned number, every element of the answer and of every output, guard elements before and behind each
+//! of them, and inputs that must stay as they are.
+
+use crate::random::Random;
+use checker::Answer;
+use differential::entries::{Entries, Graph};
+use std::fmt::Debug;
+
+/// Guard elements on either side of what is lent.
+const GUARDS: usize = 5;
+
+/// An element that can be filled with noise.
+pub trait Noise: Copy + PartialEq + Debug {
+    fn noise(random: &mut Random) -> Self;
+}
+
+impl Noise for u8 {
+    fn noise(random: &mut Random) -> u8 {
+        random.next() as u8
+    }
+}
+
+impl Noise for u16 {
+    fn noise(random: &mut Random) -> u16 {
+        random.next() as u16
+    }
+}
+
+impl Noise for u64 {
+    fn noise(random: &mut Random) -> u64 {
+        random.next()
+    }
+}
+
+/// Something lent for writing: noise between guard elements.
+struct Lent<T> {
+    all: Vec<T>,
+    before: Vec<T>,
+    len: usize,
+}
+
+impl<T: Noise> Lent<T> {
+    fn new(random: &mut Random, len: usize) -> Lent<T> {
+        let all: Vec<T> = (0..len + 2 * GUARDS).map(|_| T::noise(random)).collect();
+        Lent { before: all.clone(), all, len }
+    }
+
+    fn part(&mut self) -> &mut [T] {
+        &mut self.all[GUARDS..GUARDS + self.len]
+    }
+
+    fn held(&self) -> &[T] {
+        &self.before[GUARDS..GUARDS + self.len]
+    }
+
+    /// What it holds now is `after` between the same guards.
+    fn holds(&self, after: &[T]) -> bool {
+        let behind = GUARDS + self.len;
+        after.len() == self.len
+            && self.all[..GUARDS] == self.before[..GUARDS]
+            && self.all[GUARDS..behind] == *after
+            && self.all[behind..] == self.before[behind..]
+    }
+}
+
+/// How long an output or an answer is made.
+#[derive(Clone, Copy)]
+pub enum Length {
+    /// Exactly so long.
+    Exactly(usize),
+    /// So long, or a little more or less, or anything up to it.
+    About(usize),
+    /// Mostly enough.
+    AtLeast(usize),
+}
+
+impl Length {
+    fn choose(self, random: &mut Random) -> usize {
+        match self {
+            Length::Exactly(len) => len,
+            Length::About(needed) => match random.below(6) {
+                0 => random.between(0, needed),
+                1 => needed.saturating_sub(1),
+                2 => needed + 1,
+                3 => needed + random.below(9),
+                _ => needed,
+            },
+            Length::AtLeast(needed) => needed + if random.percent(50) { 0 } else { random.below(4) },
+        }
+    }
+}
+
+/// Compares calls and counts them.
+pub struct Comparer<'a> {
+    pub entries: &'a dyn Entries,
+    pub random: Random,
+    pub calls: u64,
+    pub refusals: [u64; 15],
+    /// Graphs that reduce made smaller, and audits that found faults: a comparison without them would say little.
+    pub smaller: u64,
+    pub faulty: u64,
+    /// The length of answers: mostly enough, unless it is set.
+    pub answer_len: Option<usize>,
+}
+
+impl<'a> Comparer<'a> {
+    pub fn new(entries: &'a dyn Entries, seed: u64) -> Comparer<'a> {
+        Comparer { entries, random: Random::new(seed), calls: 0, refusals: [0; 15], smaller: 0, faulty: 0, answer_len: None }
+    }
+
+    fn answer(&mut self, needed: usize) -> Lent<u64> {
+        let len = match self.answer_len {
+            Some(len) => len,
+            None if self.random.percent(10) => self.random.between(0, needed + 2),
+            None => Length::AtLeast(needed).choose(&mut self.random),
+        };
+        Lent::new(&mut self.random, len)
+    }
+
+    /// The returned number and the answer; true where outputs must have been written.
+    fn judge(&mut self, returned: u32, expected: &[u64], number: u64, answer: &Lent<u64>, what: &dyn Fn() -> String) -> bool {
+        self.calls += 1;
+        self.refusals[number as usize] += 1;
+        let fits = answer.len >= expected.len();
+        let after = if fits { [expected, &answer.held()[expected.len()..]].concat() } else { answer.held().to_vec() };
+        let number = if number == 0 && !fits { 6 } else { number };
+        if u64::from(returned) != number || !answer.holds(&after) {
+            self.fail(what, &format!("returned {number}, answer {after:?}"), &format!("returned {returned}, answer with guards {:?}", answer.all));
+        }
+        fits
+    }
+
+    fn output<T: Noise>(&self, lent: &Lent<T>, after: &[T], fits: bool, what: &dyn Fn() -> String) {
+        let after = if fits { after } else { lent.held() };
+        if !lent.holds(after) {
+            let first = lent.part_differs(after);
+            self.fail(
+                what,
+                &format!("output {}", brief(after)),
+                &format!("output with {GUARDS} guards on either side {}; first difference at {first}", brief(&lent.all)),
+            );
+        }
+    }
+
+    fn fail(&self, what: &dyn Fn() -> String, expected: &str, found: &str) -> ! {
+        eprintln!("MISMATCH of {} and the checker\n  call: {}\n  expected: {expected}\n  found: {found}", self.entries.name(), what());
+        std::process::exit(1);
+    }
+
+    fn same_input<T: Noise>(&self, now: &[T], before: &[T], what: &dyn Fn() -> String) {
+        if now != before {
+            self.fail(what, "inputs as they were", "an input was altered");
+        }
+    }
+
+    pub fn check(&mut self, g: &Graph) {
+        let what = || format!("check {}", show(g));
+        let input = g.hops.clone();
+        let expected = checker::check(&g.lent());
+        let mut answer = self.answer(3);
+        let returned = self.entries.check(g, answer.part());
+        self.judge(returned, &expected.numbers(), expected.number, &answer, &what);
+        self.same_input(&g.hops, &input, &what);
+    }
+
+    pub fn mark(&mut self, g: &Graph, len: Length) {
+        let what = || format!("mark {}", show(g));
+        let input = g.hops.clone();
+        let len = len.choose(&mut self.random);
+        let mut marks = Lent::<u8>::new(&mut self.random, len);
+        let (expected, after) = checker::mark(&g.lent(), marks.held());
+        let mut answer = self.answer(3);
+        let returned = self.entries.mark(g, marks.part(), answer.part());
+        let fits = self.judge(returned, &expected.numbers(), expected.number, &answer, &what);
+        self.output(&marks, &after, fits, &what);
+        self.same_input(&g.hops, &input, &what);
+    }
+
+    /// Where it accepts, also what came out.
+    pub fn reduce(&mut self, g: &Graph, map_len: Length, short_len: Length) -> Option<(Graph, Vec<u16>)> {
+        let (map_len, short_len) = (map_len.choose(&mut self.random), short_len.choose(&mut self.random));
+        let what = || format!("reduce, map of {map_len}, short hops of {short_len}, {}", show(g));
+        let input = g.hops.clone();
+        let mut map = Lent::<u16>::new(&mut self.random, map_len);
+        let mut short = Lent::<u16>::new(&mut self.random, short_len);
+        let (expected, map_after, short_after) = checker::reduce(&g.lent(), map.held(), short.held());
+        let mut answer = self.answer(7);
+        let returned = self.entries.reduce(g, map.part(), short.part(), answer.part());
+        let fits = self.judge(returned, &expected.numbers(), expected.number, &answer, &what);
+        self.output(&map, &map_after, fits, &what);
+        self.output(&short, &short_after, fits, &what);
+        self.same_input(&g.hops, &input, &what);
+        if expected.number != 0 {
+            return None;
+        }
+        let figures = &expected.figures;
+        self.smaller += u64::from(figures[0] < g.states.into());
+        let hops = short_after[..3 * figures[2] as usize].to_vec();
+        let short = Graph { states: figures[0] as u32, labels: figures[1] as u32, initial: figures[3] as u32, hops };
+        Some((short, map_after[..g.states as usize].to_vec()))
+    }
+
+    pub fn audit(&mut self, one: &Graph, two: &Graph, map: &[u16]) -> Answer {
+        let what = || format!("audit, map {}, {}, {}", brief(map), show(one), show(two));
+        let expected = checker::audit(&one.lent(), &two.lent(), map);
+        let inputs = [one.hops.clone(), two.hops.clone(), map.to_vec()];
+        let mut answer = self.answer(4);
+        let returned = self.entries.audit(one, two, map, answer.part());
+        self.judge(returned, &expected.numbers(), expected.number, &answer, &what);
+        self.faulty += u64::from(expected.figures[0] > 0);
+        for (now, before) in [&one.hops, &two.hops, map].into_iter().zip(&inputs) {
+            self.same_input(now, before, &what);
+        }
+        expected
+    }
+
+    pub fn round(&mut self, g: &Graph, place: u64, rounds: u32) {
+        let what = || format!("round question, place {place}, rounds {rounds}, {}", show(g));
+        let input = g.hops.clone();
+        let expected = checker::round(&g.lent(), place, rounds.into());
+        let mut answer = self.answer(4);
+        let returned = self.entries.round(g, place, rounds, answer.part());
+        self.judge(returned, &expected.numbers(), expected.number, &answer, &what);
+        self.same_input(&g.hops, &input, &what);
+    }
+
+    pub fn hops_of(&mut self, side: u32, state: u32, one: &Graph, two: &Graph) {
+        let what = || format!("hops of side {side}, state {state}, {}, {}", show(one), show(two));
+        let (start, length) = checker::hops_of(side.into(), state.into(), &one.lent(), &two.lent());
+        let mut answer = self.answer(2);
+        let returned = self.entries.hops_of(side, state, one, two, answer.part());
+        self.judge(returned, &[start, length], 0, &answer, &what);
+    }
+
+    pub fn read(&mut self, file: &[u8], len: Length) -> Answer {
+        let len = len.choose(&mut self.random);
+        let what = || format!("read, hops of {len}, file of {} bytes {}", file.len(), brief(file));
+        let input = file.to_vec();
+        let mut hops = Lent::<u16>::new(&mut self.random, len);
+        let (expected, after) = checker::read(file, hops.held());
+        let mut answer = self.answer(9);
+        let returned = self.entries.read(file, hops.part(), answer.part());
+        let fits = self.judge(returned, &expected.numbers(), expected.number, &answer, &what);
+        self.output(&hops, &after, fits, &what);
+        self.same_input(file, &input, &what);
+        expected
+    }
+
+    pub fn write(&mut self, g: &Graph, names: &[u8], len: Length) -> Answer {
+        let len = len.choose(&mut self.random);
+        let what = || format!("write, output of {len}, names {}, {}", brief(names), show(g));
+        let inputs = (g.hops.clone(), names.to_vec());
+        let mut out = Lent::<u8>::new(&mut self.random, len);
+        let (expected, after) = checker::write(&g.lent(), names, out.held());
+        let mut answer = self.answer(4);
+        let returned = self.entries.write(g, names, out.part(), answer.part());
+        let fits = self.judge(returned, &expected.numbers(), expected.number, &answer, &what);
+        self.output(&out, &after, fits, &what);
+        self.same_input(&g.hops, &inputs.0, &what);
+        self.same_input(names, &inputs.1, &what);
+        expected
+    }
+}
+
+impl<T: Noise> Lent<T> {
+    fn part_differs(&self, after: &[T]) -> String {
+        let now = &self.all[GUARDS..GUARDS + self.len];
+        match now.iter().zip(after).position(|(a, b)| a != b) {
+            Some(place) => format!("element {place}"),
+            None => "a guard".to_string(),
+        }
+    }
+}
+
+fn brief<T: Debug>(list: &[T]) -> String {
+    if list.len() <= 400 {
+        format!("{list:?}")
+    } else {
+        format!("{:?} .. ({} elements)", &list[..400], list.len())
+    }
+}
+
+fn show(g: &Graph) -> String {
+    format!("graph of {} states, {} labels, initial {}, hops {}", g.states, g.labels, g.initial, brief(&g.hops))
+}

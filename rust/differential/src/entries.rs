@@ -1,0 +1,214 @@
+//! The entries in the form of the C interface, of the library and of the plain implementation.
+
+/// A graph as it goes in; nothing is asked of it.
+#[derive(Clone, Debug)]
+pub struct Graph {
+    pub states: u32,
+    pub labels: u32,
+    pub initial: u32,
+    pub hops: Vec<u16>,
+}
+
+impl Graph {
+    pub fn lent(&self) -> checker::Graph<'_> {
+        checker::Graph { states: self.states.into(), labels: self.labels.into(), initial: self.initial.into(), hops: &self.hops }
+    }
+}
+
+/// What is compared. Each writes its answer to `answer` and returns the number.
+pub trait Entries {
+    fn name(&self) -> &'static str;
+    fn check(&self, g: &Graph, answer: &mut [u64]) -> u32;
+    fn mark(&self, g: &Graph, marks: &mut [u8], answer: &mut [u64]) -> u32;
+    fn reduce(&self, g: &Graph, map: &mut [u16], short: &mut [u16], answer: &mut [u64]) -> u32;
+    fn audit(&self, one: &Graph, two: &Graph, map: &[u16], answer: &mut [u64]) -> u32;
+    fn round(&self, g: &Graph, place: u64, rounds: u32, answer: &mut [u64]) -> u32;
+    fn hops_of(&self, side: u32, state: u32, one: &Graph, two: &Graph, answer: &mut [u64]) -> u32;
+    fn read(&self, file: &[u8], hops: &mut [u16], answer: &mut [u64]) -> u32;
+    fn write(&self, g: &Graph, names: &[u8], out: &mut [u8], answer: &mut [u64]) -> u32;
+}
+
+/// The proved library, where it is linked (the feature `library`).
+pub fn library() -> Option<&'static dyn Entries> {
+    #[cfg(feature = "library")]
+    return Some(&Library);
+    #[cfg(not(feature = "library"))]
+    None
+}
+
+/// The plain implementation.
+pub struct Plain;
+
+fn shape(g: &Graph) -> plain::Shape {
+    plain::Shape { states: g.states, labels: g.labels, initial: g.initial }
+}
+
+/// Writes an answer where it fits; 6 where an accepted one does not.
+fn give(found: plain::Answer, figures: &[u64], answer: &mut [u64]) -> u32 {
+    if answer.len() < 3 + figures.len() {
+        return if found.number == 0 { 6 } else { found.number };
+    }
+    answer[0] = found.number.into();
+    answer[1] = found.table.into();
+    answer[2] = found.place as u64;
+    answer[3..3 + figures.len()].copy_from_slice(figures);
+    found.number
+}
+
+/// Lets an entry write to copies of its outputs, which it takes over only where the answer fits.
+fn with_copies<T: Copy>(output: &mut [T], fits: bool, entry: impl FnOnce(&mut [T]) -> u32) -> u32 {
+    if fits {
+        return entry(output);
+    }
+    entry(&mut output.to_vec())
+}
+
+impl Entries for Plain {
+    fn name(&self) -> &'static str {
+        "plain"
+    }
+
+    fn check(&self, g: &Graph, answer: &mut [u64]) -> u32 {
+        give(plain::check(shape(g), &g.hops), &[], answer)
+    }
+
+    fn mark(&self, g: &Graph, marks: &mut [u8], answer: &mut [u64]) -> u32 {
+        with_copies(marks, answer.len() >= 3, |marks| give(plain::mark(shape(g), &g.hops, marks), &[], answer))
+    }
+
+    fn reduce(&self, g: &Graph, map: &mut [u16], short: &mut [u16], answer: &mut [u64]) -> u32 {
+        let fits = answer.len() >= 7;
+        with_copies(map, fits, |map| {
+            with_copies(short, fits, |short| {
+                let (found, s) = plain::reduce(shape(g), &g.hops, map, short);
+                give(found, &[s.states.into(), s.labels.into(), s.hops.into(), s.initial.into()], answer)
+            })
+        })
+    }
+
+    fn audit(&self, one: &Graph, two: &Graph, map: &[u16], answer: &mut [u64]) -> u32 {
+        let (found, faults) = plain::audit(shape(one), &one.hops, shape(two), &two.hops, map);
+        give(found, &[faults.into()], answer)
+    }
+
+    fn round(&self, g: &Graph, place: u64, rounds: u32, answer: &mut [u64]) -> u32 {
+        let (found, survives) = plain::round(shape(g), &g.hops, place, rounds);
+        give(found, &[survives.into()], answer)
+    }
+
+    fn hops_of(&self, side: u32, state: u32, one: &Graph, two: &Graph, answer: &mut [u64]) -> u32 {
+        if answer.len() < 2 {
+            return 6;
+        }
+        let part = plain::hops_of(side, state, shape(one), &one.hops, shape(two), &two.hops);
+        let list = if side == 2 { &two.hops } else { &one.hops };
+        let start = if part.is_empty() { 0 } else { (part.as_ptr() as usize - list.as_ptr() as usize) / 2 };
+        answer[0] = start as u64;
+        answer[1] = part.len() as u64;
+        0
+    }
+
+    fn read(&self, file: &[u8], hops: &mut [u16], answer: &mut [u64]) -> u32 {
+        with_copies(hops, answer.len() >= 9, |hops| {
+            let (found, c) = plain::read(file, hops);
+            let figures = [c.states.into(), c.labels.into(), c.initial.into(), c.hops.into(), c.names_place as u64, c.names_len as u64];
+            give(found, &figures, answer)
+        })
+    }
+
+    fn write(&self, g: &Graph, names: &[u8], out: &mut [u8], answer: &mut [u64]) -> u32 {
+        with_copies(out, answer.len() >= 4, |out| {
+            let (found, length) = plain::write(shape(g), &g.hops, names, out);
+            give(found, &[length as u64], answer)
+        })
+    }
+}
+
+/// The proved library, through the functions of its archive.
+#[cfg(feature = "library")]
+pub struct Library;
+
+#[cfg(feature = "library")]
+// SAFETY of every call: each pointer stands with the length of the slice it is of, and what is written to is borrowed alone.
+impl Entries for Library {
+    fn name(&self) -> &'static str {
+        "library"
+    }
+
+    fn check(&self, g: &Graph, answer: &mut [u64]) -> u32 {
+        unsafe { zundrafipo::ffi::zf_check(g.states, g.labels, g.initial, g.hops.as_ptr(), g.hops.len(), answer.as_mut_ptr(), answer.len()) }
+    }
+
+    fn mark(&self, g: &Graph, marks: &mut [u8], answer: &mut [u64]) -> u32 {
+        let (hops, len) = (g.hops.as_ptr(), g.hops.len());
+        let (out, out_len) = (marks.as_mut_ptr(), marks.len());
+        unsafe { zundrafipo::ffi::zf_mark(g.states, g.labels, g.initial, hops, len, out, out_len, answer.as_mut_ptr(), answer.len()) }
+    }
+
+    fn reduce(&self, g: &Graph, map: &mut [u16], short: &mut [u16], answer: &mut [u64]) -> u32 {
+        let (hops, len) = (g.hops.as_ptr(), g.hops.len());
+        let (map, map_len) = (map.as_mut_ptr(), map.len());
+        let (short, short_len) = (short.as_mut_ptr(), short.len());
+        let (answer, answer_len) = (answer.as_mut_ptr(), answer.len());
+        unsafe { zundrafipo::ffi::zf_reduce(g.states, g.labels, g.initial, hops, len, map, map_len, short, short_len, answer, answer_len) }
+    }
+
+    fn audit(&self, one: &Graph, two: &Graph, map: &[u16], answer: &mut [u64]) -> u32 {
+        unsafe {
+            zundrafipo::ffi::zf_audit(
+                one.states,
+                one.labels,
+                one.initial,
+                one.hops.as_ptr(),
+                one.hops.len(),
+                two.states,
+                two.labels,
+                two.initial,
+                two.hops.as_ptr(),
+                two.hops.len(),
+                map.as_ptr(),
+                map.len(),
+                answer.as_mut_ptr(),
+                answer.len(),
+            )
+        }
+    }
+
+    fn round(&self, g: &Graph, place: u64, rounds: u32, answer: &mut [u64]) -> u32 {
+        let (hops, len) = (g.hops.as_ptr(), g.hops.len());
+        unsafe { zundrafipo::ffi::zf_round(g.states, g.labels, g.initial, hops, len, place, rounds, answer.as_mut_ptr(), answer.len()) }
+    }
+
+    fn hops_of(&self, side: u32, state: u32, one: &Graph, two: &Graph, answer: &mut [u64]) -> u32 {
+        unsafe {
+            zundrafipo::ffi::zf_hops_of(
+                side,
+                state,
+                one.states,
+                one.labels,
+                one.initial,
+                one.hops.as_ptr(),
+                one.hops.len(),
+                two.states,
+                two.labels,
+                two.initial,
+                two.hops.as_ptr(),
+                two.hops.len(),
+                answer.as_mut_ptr(),
+                answer.len(),
+            )
+        }
+    }
+
+    fn read(&self, file: &[u8], hops: &mut [u16], answer: &mut [u64]) -> u32 {
+        unsafe { zundrafipo::ffi::zf_read(file.as_ptr(), file.len(), hops.as_mut_ptr(), hops.len(), answer.as_mut_ptr(), answer.len()) }
+    }
+
+    fn write(&self, g: &Graph, names: &[u8], out: &mut [u8], answer: &mut [u64]) -> u32 {
+        let (hops, len) = (g.hops.as_ptr(), g.hops.len());
+        let (names, names_len) = (names.as_ptr(), names.len());
+        let (out, out_len) = (out.as_mut_ptr(), out.len());
+        let (answer, answer_len) = (answer.as_mut_ptr(), answer.len());
+        unsafe { zundrafipo::ffi::zf_write(g.states, g.labels, g.initial, hops, len, names, names_len, out, out_len, answer, answer_len) }
+    }
+}

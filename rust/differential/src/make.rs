@@ -1,0 +1,242 @@
+//! Graphs, name blocks and files to compare on.
+
+use crate::random::Random;
+use differential::entries::Graph;
+use std::collections::BTreeSet;
+
+type Hops = BTreeSet<(u16, u16, u16)>;
+
+pub fn graph_of(states: usize, labels: usize, initial: usize, hops: &Hops) -> Graph {
+    let hops = hops.iter().take(4096).flat_map(|&(from, label, to)| [from, label, to]).collect();
+    Graph { states: states as u32, labels: labels as u32, initial: initial as u32, hops }
+}
+
+/// An admitted graph of at most so many states, labels and hops.
+pub fn graph(random: &mut Random, most_states: usize, most_labels: usize, most_hops: usize) -> Graph {
+    let states = random.between(1, most_states);
+    let labels = random.between(1, most_labels);
+    let wanted = random.between(0, most_hops);
+    let initial = random.below(states);
+    let hops = match random.below(5) {
+        0 => anything(random, states, labels, wanted),
+        1 => without_rings(random, states, labels, wanted),
+        2 | 3 => closing(random, states, labels, wanted),
+        _ => product(random, states, labels),
+    };
+    graph_of(states, labels, initial, &hops)
+}
+
+fn anything(random: &mut Random, states: usize, labels: usize, wanted: usize) -> Hops {
+    (0..wanted).map(|_| (random.below(states) as u16, random.below(labels) as u16, random.below(states) as u16)).collect()
+}
+
+/// An order of the states along which silent hops are to lead.
+fn order(random: &mut Random, states: usize) -> Vec<u16> {
+    let mut order: Vec<u16> = (0..states as u16).collect();
+    match random.below(4) {
+        0 => order.reverse(),
+        1 => {}
+        _ => {
+            for i in (1..states).rev() {
+                order.swap(i, random.below(i + 1));
+            }
+        }
+    }
+    order
+}
+
+fn without_rings(random: &mut Random, states: usize, labels: usize, wanted: usize) -> Hops {
+    let order = order(random, states);
+    let silent = random.between(10, 100);
+    // near ones only, or any
+    let reach = if random.percent(50) { 3.min(states) } else { states };
+    let mut hops = Hops::new();
+    for _ in 0..wanted {
+        if random.percent(silent) || labels == 1 {
+            let low = random.below(states);
+            let high = low + random.below(reach);
+            if low < high && high < states {
+                hops.insert((order[low], 0, order[high]));
+            }
+        } else {
+            hops.insert((random.below(states) as u16, random.between(1, labels - 1) as u16, random.below(states) as u16));
+        }
+    }
+    hops
+}
+
+/// A graph without rings in which many silent hops are closed by added hops.
+fn closing(random: &mut Random, states: usize, labels: usize, wanted: usize) -> Hops {
+    let order = order(random, states);
+    let mut rank = vec![0; states];
+    for (i, &state) in order.iter().enumerate() {
+        rank[usize::from(state)] = i;
+    }
+    let mut hops = Hops::new();
+    for hop in without_rings(random, states, labels, wanted / 3 + 1) {
+        let (from, label, to) = hop;
+        if label != 0 || rank[usize::from(from)] < rank[usize::from(to)] {
+            hops.insert(hop);
+        } else if from != to {
+            hops.insert((to, 0, from));
+        }
+    }
+    for _ in 0..random.between(1, 4) {
+        let now: Vec<_> = hops.iter().copied().collect();
+        for &(s1, label, s2) in now.iter().filter(|h| h.1 == 0) {
+            let start = now.partition_point(|h| h.0 < s1);
+            for &(_, a, s3) in now[start..].iter().take_while(|h| h.0 == s1) {
+                if (label, s2) == (a, s3) || hops.len() >= wanted.max(4) || random.percent(10) {
+                    continue;
+                }
+                if a != 0 {
+                    hops.insert((s2, a, s3));
+                } else if rank[usize::from(s2)] < rank[usize::from(s3)] {
+                    hops.insert((s2, 0, s3));
+                } else {
+                    hops.insert((s3, 0, s2));
+                }
+            }
+        }
+    }
+    hops
+}
+
+/// Two graphs side by side, the one with silent hops only: every silent hop of the one is answered in the other.
+fn product(random: &mut Random, states: usize, labels: usize) -> Hops {
+    let width = random.between(1, states);
+    let height = states / width;
+    let at = |x: usize, y: usize| (x * height + y) as u16;
+    let mut hops = Hops::new();
+    for x in 0..width {
+        for y in 0..height {
+            if y + 1 < height {
+                hops.insert((at(x, y), 0, at(x, y + 1)));
+            }
+            if labels > 1 && x + 1 < width {
+                hops.insert((at(x, y), 1 + (x % (labels - 1)) as u16, at(x + 1, y)));
+            }
+        }
+    }
+    if labels > 2 && random.percent(50) {
+        // a fault that spreads
+        hops.insert((random.below(states) as u16, 2, random.below(states) as u16));
+    }
+    hops
+}
+
+/// Numbers around each limit, and such as lose bits where a number is cut to 16.
+const ODD: [u32; 12] = [0, 1, 2, 1023, 1024, 1025, 65_535, 65_536, 65_537, 70_000, 0x8000_0000, u32::MAX];
+
+/// Breaks a graph in one place; it may stay admitted.
+pub fn damaged(random: &mut Random, g: &Graph) -> Graph {
+    let mut g = g.clone();
+    let count = g.hops.len() / 3;
+    match random.below(9) {
+        0 => g.states = random.pick(&ODD),
+        1 => g.labels = random.pick(&ODD),
+        2 => g.initial = if random.percent(50) { random.pick(&ODD) } else { g.states.wrapping_add(random.below(3) as u32).wrapping_sub(1) },
+        3 => g.hops.truncate(g.hops.len().saturating_sub(random.between(1, 2))),
+        4 => g.hops.push(random.below(4) as u16),
+        5 if count > 1 => {
+            let (i, j) = (random.below(count), random.below(count));
+            for k in 0..3 {
+                g.hops.swap(3 * i + k, 3 * j + k);
+            }
+        }
+        6 if count > 0 => {
+            let i = random.below(count);
+            let copy: Vec<u16> = g.hops[3 * i..3 * i + 3].to_vec();
+            g.hops.splice(3 * i..3 * i, copy);
+        }
+        _ if count > 0 => {
+            for _ in 0..random.between(1, 2) {
+                let i = random.below(g.hops.len());
+                g.hops[i] = match random.below(4) {
+                    0 => g.states as u16,
+                    1 => g.labels as u16,
+                    2 => random.next() as u16,
+                    _ => random.below(4) as u16,
+                };
+            }
+        }
+        _ => g.states = 0,
+    }
+    g
+}
+
+/// So many names, as a block: mostly different ones, or short ones from few bytes, so that some are the same; in some a length that is refused.
+pub fn block(random: &mut Random, names: usize, longest: usize) -> Vec<u8> {
+    let repeats = random.percent(20);
+    let odd = random.percent(10).then(|| random.below(names + 1));
+    let mut block = vec![];
+    for i in 0..names {
+        if odd == Some(i) {
+            let len = random.pick(&[0, 33, 34, 255]);
+            block.push(len);
+            block.extend(vec![b'x'; len.into()]);
+            continue;
+        }
+        let len = random.between(1, longest);
+        if repeats || longest < 3 {
+            block.push(len as u8);
+            block.extend((0..len).map(|_| random.below(3) as u8));
+        } else {
+            let len = len.max(3);
+            block.push(len as u8);
+            block.extend((2..len).map(|_| random.next() as u8));
+            block.extend((i as u16).to_be_bytes());
+        }
+    }
+    block
+}
+
+/// Breaks a block or file in a few places.
+pub fn damaged_bytes(random: &mut Random, bytes: &[u8]) -> Vec<u8> {
+    let mut bytes = bytes.to_vec();
+    for _ in 0..random.pick(&[1, 1, 1, 2, 3]) {
+        let len = bytes.len();
+        match random.below(7) {
+            0 | 1 if len > 0 => bytes[random.below(len)] ^= 1 << random.below(8),
+            2 => bytes.truncate(random.between(0, len)),
+            3 => {
+                let at = random.between(0, len);
+                let noise: Vec<u8> = (0..random.between(1, 3)).map(|_| random.next() as u8).collect();
+                bytes.splice(at..at, noise);
+            }
+            4 if len > 0 => {
+                let at = random.below(len);
+                bytes.remove(at);
+            }
+            5 if len > 0 => {
+                let at = random.below(len.min(12));
+                bytes[at] = random.pick(&[0, 1, 2, 4, 7, 8, 32, 33, 255]);
+            }
+            6 if len > 0 => {
+                let at = random.below(len);
+                bytes[at] = random.pick(&[0, 1, 32, 33, 255]);
+            }
+            _ => bytes.push(random.next() as u8),
+        }
+    }
+    bytes
+}
+
+/// The file of a graph and a block, without any check of either.
+pub fn file(g: &Graph, block: &[u8]) -> Vec<u8> {
+    let mut file = vec![u8::from(g.initial != 0) | u8::from(!g.hops.is_empty()) << 1 | u8::from(!block.is_empty()) << 2];
+    let put = |file: &mut Vec<u8>, number: u16| file.extend(number.to_le_bytes());
+    put(&mut file, g.states as u16);
+    put(&mut file, g.labels as u16);
+    if g.initial != 0 {
+        put(&mut file, g.initial as u16);
+    }
+    if !g.hops.is_empty() {
+        put(&mut file, (g.hops.len() / 3) as u16);
+        for &number in &g.hops {
+            put(&mut file, number);
+        }
+    }
+    file.extend(block);
+    file
+}

@@ -1,0 +1,496 @@
+//! What is compared.
+
+use crate::compare::{Comparer, Length};
+use crate::make;
+use differential::entries::Graph;
+use Length::{About, AtLeast, Exactly};
+
+fn graph(states: u32, labels: u32, hops: &[u16]) -> Graph {
+    Graph { states, labels, initial: 0, hops: hops.to_vec() }
+}
+
+/// P1 to P10, and the examples of the limits.
+pub fn worked(c: &mut Comparer) {
+    let p1 = [0, 0, 1, 0, 1, 2, 1, 1, 3, 2, 0, 3];
+    let p10 = [0, 0, 1, 0, 1, 2, 1, 1, 3, 2, 0, 3, 2, 2, 4];
+    let graphs = [
+        graph(4, 2, &p1),
+        graph(4, 2, &p1[..9]),
+        graph(3, 1, &[0, 0, 1, 0, 0, 2]),
+        graph(3, 1, &[0, 0, 1, 0, 0, 2, 1, 0, 2]),
+        graph(5, 2, &[0, 0, 1, 0, 0, 2, 1, 0, 3, 1, 1, 4, 2, 0, 3]),
+        graph(2, 2, &[0, 0, 1, 0, 1, 0, 1, 1, 1]),
+        graph(1, 1, &[0, 0, 0]),
+        graph(3, 1, &[0, 0, 1, 1, 0, 2, 2, 0, 1]),
+        graph(5, 3, &p10),
+    ];
+    c.answer_len = Some(9);
+    for g in &graphs {
+        whole(c, g);
+    }
+    let map = [0, 0, 1, 1];
+    for hops in [&[0, 1, 1][..], &[], &[0, 1, 1, 1, 1, 1]] {
+        c.audit(&graphs[0], &graph(2, 2, hops), &map);
+    }
+    c.audit(&graph(3, 2, &[0, 0, 1, 1, 0, 2, 2, 1, 2]), &graph(2, 2, &[0, 0, 1, 0, 1, 0, 1, 0, 0]), &[0, 1, 0]);
+    c.answer_len = None;
+}
+
+/// Every entry over one graph, with outputs of every length around the needed one and every round question.
+fn whole(c: &mut Comparer, g: &Graph) {
+    let (states, numbers) = (g.states as usize, g.hops.len());
+    let hops = numbers / 3;
+    c.check(g);
+    for len in 0..=hops + 2 {
+        c.mark(g, Exactly(len));
+    }
+    for len in 0..=states + 2 {
+        c.reduce(g, Exactly(len), AtLeast(numbers));
+    }
+    for len in 0..=numbers + 2 {
+        c.reduce(g, AtLeast(states), Exactly(len));
+    }
+    for place in 0..=hops as u64 + 1 {
+        for rounds in 0..=6 {
+            c.round(g, place, rounds);
+        }
+    }
+    let file = make::file(g, &[]);
+    for len in 0..=file.len() + 2 {
+        c.write(g, &[], Exactly(len));
+    }
+    for len in 0..=numbers + 2 {
+        c.read(&file, Exactly(len));
+    }
+}
+
+/// All graphs of up to 2 states and 2 labels, every map between any two of them, and short lists in any order.
+pub fn all_small(c: &mut Comparer) {
+    let mut graphs = vec![];
+    for states in 1..=2u16 {
+        for labels in 1..=2u16 {
+            let all: Vec<[u16; 3]> = (0..states).flat_map(|s| (0..labels).flat_map(move |a| (0..states).map(move |t| [s, a, t]))).collect();
+            for chosen in 0..1u32 << all.len() {
+                let hops: Vec<u16> = (0..all.len()).filter(|i| chosen >> i & 1 == 1).flat_map(|i| all[i]).collect();
+                for initial in 0..=states.into() {
+                    let g = Graph { states: states.into(), labels: labels.into(), initial, hops: hops.clone() };
+                    whole(c, &g);
+                    let block = make::block(&mut c.random, usize::from(labels) - 1, 3);
+                    c.write(&g, &block, About(8 + 2 * hops.len() + block.len()));
+                    if initial < states.into() {
+                        graphs.push(g);
+                    }
+                }
+            }
+        }
+    }
+    for one in &graphs {
+        for two in &graphs {
+            for code in 0..two.states.pow(one.states) {
+                let map: Vec<u16> = (0..one.states).map(|s| (code / two.states.pow(s) % two.states) as u16).collect();
+                c.audit(one, two, &map);
+            }
+            let (side, state) = (c.random.below(4) as u32, c.random.below(3) as u32);
+            c.hops_of(side, state, one, two);
+        }
+        // every map of a wrong length or with a wrong entry
+        let two = graphs[c.random.below(graphs.len())].clone();
+        for len in 0..=3 {
+            for code in 0..3usize.pow(len) {
+                let map: Vec<u16> = (0..len).map(|i| (code / 3usize.pow(i) % 3) as u16).collect();
+                c.audit(one, &two, &map);
+            }
+        }
+        for side in 0..=3 {
+            for state in 0..=3 {
+                c.hops_of(side, state, one, &two);
+            }
+        }
+    }
+    for len in 0..=6u32 {
+        for code in 0..3usize.pow(len) {
+            let hops: Vec<u16> = (0..len).map(|i| (code / 3usize.pow(i) % 3) as u16).collect();
+            for initial in 0..=2 {
+                let g = Graph { states: 2, labels: 2, initial, hops: hops.clone() };
+                c.check(&g);
+                c.mark(&g, About(2));
+                c.reduce(&g, About(2), About(6));
+                c.write(&g, &[], About(20));
+            }
+        }
+    }
+}
+
+/// Answers from nothing to two too many, over accepted and refused calls.
+pub fn answers(c: &mut Comparer) {
+    for g in
+        [graph(4, 2, &[0, 0, 1, 0, 1, 2, 1, 1, 3, 2, 0, 3]), graph(2, 1, &[0, 0, 1, 1, 0, 0]), graph(0, 1, &[]), graph(3, 2, &[1, 0, 2, 0, 0, 1])]
+    {
+        let file = make::file(&g, &[]);
+        for len in 0..=11 {
+            c.answer_len = Some(len);
+            c.check(&g);
+            for short in [g.hops.len(), g.hops.len().saturating_sub(1)] {
+                c.mark(&g, Exactly(short / 3));
+                c.reduce(&g, Exactly(g.states as usize), Exactly(short));
+                c.read(&file, Exactly(short));
+            }
+            c.audit(&g, &g, &[0, 1, 2, 3]);
+            c.audit(&g, &g, &[0, 1]);
+            for place in 0..3 {
+                c.round(&g, place, 1);
+                c.round(&g, place, 5);
+            }
+            c.hops_of(1, 0, &g, &g);
+            c.hops_of(1, 9, &g, &g);
+            c.write(&g, &[], Exactly(31));
+            c.write(&g, &[], Exactly(30));
+            c.write(&g, &[1, 7], Exactly(33));
+        }
+    }
+    c.answer_len = None;
+}
+
+/// Random small graphs, admitted ones and broken ones.
+pub fn small(c: &mut Comparer, count: usize) {
+    for _ in 0..count {
+        let mut g = make::graph(&mut c.random, 7, 4, 16);
+        if c.random.percent(25) {
+            g = make::damaged(&mut c.random, &g);
+        }
+        every_entry(c, &g, 7);
+    }
+}
+
+/// Every entry over one graph, each once or a few times.
+fn every_entry(c: &mut Comparer, g: &Graph, other_states: usize) {
+    let hops = g.hops.len() / 3;
+    let states = (g.states as usize).min(1030);
+    c.check(g);
+    c.mark(g, About(hops));
+    let (map_len, short_len) = if c.random.percent(50) { (AtLeast(states), AtLeast(g.hops.len())) } else { (About(states), About(g.hops.len())) };
+    let reduced = c.reduce(g, map_len, short_len);
+    for _ in 0..3 {
+        let place = if c.random.percent(90) { c.random.below(hops + 1) as u64 } else { c.random.next() };
+        let rounds = if c.random.percent(90) { c.random.below(5) as u32 } else { c.random.next() as u32 };
+        c.round(g, place, rounds);
+    }
+    if let Some((short, map)) = reduced {
+        let answer = c.audit(g, &short, &map);
+        assert_eq!(answer.numbers(), [0, 1, 0, 0], "what reduce left has no faults");
+        audits_about(c, g, &short, &map);
+    }
+    let mut other = make::graph(&mut c.random, other_states, (g.labels as usize).clamp(1, 1024), hops.min(4096));
+    if c.random.percent(90) {
+        other.labels = g.labels;
+    }
+    if c.random.percent(10) {
+        other = make::damaged(&mut c.random, &other);
+    }
+    let most = (other.states as usize).clamp(1, 1030);
+    let map: Vec<u16> = (0..states).map(|_| c.random.below(most) as u16).collect();
+    audits_about(c, g, &other, &map);
+    let (side, state) = (c.random.between(1, 2) as u32, c.random.below(states + 2) as u32);
+    c.hops_of(side, state, g, &other);
+    let (side, state) = (c.random.below(4) as u32, c.random.next() as u32);
+    c.hops_of(side, state, g, &other);
+}
+
+/// An audit, and others with the map or a graph altered in a place.
+fn audits_about(c: &mut Comparer, one: &Graph, two: &Graph, map: &[u16]) {
+    c.audit(one, two, map);
+    let mut other = map.to_vec();
+    match c.random.below(4) {
+        0 => {
+            other.pop();
+        }
+        1 => other.push(c.random.below(3) as u16),
+        _ if !other.is_empty() => {
+            let at = c.random.below(other.len());
+            other[at] = if c.random.percent(50) { c.random.below(two.states as usize + 1) as u16 } else { c.random.next() as u16 };
+        }
+        _ => {}
+    }
+    c.audit(one, two, &other);
+    let altered = make::damaged(&mut c.random, two);
+    c.audit(one, &altered, map);
+    if two.hops.len() >= 3 {
+        let mut fewer = two.clone();
+        let at = 3 * c.random.below(two.hops.len() / 3);
+        fewer.hops.drain(at..at + 3);
+        c.audit(one, &fewer, map);
+    }
+}
+
+/// Random files and name blocks, whole ones and broken ones.
+pub fn files(c: &mut Comparer, count: usize) {
+    for i in 0..count {
+        let mut g = make::graph(&mut c.random, 6, 5, 12);
+        if c.random.percent(10) {
+            g = make::damaged(&mut c.random, &g);
+        }
+        let names = match c.random.below(8) {
+            0 | 1 => 0,
+            2 => c.random.below(6),
+            _ => (g.labels as usize).clamp(1, 6) - 1,
+        };
+        let longest = c.random.pick(&[1, 2, 4, 32]);
+        let mut block = make::block(&mut c.random, names, longest);
+        let mut file = make::file(&g, &block);
+        match i % 4 {
+            0 => {}
+            3 => {
+                file = (0..c.random.below(24)).map(|_| if c.random.percent(60) { c.random.below(5) as u8 } else { c.random.next() as u8 }).collect();
+                if let Some(first) = file.first_mut() {
+                    *first &= 7;
+                }
+            }
+            _ => file = make::damaged_bytes(&mut c.random, &file),
+        }
+        let answer = c.read(&file, About(g.hops.len()));
+        if answer.number == 0 {
+            written_again(c, &file);
+        }
+        if c.random.percent(30) {
+            block = make::damaged_bytes(&mut c.random, &block);
+        }
+        let needed = make::file(&g, &block).len();
+        c.write(&g, &block, About(needed));
+    }
+}
+
+/// "A file read and written again has the same bytes".
+fn written_again(c: &mut Comparer, file: &[u8]) {
+    let (answer, hops) = checker::read(file, &vec![0; 12_288]);
+    assert_eq!(answer.number, 0, "a file that was accepted");
+    let figures = answer.figures;
+    let g =
+        Graph { states: figures[0] as u32, labels: figures[1] as u32, initial: figures[2] as u32, hops: hops[..3 * figures[3] as usize].to_vec() };
+    let block = &file[figures[4] as usize..(figures[4] + figures[5]) as usize];
+    let answer = c.write(&g, block, Exactly(file.len()));
+    assert_eq!(answer.figures, [file.len() as u64], "the same length again");
+    assert_eq!(checker::write(&g.lent(), block, &vec![0; file.len()]).1, file, "the same bytes again");
+}
+
+/// Some files cut at each byte, with every value of byte 0 and every value of every byte in front of the hops.
+pub fn every_damage(c: &mut Comparer) {
+    for round in 0..40 {
+        let g = make::graph(&mut c.random, 6, 5, 8);
+        let names = g.labels as usize - 1;
+        let block = if round % 2 == 0 { make::block(&mut c.random, names, 4) } else { vec![] };
+        let file = make::file(&g, &block);
+        for end in 0..file.len() {
+            c.read(&file[..end], About(g.hops.len()));
+            let mut longer = file.clone();
+            longer.insert(end, c.random.next() as u8);
+            c.read(&longer, About(g.hops.len()));
+            for bit in 0..8 {
+                let mut flipped = file.clone();
+                flipped[end] ^= 1 << bit;
+                c.read(&flipped, About(g.hops.len()));
+            }
+        }
+        for at in 0..file.len().min(9) {
+            for value in 0..=255 {
+                let mut other = file.clone();
+                other[at] = value;
+                c.read(&other, AtLeast(g.hops.len()));
+            }
+        }
+        for end in 0..block.len() {
+            c.write(&g, &block[..end], About(file.len()));
+            for value in [0, 1, 32, 33, 255] {
+                let mut other = block.clone();
+                other[end] = value;
+                c.write(&g, &other, About(file.len()));
+            }
+        }
+    }
+}
+
+/// Random large graphs up to the limits.
+pub fn large(c: &mut Comparer, count: usize) {
+    for i in 0..count {
+        let (states, labels, hops) = match i % 4 {
+            0 => (1024, 3, 4096),
+            1 => (1024, 1024, 4096),
+            2 => (200, 4, 4096),
+            _ => (1024, 1, 2000),
+        };
+        let mut g = make::graph(&mut c.random, states, labels, hops);
+        if i % 10 == 9 {
+            g = make::damaged(&mut c.random, &g);
+        }
+        every_entry(c, &g, states);
+        let names = (g.labels as usize).clamp(1, 1024) - 1;
+        let longest = c.random.pick(&[2, 5, 32]);
+        let block = if i % 3 == 0 { vec![] } else { make::block(&mut c.random, names, longest) };
+        let file = make::file(&g, &block);
+        c.write(&g, &block, About(file.len()));
+        if c.read(&file, About(g.hops.len())).number == 0 {
+            written_again(c, &file);
+        }
+        for _ in 0..3 {
+            let broken = make::damaged_bytes(&mut c.random, &file);
+            c.read(&broken, About(g.hops.len()));
+            let broken = make::damaged_bytes(&mut c.random, &block);
+            c.write(&g, &broken, About(file.len()));
+        }
+    }
+}
+
+fn flat(hops: impl Iterator<Item = [u16; 3]>) -> Vec<u16> {
+    hops.flatten().collect()
+}
+
+/// Graphs of the full size: chains, one class, the most faults, one more than is allowed.
+pub fn limits(c: &mut Comparer) {
+    let full = |states, labels, hops| Graph { states, labels, initial: states - 1, hops };
+    let chain = full(1024, 1, flat((0..1023).map(|s| [s, 0, s + 1])));
+    let chain_down = full(1024, 1, flat((1..1024).map(|s| [s, 0, s - 1])));
+    let ring = full(1024, 1, flat((0..1024).map(|s| [s, 0, (s + 1) % 1024])));
+    let late_ring = full(1024, 1, flat((0..1024).map(|s| if s == 1023 { [s, 0, 1022] } else { [s, 0, s + 1] })));
+    let class = full(1024, 2, flat((0..1024).flat_map(|s| (1..=4).filter_map(move |d| (s + d < 1024).then_some([s, 0, s + d])))));
+    let one_label =
+        full(1024, 2, flat((0..1024).flat_map(|s| (0..4).map(move |d| [s, 1, (s + 7 * d) % 1024]).collect::<std::collections::BTreeSet<_>>())));
+    let dense = full(91, 1, flat((0..91).flat_map(|s| (s + 1..91).map(move |t| [s, 0, t]))));
+    let many_labels = full(4, 1024, flat((0..4).flat_map(|s| (0..1024).map(move |a| [s, a, 3]))));
+    let rounds = round_graph(64);
+    for g in [chain, chain_down, ring, late_ring, class, one_label, dense, many_labels, rounds] {
+        every_entry(c, &g, 1024);
+        every_entry(c, &g, 3);
+        for _ in 0..20 {
+            let place = c.random.below(g.hops.len() / 3) as u64;
+            c.round(&g, place, 4);
+        }
+        let file = make::file(&g, &[]);
+        c.write(&g, &[], About(file.len()));
+        c.read(&file, About(g.hops.len()));
+    }
+    let hops: Vec<u16> = flat((0..4097u16).map(|i| [i / 4, 1, i % 4]));
+    for count in [4095, 4096, 4097] {
+        for states in [1023, 1024, 1025] {
+            for labels in [1, 2, 1024, 1025] {
+                let g = Graph { states, labels, initial: 0, hops: hops[..3 * count].to_vec() };
+                c.check(&g);
+                c.mark(&g, About(count));
+                c.reduce(&g, About(states as usize), About(3 * count));
+                c.round(&g, 0, 1);
+                c.write(&g, &[], About(24_600));
+                c.read(&make::file(&g, &[]), About(3 * count));
+            }
+        }
+    }
+    for extra in [1, 2, 3] {
+        let mut g = full(1024, 2, hops[..3 * 4096].to_vec());
+        g.hops.extend(vec![0; extra]);
+        c.check(&g);
+        c.mark(&g, About(4096));
+    }
+    let g = Graph { states: 3, labels: 1, initial: 0, hops: vec![0; 200_000] };
+    c.check(&g);
+    c.mark(&g, About(70_000));
+    // every hop and every pair of a hop and a state is a fault, and so are the initial states
+    let one = full(1024, 6, hops[..3 * 4096].to_vec());
+    let two = Graph { states: 1024, labels: 6, initial: 1, hops: flat((0..4096u16).map(|i| [0, 2 + i / 1024, i % 1024])) };
+    assert_eq!(c.audit(&one, &two, &[0; 1024]).figures, [4_198_401]);
+    c.audit(&one, &two, &vec![0; 70_000]);
+}
+
+/// A graph of `states` states with silent hops between most of them, in which most closings fail late.
+fn round_graph(states: u16) -> Graph {
+    let hops = flat((0..states).flat_map(|s| (0..states).filter(move |&t| s != t && (s * 7 + t * 3) % 64 != 1).map(move |t| [s, 0, t])).take(4096));
+    Graph { states: states.into(), labels: 1, initial: 0, hops }
+}
+
+/// Files around the longest length, with counts over the limits and more names than labels can have.
+pub fn large_files(c: &mut Comparer) {
+    let mut read = |file: &[u8]| {
+        c.read(file, About(12));
+    };
+    for first in [0, 7, 8, 255] {
+        for len in [58_343, 58_344, 58_345, 70_000] {
+            let mut file = vec![0; len];
+            file[0] = first;
+            read(&file);
+        }
+    }
+    // counts of 65,535, with too little, just enough and too much behind them
+    for map in 0..8u8 {
+        read(&[map, 255, 255, 255, 255, 255, 255, 255, 255]);
+        let mut file = vec![map, 255, 255, 255, 255, 255, 255];
+        file.resize(58_344, 1);
+        read(&file);
+    }
+    for count in [9_721, 9_722, 9_723u16] {
+        let mut file = vec![2, 4, 0, 2, 0];
+        file.extend(count.to_le_bytes());
+        file.resize(7 + 6 * usize::from(count).min(9_722), 0);
+        read(&file);
+    }
+    // names of length 0, as many as a file holds
+    let mut file = vec![4, 1, 0];
+    file.extend(58_340u16.to_le_bytes());
+    file.resize(58_344, 0);
+    read(&file);
+    // names of length 255 and 33
+    for len in [255u8, 33] {
+        for count in [1, 2, 200u16] {
+            let mut file = vec![4, 1, 0];
+            file.extend((count + 1).to_le_bytes());
+            for i in 0..count {
+                file.push(len);
+                file.extend(i.to_le_bytes());
+                file.extend(vec![7; usize::from(len) - 2]);
+            }
+            read(&file);
+            read(&file[..file.len() - 1]);
+        }
+    }
+    // the most names: all of one byte, then of two; all different, and with the last one repeated
+    let mut file = vec![4, 1, 0];
+    file.extend(19_532u16.to_le_bytes());
+    for i in 0..256 {
+        file.extend([1, i as u8]);
+    }
+    for i in 0..19_275u16 {
+        file.push(2);
+        file.extend(i.to_le_bytes());
+    }
+    read(&file);
+    let last = file.len() - 2;
+    file[last] = 0;
+    file[last + 1] = 0;
+    read(&file);
+    // the longest legal file, one byte less and one more
+    let hops = flat((0..4096u16).map(|i| [i / 4, 1023, i % 4]));
+    let g = Graph { states: 1024, labels: 1024, initial: 1023, hops };
+    let mut block = vec![];
+    for label in 1..1024u16 {
+        block.push(32);
+        block.extend([0; 30]);
+        block.extend(label.to_be_bytes());
+    }
+    let file = make::file(&g, &block);
+    assert_eq!(file.len(), 58_344, "the longest file");
+    for len in [58_343, 58_344, 58_345] {
+        c.write(&g, &block, Exactly(len));
+    }
+    for len in [12_287, 12_288, 12_289] {
+        c.read(&file, Exactly(len));
+    }
+    c.read(&file[..58_343], Exactly(12_288));
+    c.read(&[&file[..], &[0]].concat(), Exactly(12_288));
+    written_again(c, &file);
+    // a block of 1,023 names of length 255, and one longer
+    let mut block: Vec<u8> = vec![];
+    for label in 1..1024u16 {
+        block.push(255);
+        block.extend([0; 253]);
+        block.extend(label.to_be_bytes());
+    }
+    c.write(&g, &block, About(58_344));
+    c.write(&g, &block[..block.len() - 1], About(58_344));
+    block.push(9);
+    c.write(&g, &block, About(58_344));
+}

@@ -1,0 +1,82 @@
+//! The safe wrappers over the archive against the checker.
+
+use crate::compare::Comparer;
+use crate::make;
+use differential::entries::Graph;
+use zundrafipo::Refusal;
+
+fn lent(g: &Graph) -> zundrafipo::Graph {
+    zundrafipo::Graph::new(g.states, g.labels, g.initial, g.hops.clone())
+}
+
+/// The figures of an accepted answer, or the refusal.
+fn split(answer: checker::Answer) -> Result<Vec<u64>, Refusal> {
+    match answer.number {
+        0 => Ok(answer.figures),
+        number => Err(Refusal { number: number as u32, table: answer.table, place: answer.place }),
+    }
+}
+
+pub fn wrappers(c: &mut Comparer, count: usize) {
+    for i in 0..count {
+        let mut g = if i % 50 == 0 { make::graph(&mut c.random, 300, 4, 900) } else { make::graph(&mut c.random, 7, 4, 16) };
+        if c.random.percent(25) {
+            g = make::damaged(&mut c.random, &g);
+        }
+        one_graph(c, &g);
+        c.calls += 8;
+    }
+}
+
+fn one_graph(c: &mut Comparer, g: &Graph) {
+    let graph = lent(g);
+    let hops = g.hops.len() / 3;
+    assert_eq!(graph.check(), split(checker::check(&g.lent())).map(|_| ()), "check of {g:?}");
+
+    let (answer, marks) = checker::mark(&g.lent(), &vec![0; hops]);
+    assert_eq!(graph.mark(), split(answer).map(|_| marks.iter().map(|&m| m == 1).collect()), "mark of {g:?}");
+
+    let (answer, map, short) = checker::reduce(&g.lent(), &vec![0; (g.states as usize).min(1024)], &vec![0; g.hops.len()]);
+    let expected = split(answer).map(|figures| zundrafipo::Reduction {
+        graph: zundrafipo::Graph::new(figures[0] as u32, figures[1] as u32, figures[3] as u32, short[..3 * figures[2] as usize].to_vec()),
+        map,
+    });
+    assert_eq!(graph.reduce(), expected, "reduce of {g:?}");
+
+    let mut other = make::graph(&mut c.random, 5, (g.labels as usize).clamp(1, 9), 12);
+    if c.random.percent(80) {
+        other.labels = g.labels;
+    }
+    let most = other.states as usize + usize::from(c.random.percent(10));
+    let map: Vec<u16> = (0..g.states.min(1030)).map(|_| c.random.below(most) as u16).collect();
+    let expected = split(checker::audit(&g.lent(), &other.lent(), &map)).map(|figures| zundrafipo::Audit { faults: figures[0] });
+    assert_eq!(graph.audit(&lent(&other), &map), expected, "audit of {g:?} and {other:?} by {map:?}");
+
+    let (place, rounds) = (c.random.below(hops + 1) as u64, c.random.below(6) as u32);
+    let expected = split(checker::round(&g.lent(), place, rounds.into())).map(|figures| figures[0] == 1);
+    assert_eq!(graph.survives(place, rounds), expected, "{rounds} rounds of the hop at {place} of {g:?}");
+
+    let (side, state) = (c.random.below(4) as u32, c.random.below(8) as u32);
+    let (start, length) = checker::hops_of(side.into(), state.into(), &g.lent(), &other.lent());
+    let list = if side == 2 { &other.hops } else { &g.hops };
+    let two = lent(&other);
+    let part = zundrafipo::hops_of(side, state, &graph, &two);
+    assert_eq!(part, &list[start as usize..(start + length) as usize], "hops of {state} on side {side} of {g:?} and {other:?}");
+
+    let names = if c.random.percent(50) { 0 } else { (g.labels as usize).clamp(1, 9) - 1 };
+    let block = make::block(&mut c.random, names, 4);
+    let (answer, out) = checker::write(&g.lent(), &block, &vec![0; 58_344]);
+    let expected = split(answer).map(|figures| out[..figures[0] as usize].to_vec());
+    assert_eq!(graph.write(&block), expected, "write of {g:?} with {block:?}");
+
+    let mut file = make::file(g, &block);
+    if c.random.percent(50) {
+        file = make::damaged_bytes(&mut c.random, &file);
+    }
+    let (answer, hops) = checker::read(&file, &vec![0; 12_288]);
+    let expected = split(answer).map(|f| zundrafipo::File {
+        graph: zundrafipo::Graph::new(f[0] as u32, f[1] as u32, f[2] as u32, hops[..3 * f[3] as usize].to_vec()),
+        name_block: &file[f[4] as usize..(f[4] + f[5]) as usize],
+    });
+    assert_eq!(zundrafipo::read(&file), expected, "read of {file:?}");
+}

@@ -1,0 +1,78 @@
+use crate::rings::reach;
+use crate::{check, find, hop_at, hop_count, refuse, Answer, Shape, ACCEPTED};
+
+/// The entry audit, with the fault count.
+pub fn audit(shape1: Shape, hops1: &[u16], shape2: Shape, hops2: &[u16], map: &[u16]) -> (Answer, u32) {
+    let answer = admitted(shape1, hops1, shape2, hops2, map);
+    if answer.number != 0 {
+        return (answer, 0);
+    }
+    (answer, initial_fault(shape1, shape2, map) + lost(hops1, hops2, map) + made_up(shape1, hops1, hops2, map))
+}
+
+pub(crate) fn admitted(shape1: Shape, hops1: &[u16], shape2: Shape, hops2: &[u16], map: &[u16]) -> Answer {
+    let one = check(shape1, hops1);
+    if one.number != 0 {
+        return one;
+    }
+    let two = check(shape2, hops2);
+    if two.number != 0 {
+        return Answer { table: 2, ..two };
+    }
+    if shape1.labels != shape2.labels {
+        return refuse(7, 0);
+    }
+    if map.len() != shape1.states as usize {
+        return refuse(8, map.len());
+    }
+    match map.iter().position(|&m| u32::from(m) >= shape2.states) {
+        Some(entry) => refuse(8, entry),
+        None => ACCEPTED,
+    }
+}
+
+pub(crate) fn initial_fault(shape1: Shape, shape2: Shape, map: &[u16]) -> u32 {
+    u32::from(u32::from(map[shape1.initial as usize]) != shape2.initial)
+}
+
+/// The hops of graph 1 that graph 2 does not match.
+pub(crate) fn lost(hops1: &[u16], hops2: &[u16], map: &[u16]) -> u32 {
+    let mut faults = 0;
+    for place in 0..hop_count(hops1) {
+        let (from, label, to) = hop_at(hops1, place);
+        let (s, t) = (map[usize::from(from)], map[usize::from(to)]);
+        if !(label == 0 && s == t) && find(hops2, (s, label, t)).is_none() {
+            faults += 1;
+        }
+    }
+    faults
+}
+
+/// The pairs of a hop of graph 2 and a state of graph 1 that nothing answers: from each state the silent hops are followed, and the hops of the states that are met
+/// stamp hops of graph 2.
+fn made_up(shape1: Shape, hops1: &[u16], hops2: &[u16], map: &[u16]) -> u32 {
+    let states = shape1.states as usize;
+    let mut seen = [false; 1024];
+    let mut queue = [0; 1024];
+    let mut stamps = [0u16; 4096];
+    let mut faults = 0;
+    for state in 0..states as u16 {
+        reach(states, hops1, state, &mut seen, &mut queue);
+        let r = map[usize::from(state)];
+        let stamp = state + 1;
+        for hop in hops1.chunks_exact(3) {
+            let u = usize::from(hop[0]);
+            if seen[u] && map[u] == r {
+                if let Some(place) = find(hops2, (r, hop[1], map[usize::from(hop[2])])) {
+                    stamps[place] = stamp;
+                }
+            }
+        }
+        for (hop, &stamped) in hops2.chunks_exact(3).zip(&stamps) {
+            if hop[0] == r && !((hop[1] == 0 && hop[2] == r) || stamped == stamp) {
+                faults += 1;
+            }
+        }
+    }
+    faults
+}

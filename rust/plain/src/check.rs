@@ -1,0 +1,42 @@
+use crate::{first_places, hop_at, hop_count, places, refuse, Answer, Shape, ACCEPTED, MOST_HOPS, MOST_LABELS, MOST_STATES};
+
+/// The entry check: one pass for 3, one for 4.
+pub fn check(shape: Shape, hops: &[u16]) -> Answer {
+    let states_fit = (1..=MOST_STATES as u32).contains(&shape.states);
+    let labels_fit = (1..=MOST_LABELS as u32).contains(&shape.labels);
+    if !states_fit || !labels_fit || hops.len() % 3 != 0 || hop_count(hops) > MOST_HOPS {
+        return refuse(1, 0);
+    }
+    if shape.initial >= shape.states {
+        return refuse(2, 0);
+    }
+    let (states, labels) = (shape.states as u16, shape.labels as u16);
+    for (place, hop) in hops.chunks_exact(3).enumerate() {
+        if hop[0] >= states || hop[1] >= labels || hop[2] >= states {
+            return refuse(3, place);
+        }
+    }
+    for place in 1..hop_count(hops) {
+        if hop_at(hops, place - 1) >= hop_at(hops, place) {
+            return refuse(4, place);
+        }
+    }
+    ACCEPTED
+}
+
+/// The outgoing hops of a state, as a part of that side's list.
+pub fn hops_of<'a>(side: u32, state: u32, shape1: Shape, hops1: &'a [u16], shape2: Shape, hops2: &'a [u16]) -> &'a [u16] {
+    if check(shape1, hops1).number != 0 || check(shape2, hops2).number != 0 {
+        return &[];
+    }
+    let (shape, hops) = match side {
+        1 => (shape1, hops1),
+        2 => (shape2, hops2),
+        _ => return &[],
+    };
+    if state >= shape.states {
+        return &[];
+    }
+    let range = places(&first_places(shape.states as usize, hops), state as u16);
+    &hops[3 * range.start..3 * range.end]
+}

@@ -1,0 +1,199 @@
+use crate::{check, refuse, Answer, Contents, Shape, ACCEPTED, LONGEST_FILE};
+
+fn number_at(bytes: &[u8], place: usize) -> u16 {
+    u16::from_le_bytes([bytes[place], bytes[place + 1]])
+}
+
+/// Where the contents of a file stand; `None` where it ends before them.
+struct Layout {
+    states: u16,
+    labels: u16,
+    initial: u16,
+    hops_place: usize,
+    hops: usize,
+    names_place: usize,
+    end: usize,
+    /// A bit stands over a field that holds what absence means.
+    idle_bit: bool,
+}
+
+fn layout(file: &[u8]) -> Option<Layout> {
+    if file.len() < 5 {
+        return None;
+    }
+    let (states, labels) = (number_at(file, 1), number_at(file, 3));
+    let mut at = 5;
+    let mut idle_bit = false;
+    let mut initial = 0;
+    if file[0] & 1 != 0 {
+        if file.len() - at < 2 {
+            return None;
+        }
+        initial = number_at(file, at);
+        idle_bit |= initial == 0;
+        at += 2;
+    }
+    let mut hops = 0;
+    let mut hops_place = at;
+    if file[0] & 2 != 0 {
+        if file.len() - at < 2 {
+            return None;
+        }
+        hops = usize::from(number_at(file, at));
+        idle_bit |= hops == 0;
+        hops_place = at + 2;
+        if file.len() - hops_place < 6 * hops {
+            return None;
+        }
+        at = hops_place + 6 * hops;
+    }
+    let names_place = at;
+    if file[0] & 4 != 0 {
+        idle_bit |= labels <= 1;
+        at = skip_names(file, at, labels.into())?;
+    }
+    Some(Layout { states, labels, initial, hops_place, hops, names_place, end: at, idle_bit })
+}
+
+/// The place behind the names for labels 1 upward; `None` where the bytes end before it.
+fn skip_names(bytes: &[u8], mut at: usize, labels: usize) -> Option<usize> {
+    for _ in 1..labels {
+        if at >= bytes.len() {
+            return None;
+        }
+        at += 1 + usize::from(bytes[at]);
+        if at > bytes.len() {
+            return None;
+        }
+    }
+    Some(at)
+}
+
+/// The first bad name of the names that fill `bytes[start..end]`.
+fn first_bad_name(bytes: &[u8], start: usize, end: usize) -> Option<usize> {
+    let mut earlier: Vec<u32> = vec![];
+    let mut at = start;
+    while at < end {
+        let len = bytes[at];
+        if len == 0 || len > 32 || earlier.iter().any(|&place| same_name(bytes, place as usize, at)) {
+            return Some(at);
+        }
+        earlier.push(at as u32);
+        at += 1 + usize::from(len);
+    }
+    None
+}
+
+/// The names at two places are the same. Lengths are compared before bytes.
+fn same_name(bytes: &[u8], one: usize, two: usize) -> bool {
+    let len = usize::from(bytes[two]);
+    bytes[one] == bytes[two] && same(&bytes[one + 1..one + 1 + len], &bytes[two + 1..two + 1 + len])
+}
+
+fn same(one: &[u8], two: &[u8]) -> bool {
+    let mut i = 0;
+    while i < two.len() {
+        if one[i] != two[i] {
+            return false;
+        }
+        i += 1;
+    }
+    true
+}
+
+/// The entry file read.
+pub fn read(file: &[u8], hops: &mut [u16]) -> (Answer, Contents) {
+    match admitted(file) {
+        Err(refusal) => (refusal, Contents::default()),
+        Ok((_, list)) if hops.len() < list.len() => (refuse(6, 0), Contents::default()),
+        Ok((contents, list)) => {
+            hops[..list.len()].copy_from_slice(&list);
+            (ACCEPTED, contents)
+        }
+    }
+}
+
+fn admitted(file: &[u8]) -> Result<(Contents, Vec<u16>), Answer> {
+    if file.len() > LONGEST_FILE {
+        return Err(refuse(13, LONGEST_FILE));
+    }
+    if !file.is_empty() && file[0] > 7 {
+        return Err(refuse(12, 0));
+    }
+    let layout = layout(file).ok_or(refuse(11, file.len()))?;
+    if layout.end < file.len() {
+        return Err(refuse(13, layout.end));
+    }
+    if layout.idle_bit {
+        return Err(refuse(12, 0));
+    }
+    if let Some(place) = first_bad_name(file, layout.names_place, layout.end) {
+        return Err(refuse(14, place));
+    }
+    let shape = Shape { states: layout.states.into(), labels: layout.labels.into(), initial: layout.initial.into() };
+    let mut list = vec![0; 3 * layout.hops];
+    for (i, number) in list.iter_mut().enumerate() {
+        *number = number_at(file, layout.hops_place + 2 * i);
+    }
+    let checked = check(shape, &list);
+    if checked.number != 0 {
+        return Err(checked);
+    }
+    let names_len = file.len() - layout.names_place;
+    let contents = Contents {
+        states: shape.states,
+        labels: shape.labels,
+        initial: shape.initial,
+        hops: layout.hops as u32,
+        names_place: if names_len == 0 { 0 } else { layout.names_place },
+        names_len,
+    };
+    Ok((contents, list))
+}
+
+/// The entry file write, with the length.
+pub fn write(shape: Shape, hops: &[u16], names: &[u8], out: &mut [u8]) -> (Answer, usize) {
+    let checked = check(shape, hops);
+    if checked.number != 0 {
+        return (checked, 0);
+    }
+    if !names.is_empty() {
+        match skip_names(names, 0, shape.labels as usize) {
+            None => return (refuse(14, names.len()), 0),
+            Some(end) if end < names.len() => return (refuse(14, end), 0),
+            Some(_) => {}
+        }
+        if let Some(place) = first_bad_name(names, 0, names.len()) {
+            return (refuse(14, place), 0);
+        }
+    }
+    let initial_len = if shape.initial == 0 { 0 } else { 2 };
+    let hops_len = if hops.is_empty() { 0 } else { 2 + 2 * hops.len() };
+    let len = 5 + initial_len + hops_len + names.len();
+    if out.len() < len {
+        return (refuse(6, 0), 0);
+    }
+    out[0] = u8::from(shape.initial != 0) + 2 * u8::from(!hops.is_empty()) + 4 * u8::from(!names.is_empty());
+    put(out, 1, shape.states as u16);
+    put(out, 3, shape.labels as u16);
+    let mut at = 5;
+    if shape.initial != 0 {
+        put(out, at, shape.initial as u16);
+        at += 2;
+    }
+    if !hops.is_empty() {
+        put(out, at, (hops.len() / 3) as u16);
+        at += 2;
+        for &number in hops {
+            put(out, at, number);
+            at += 2;
+        }
+    }
+    out[at..at + names.len()].copy_from_slice(names);
+    (ACCEPTED, len)
+}
+
+fn put(out: &mut [u8], place: usize, number: u16) {
+    out[place] = number as u8;
+    out[place + 1] = (number >> 8) as u8;
+}

@@ -1,0 +1,137 @@
+//! The entries in plain Rust, by the library's algorithms: one binary search for a hop, sweeps for rings and marks, searches by states for the audit, a
+//! table of what is known for the round question, lengths before bytes for names.
+//!
+//! It stands beside the library in the benchmarks and in the differential tests. Nothing here is proved.
+
+mod audit;
+mod check;
+mod file;
+mod mark;
+pub mod ranges;
+mod reduce;
+mod rings;
+mod round;
+
+pub use audit::audit;
+pub use check::{check, hops_of};
+pub use file::{read, write};
+pub use mark::mark;
+pub use reduce::reduce;
+pub use rings::lowest_on_ring;
+pub use round::round;
+
+pub const MOST_STATES: usize = 1024;
+pub const MOST_LABELS: usize = 1024;
+pub const MOST_HOPS: usize = 4096;
+pub const LONGEST_FILE: usize = 58_344;
+
+/// Counts and initial state of a graph; its hops go beside it as a flat list.
+#[derive(Clone, Copy, Debug, PartialEq, Eq)]
+pub struct Shape {
+    pub states: u32,
+    pub labels: u32,
+    pub initial: u32,
+}
+
+/// Number, table and place.
+#[derive(Clone, Copy, Debug, PartialEq, Eq)]
+pub struct Answer {
+    pub number: u32,
+    pub table: u32,
+    pub place: usize,
+}
+
+pub const ACCEPTED: Answer = Answer { number: 0, table: 1, place: 0 };
+
+pub(crate) fn refuse(number: u32, place: usize) -> Answer {
+    Answer { number, table: 1, place }
+}
+
+/// State, label and hop counts and initial state of a short graph; all 0 with a refusal.
+#[derive(Clone, Copy, Debug, Default, PartialEq, Eq)]
+pub struct Short {
+    pub states: u32,
+    pub labels: u32,
+    pub hops: u32,
+    pub initial: u32,
+}
+
+/// What a file holds besides its hops; all 0 with a refusal.
+#[derive(Clone, Copy, Debug, Default, PartialEq, Eq)]
+pub struct Contents {
+    pub states: u32,
+    pub labels: u32,
+    pub initial: u32,
+    pub hops: u32,
+    pub names_place: usize,
+    pub names_len: usize,
+}
+
+#[inline]
+pub(crate) fn hop_count(hops: &[u16]) -> usize {
+    hops.len() / 3
+}
+
+#[inline]
+pub(crate) fn from_at(hops: &[u16], place: usize) -> u16 {
+    hops[3 * place]
+}
+
+#[inline]
+pub(crate) fn label_at(hops: &[u16], place: usize) -> u16 {
+    hops[3 * place + 1]
+}
+
+#[inline]
+pub(crate) fn to_at(hops: &[u16], place: usize) -> u16 {
+    hops[3 * place + 2]
+}
+
+#[inline]
+pub(crate) fn hop_at(hops: &[u16], place: usize) -> (u16, u16, u16) {
+    (hops[3 * place], hops[3 * place + 1], hops[3 * place + 2])
+}
+
+/// The first place between `first` and `past` of an ascending list whose hop is not below `hop`.
+pub(crate) fn lower_between(hops: &[u16], hop: (u16, u16, u16), first: usize, past: usize) -> usize {
+    let (mut low, mut high) = (first, past);
+    while low < high {
+        let middle = low + (high - low) / 2;
+        if hop_at(hops, middle) < hop {
+            low = middle + 1;
+        } else {
+            high = middle;
+        }
+    }
+    low
+}
+
+/// The first place whose hop is not below `hop`.
+pub(crate) fn lower_place(hops: &[u16], hop: (u16, u16, u16)) -> usize {
+    lower_between(hops, hop, 0, hop_count(hops))
+}
+
+/// The place of a hop in an ascending list.
+pub(crate) fn find(hops: &[u16], hop: (u16, u16, u16)) -> Option<usize> {
+    let place = lower_place(hops, hop);
+    (place < hop_count(hops) && hop_at(hops, place) == hop).then_some(place)
+}
+
+/// The first place of each state's hops, and the hop count behind the last: the hops of `s` are the places `first[s]..first[s + 1]`.
+pub(crate) fn first_places(states: usize, hops: &[u16]) -> Vec<u16> {
+    let mut first = vec![0; states + 1];
+    let mut place = 0;
+    for (state, slot) in first.iter_mut().enumerate() {
+        while place < hop_count(hops) && usize::from(from_at(hops, place)) < state {
+            place += 1;
+        }
+        *slot = place as u16;
+    }
+    first
+}
+
+/// The places of a state's hops.
+#[inline]
+pub(crate) fn places(first: &[u16], state: u16) -> std::ops::Range<usize> {
+    usize::from(first[usize::from(state)])..usize::from(first[usize::from(state) + 1])
+}

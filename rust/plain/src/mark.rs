@@ -1,0 +1,70 @@
+use crate::{check, find, first_places, from_at, hop_count, label_at, lowest_on_ring, places, refuse, to_at, Answer, Shape, ACCEPTED};
+
+/// The entry mark.
+pub fn mark(shape: Shape, hops: &[u16], marks: &mut [u8]) -> Answer {
+    let checked = check(shape, hops);
+    if checked.number != 0 {
+        return checked;
+    }
+    if let Some(state) = lowest_on_ring(shape.states as usize, hops) {
+        return refuse(5, state);
+    }
+    let count = hop_count(hops);
+    if marks.len() < count {
+        return refuse(6, 0);
+    }
+    set_marks(shape.states as usize, hops, &mut marks[..count]);
+    ACCEPTED
+}
+
+/// For an admitted graph and one element a hop: silent hops start marked; sweeps in list order, in place, until nothing changes.
+pub(crate) fn set_marks(states: usize, hops: &[u16], marks: &mut [u8]) {
+    let first = first_places(states, hops);
+    for (place, mark) in marks.iter_mut().enumerate() {
+        *mark = u8::from(label_at(hops, place) == 0);
+    }
+    let mut changed = true;
+    while changed {
+        changed = false;
+        for place in 0..marks.len() {
+            if marks[place] == 1 && !closes(hops, &first, marks, place) {
+                marks[place] = 0;
+                changed = true;
+            }
+        }
+    }
+}
+
+/// Every hop of the state that the hop at `place` leaves is closed. The hops tried and those that answer are passed once, label by label.
+fn closes(hops: &[u16], first: &[u16], marks: &[u8], place: usize) -> bool {
+    let s2 = to_at(hops, place);
+    let answers = places(first, s2);
+    let mut at = answers.start;
+    for tried in places(first, from_at(hops, place)) {
+        let (label, s3) = (label_at(hops, tried), to_at(hops, tried));
+        while at < answers.end && label_at(hops, at) < label {
+            at += 1;
+        }
+        if !((label == 0 && joined(hops, marks, s3, s2)) || answered(hops, marks, at..answers.end, label, s3)) {
+            return false;
+        }
+    }
+    true
+}
+
+/// A hop labelled `label` at the front of `range` answers the one to `s3`.
+fn answered(hops: &[u16], marks: &[u8], range: std::ops::Range<usize>, label: u16, s3: u16) -> bool {
+    for place in range {
+        if label_at(hops, place) != label {
+            return false;
+        }
+        if joined(hops, marks, s3, to_at(hops, place)) {
+            return true;
+        }
+    }
+    false
+}
+
+fn joined(hops: &[u16], marks: &[u8], s3: u16, s4: u16) -> bool {
+    s3 == s4 || find(hops, (s3, 0, s4)).is_some_and(|place| marks[place] == 1)
+}

@@ -1,0 +1,105 @@
+//! The archive's functions as `include/zundrafipo.h` declares them.
+//!
+//! Each writes its answer, number, table and place and then its own figures, to `answer` and returns the number. An answer too short speaks last, as
+//! an output too short does: 6, and nothing is written at all. Pointers must not be null, lengths count elements, and no output may overlap
+//! anything else that is lent in the same call. The functions of the crate's root keep all that by themselves.
+
+extern "C" {
+    /// Checks a graph for 1 to 4. Answer: 3.
+    pub fn zf_check(states: u32, labels: u32, initial: u32, hops: *const u16, hops_len: usize, answer: *mut u64, answer_len: usize) -> u32;
+
+    /// Marks the hops of the greatest confluent set. Answer: 3.
+    pub fn zf_mark(
+        states: u32,
+        labels: u32,
+        initial: u32,
+        hops: *const u16,
+        hops_len: usize,
+        marks: *mut u8,
+        marks_len: usize,
+        answer: *mut u64,
+        answer_len: usize,
+    ) -> u32;
+
+    /// Reduces a graph. Answer: 7, with the short graph's state count, label count, hop count and initial state.
+    pub fn zf_reduce(
+        states: u32,
+        labels: u32,
+        initial: u32,
+        hops: *const u16,
+        hops_len: usize,
+        map: *mut u16,
+        map_len: usize,
+        short_hops: *mut u16,
+        short_len: usize,
+        answer: *mut u64,
+        answer_len: usize,
+    ) -> u32;
+
+    /// Counts the faults of a map from graph 1 to graph 2. Answer: 4, with the fault count.
+    pub fn zf_audit(
+        states1: u32,
+        labels1: u32,
+        initial1: u32,
+        hops1: *const u16,
+        hops1_len: usize,
+        states2: u32,
+        labels2: u32,
+        initial2: u32,
+        hops2: *const u16,
+        hops2_len: usize,
+        map: *const u16,
+        map_len: usize,
+        answer: *mut u64,
+        answer_len: usize,
+    ) -> u32;
+
+    /// The round question. Answer: 4, with 1 or 0.
+    pub fn zf_round(
+        states: u32,
+        labels: u32,
+        initial: u32,
+        hops: *const u16,
+        hops_len: usize,
+        place: u64,
+        rounds: u32,
+        answer: *mut u64,
+        answer_len: usize,
+    ) -> u32;
+
+    /// The outgoing hops of a state. Answer: 2, start and length in numbers of that side's list. Returns 0, or 6 for an answer too short.
+    pub fn zf_hops_of(
+        side: u32,
+        state: u32,
+        states1: u32,
+        labels1: u32,
+        initial1: u32,
+        hops1: *const u16,
+        hops1_len: usize,
+        states2: u32,
+        labels2: u32,
+        initial2: u32,
+        hops2: *const u16,
+        hops2_len: usize,
+        answer: *mut u64,
+        answer_len: usize,
+    ) -> u32;
+
+    /// Reads a graph file. Answer: 9, with state count, label count, initial state, hop count, place and length of the name block.
+    pub fn zf_read(file: *const u8, file_len: usize, hops: *mut u16, hops_len: usize, answer: *mut u64, answer_len: usize) -> u32;
+
+    /// Writes a graph file. Answer: 4, with the file's length.
+    pub fn zf_write(
+        states: u32,
+        labels: u32,
+        initial: u32,
+        hops: *const u16,
+        hops_len: usize,
+        names: *const u8,
+        names_len: usize,
+        out: *mut u8,
+        out_len: usize,
+        answer: *mut u64,
+        answer_len: usize,
+    ) -> u32;
+}

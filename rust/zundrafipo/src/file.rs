@@ -1,0 +1,121 @@
+use crate::{ffi, figure, judge, length, Graph, Refusal, MOST_HOPS};
+
+/// A file that was read: its graph, and its name block as a part of the bytes that were lent.
+///
+/// ```
+/// let file = zundrafipo::read(b"\x04\x01\x00\x03\x00\x01a\x02bc")?;
+/// assert_eq!(file.graph, zundrafipo::Graph::new(1, 3, 0, vec![]));
+/// assert_eq!(file.name_block, b"\x01a\x02bc");
+/// assert_eq!(file.names().collect::<Vec<_>>(), [&b"a"[..], b"bc"]);
+/// assert_eq!(file.graph.write(file.name_block)?, b"\x04\x01\x00\x03\x00\x01a\x02bc");
+/// # Ok::<(), zundrafipo::Refusal>(())
+/// ```
+#[derive(Clone, Debug, PartialEq, Eq)]
+pub struct File<'a> {
+    /// The graph.
+    pub graph: Graph,
+    /// The name block; empty for a file without names.
+    pub name_block: &'a [u8],
+}
+
+impl<'a> File<'a> {
+    /// The names, for labels 1 upward.
+    ///
+    /// ```
+    /// let file = zundrafipo::read(b"\x04\x01\x00\x02\x00\x04pass")?;
+    /// assert_eq!(file.names().next(), Some(&b"pass"[..]));
+    /// # Ok::<(), zundrafipo::Refusal>(())
+    /// ```
+    pub fn names(&self) -> Names<'a> {
+        Names { left: self.name_block }
+    }
+}
+
+/// The names of a file in the order of their labels; see [`File::names`].
+///
+/// ```
+/// let names: zundrafipo::Names = zundrafipo::read(b"\x00\x01\x00\x02\x00")?.names();
+/// assert_eq!(names.count(), 0);
+/// # Ok::<(), zundrafipo::Refusal>(())
+/// ```
+#[derive(Clone, Debug)]
+pub struct Names<'a> {
+    left: &'a [u8],
+}
+
+impl<'a> Iterator for Names<'a> {
+    type Item = &'a [u8];
+
+    fn next(&mut self) -> Option<&'a [u8]> {
+        let (&length, behind) = self.left.split_first()?;
+        let (name, left) = behind.split_at_checked(usize::from(length))?;
+        self.left = left;
+        Some(name)
+    }
+}
+
+/// The figures of a file whose hops are in a lent output ([`read_into`]).
+///
+/// ```
+/// use zundrafipo::{read_into, Figures};
+///
+/// let figures = read_into(b"\x00\x03\x00\x01\x00", &mut [])?;
+/// assert_eq!(figures, Figures { states: 3, labels: 1, initial: 0, hops: 0, names_place: 0, names_length: 0 });
+/// # Ok::<(), zundrafipo::Refusal>(())
+/// ```
+#[derive(Clone, Copy, Debug, PartialEq, Eq, Hash)]
+pub struct Figures {
+    /// State count.
+    pub states: u32,
+    /// Label count.
+    pub labels: u32,
+    /// Initial state.
+    pub initial: u32,
+    /// Hop count; the output holds three numbers for each.
+    pub hops: u32,
+    /// The place of the name block in the file; 0 without names.
+    pub names_place: usize,
+    /// The length of the name block; 0 without names.
+    pub names_length: usize,
+}
+
+/// Reads a graph file.
+///
+/// ```
+/// use zundrafipo::{read, Graph};
+///
+/// let file = read(&[2, 2, 0, 2, 0, 1, 0, 0, 0, 1, 0, 1, 0])?;
+/// assert_eq!(file.graph, Graph::new(2, 2, 0, vec![0, 1, 1]));
+/// assert_eq!(read(&[]).unwrap_err().number, 11);
+/// # Ok::<(), zundrafipo::Refusal>(())
+/// ```
+pub fn read(file: &[u8]) -> Result<File<'_>, Refusal> {
+    let mut hops = vec![0; 3 * MOST_HOPS];
+    let figures = read_into(file, &mut hops)?;
+    hops.truncate(3 * length(figures.hops.into()));
+    let graph = Graph::new(figures.states, figures.labels, figures.initial, hops);
+    Ok(File { graph, name_block: &file[figures.names_place..figures.names_place + figures.names_length] })
+}
+
+/// Reads a graph file, writing its hops to the front of `hops`; nothing past them, and nothing at all with a refusal.
+///
+/// ```
+/// let mut hops = [9; 4];
+/// let figures = zundrafipo::read_into(&[2, 2, 0, 2, 0, 1, 0, 0, 0, 1, 0, 1, 0], &mut hops)?;
+/// assert_eq!((figures.hops, hops), (1, [0, 1, 1, 9]));
+/// # Ok::<(), zundrafipo::Refusal>(())
+/// ```
+pub fn read_into(file: &[u8], hops: &mut [u16]) -> Result<Figures, Refusal> {
+    let mut answer = [0; 9];
+    // SAFETY: each pointer stands with the length of the slice it is of; output and answer are borrowed alone.
+    let number = unsafe { ffi::zf_read(file.as_ptr(), file.len(), hops.as_mut_ptr(), hops.len(), answer.as_mut_ptr(), answer.len()) };
+    let [_, _, _, states, labels, initial, count, place, block] = judge(number, answer)?;
+    Ok(Figures {
+        states: figure(states),
+        labels: figure(labels),
+        initial: figure(initial),
+        hops: figure(count),
+        names_place: length(place),
+        names_length: length(block),
+    })
+}

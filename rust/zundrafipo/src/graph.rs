@@ -1,0 +1,358 @@
+use crate::{ffi, figure, judge, length, Refusal, LONGEST_FILE, MOST_HOPS, MOST_STATES};
+
+/// A mode graph: counts, initial state and one flat list of hops.
+///
+/// Nothing is asked of the numbers here; each entry checks them and refuses what is not admitted.
+///
+/// ```
+/// use zundrafipo::Graph;
+///
+/// let graph = Graph { states: 2, labels: 2, initial: 0, hops: vec![0, 1, 1] };
+/// assert!(graph.check().is_ok());
+/// assert_eq!(graph, Graph::new(2, 2, 0, vec![0, 1, 1]));
+/// ```
+#[derive(Clone, Debug, PartialEq, Eq, Hash)]
+pub struct Graph {
+    /// State count, 1 to 1,024.
+    pub states: u32,
+    /// Label count, 1 to 1,024; label 0 is silent.
+    pub labels: u32,
+    /// The initial state.
+    pub initial: u32,
+    /// Three numbers a hop, from, label and to; strictly ascending, at most 4,096 hops.
+    pub hops: Vec<u16>,
+}
+
+/// What [`Graph::reduce`] gives: the short graph, and the map that leads to it.
+///
+/// ```
+/// use zundrafipo::{Graph, Reduction};
+///
+/// let Reduction { graph, map } = Graph::new(2, 2, 1, vec![0, 0, 1, 0, 1, 0, 1, 1, 1]).reduce()?;
+/// assert_eq!(map, [0, 0]);
+/// assert_eq!(graph, Graph::new(1, 2, 0, vec![0, 1, 0]));
+/// # Ok::<(), zundrafipo::Refusal>(())
+/// ```
+#[derive(Clone, Debug, PartialEq, Eq, Hash)]
+pub struct Reduction {
+    /// The short graph.
+    pub graph: Graph,
+    /// The new state of each old one.
+    pub map: Vec<u16>,
+}
+
+/// The counts and the initial state of a short graph whose hops are in a lent output ([`Graph::reduce_into`]).
+///
+/// ```
+/// use zundrafipo::{Graph, ShortFigures};
+///
+/// let (mut map, mut short) = ([0; 2], [0; 3]);
+/// let figures = Graph::new(2, 1, 0, vec![0, 0, 1]).reduce_into(&mut map, &mut short)?;
+/// assert_eq!(figures, ShortFigures { states: 1, labels: 1, hops: 0, initial: 0 });
+/// # Ok::<(), zundrafipo::Refusal>(())
+/// ```
+#[derive(Clone, Copy, Debug, PartialEq, Eq, Hash)]
+pub struct ShortFigures {
+    /// State count.
+    pub states: u32,
+    /// Label count.
+    pub labels: u32,
+    /// Hop count; the output holds three numbers for each.
+    pub hops: u32,
+    /// Initial state.
+    pub initial: u32,
+}
+
+/// What [`Graph::audit`] found.
+///
+/// ```
+/// use zundrafipo::{Audit, Graph};
+///
+/// let graph = Graph::new(2, 2, 0, vec![0, 1, 1]);
+/// assert_eq!(graph.audit(&graph, &[0, 1])?, Audit { faults: 0 });
+/// assert_eq!(graph.audit(&graph, &[1, 0])?, Audit { faults: 3 });
+/// # Ok::<(), zundrafipo::Refusal>(())
+/// ```
+#[derive(Clone, Copy, Debug, PartialEq, Eq, Hash)]
+pub struct Audit {
+    /// The fault count, at most 4,198,401; 0 when, and only when, the map is a branching bisimulation that joins the initial states.
+    pub faults: u64,
+}
+
+impl Graph {
+    /// A graph of these numbers, not checked yet.
+    ///
+    /// ```
+    /// let graph = zundrafipo::Graph::new(3, 1, 0, vec![0, 0, 1]);
+    /// assert_eq!(graph.states, 3);
+    /// ```
+    pub fn new(states: u32, labels: u32, initial: u32, hops: Vec<u16>) -> Graph {
+        Graph { states, labels, initial, hops }
+    }
+
+    /// Checks counts, initial state, and the range and order of the hops (refusals 1 to 4). Rings are not looked for.
+    ///
+    /// ```
+    /// use zundrafipo::Graph;
+    ///
+    /// assert!(Graph::new(1024, 1, 0, vec![]).check().is_ok());
+    /// assert_eq!(Graph::new(1025, 1, 0, vec![]).check().unwrap_err().number, 1);
+    /// assert_eq!(Graph::new(3, 1, 0, vec![1, 0, 0, 0, 0, 1]).check().unwrap_err().place, 1);
+    /// ```
+    pub fn check(&self) -> Result<(), Refusal> {
+        let mut answer = [0; 3];
+        // SAFETY: each pointer stands with the length of the slice it is of; the answer is borrowed alone.
+        let number =
+            unsafe { ffi::zf_check(self.states, self.labels, self.initial, self.hops.as_ptr(), self.hops.len(), answer.as_mut_ptr(), answer.len()) };
+        judge(number, answer).map(|_| ())
+    }
+
+    /// Whether each hop, in list order, is marked: silent, and in some confluent set.
+    ///
+    /// ```
+    /// use zundrafipo::Graph;
+    ///
+    /// let graph = Graph::new(4, 2, 0, vec![0, 0, 1, 0, 1, 2, 1, 1, 3, 2, 0, 3]);
+    /// assert_eq!(graph.mark()?, [true, false, false, true]);
+    /// # Ok::<(), zundrafipo::Refusal>(())
+    /// ```
+    pub fn mark(&self) -> Result<Vec<bool>, Refusal> {
+        let mut marks = vec![0; (self.hops.len() / 3).min(MOST_HOPS)];
+        self.mark_into(&mut marks)?;
+        Ok(marks.iter().map(|&mark| mark == 1).collect())
+    }
+
+    /// Writes one 1 or 0 a hop to the front of `marks`; nothing past them, and nothing at all with a refusal.
+    ///
+    /// ```
+    /// use zundrafipo::Graph;
+    ///
+    /// let mut marks = [9; 2];
+    /// Graph::new(2, 1, 0, vec![0, 0, 1]).mark_into(&mut marks)?;
+    /// assert_eq!(marks, [1, 9]);
+    /// # Ok::<(), zundrafipo::Refusal>(())
+    /// ```
+    pub fn mark_into(&self, marks: &mut [u8]) -> Result<(), Refusal> {
+        let mut answer = [0; 3];
+        // SAFETY: each pointer stands with the length of the slice it is of; outputs and answer are borrowed alone.
+        let number = unsafe {
+            ffi::zf_mark(
+                self.states,
+                self.labels,
+                self.initial,
+                self.hops.as_ptr(),
+                self.hops.len(),
+                marks.as_mut_ptr(),
+                marks.len(),
+                answer.as_mut_ptr(),
+                answer.len(),
+            )
+        };
+        judge(number, answer).map(|_| ())
+    }
+
+    /// The short graph, in which each class of states joined by marked hops is one state, with the map to it.
+    ///
+    /// ```
+    /// use zundrafipo::Graph;
+    ///
+    /// let reduction = Graph::new(3, 1, 2, vec![0, 0, 1, 0, 0, 2, 1, 0, 2]).reduce()?;
+    /// assert_eq!(reduction.map, [0, 0, 0]);
+    /// assert_eq!(reduction.graph, Graph::new(1, 1, 0, vec![]));
+    /// # Ok::<(), zundrafipo::Refusal>(())
+    /// ```
+    pub fn reduce(&self) -> Result<Reduction, Refusal> {
+        let mut map = vec![0; length(self.states.into()).min(MOST_STATES)];
+        let mut hops = vec![0; self.hops.len().min(3 * MOST_HOPS)];
+        let figures = self.reduce_into(&mut map, &mut hops)?;
+        hops.truncate(3 * length(figures.hops.into()));
+        Ok(Reduction { graph: Graph::new(figures.states, figures.labels, figures.initial, hops), map })
+    }
+
+    /// Writes the map to the front of `map` and the short hops to that of `short_hops`; nothing past them, and nothing at all with a refusal. `short_hops` must have
+    /// room for as many numbers as this graph's list.
+    ///
+    /// ```
+    /// use zundrafipo::Graph;
+    ///
+    /// let (mut map, mut short) = ([9; 3], [9; 9]);
+    /// let figures = Graph::new(2, 2, 0, vec![0, 0, 1, 0, 1, 0, 1, 1, 1]).reduce_into(&mut map, &mut short)?;
+    /// assert_eq!((map, figures.hops), ([0, 0, 9], 1));
+    /// assert_eq!(short, [0, 1, 0, 9, 9, 9, 9, 9, 9]);
+    /// # Ok::<(), zundrafipo::Refusal>(())
+    /// ```
+    pub fn reduce_into(&self, map: &mut [u16], short_hops: &mut [u16]) -> Result<ShortFigures, Refusal> {
+        let mut answer = [0; 7];
+        // SAFETY: each pointer stands with the length of the slice it is of; outputs and answer are borrowed alone.
+        let number = unsafe {
+            ffi::zf_reduce(
+                self.states,
+                self.labels,
+                self.initial,
+                self.hops.as_ptr(),
+                self.hops.len(),
+                map.as_mut_ptr(),
+                map.len(),
+                short_hops.as_mut_ptr(),
+                short_hops.len(),
+                answer.as_mut_ptr(),
+                answer.len(),
+            )
+        };
+        let [_, _, _, states, labels, hops, initial] = judge(number, answer)?;
+        Ok(ShortFigures { states: figure(states), labels: figure(labels), hops: figure(hops), initial: figure(initial) })
+    }
+
+    /// Counts the faults of `map` as a map from this graph, graph 1, to `other`, graph 2. Rings are allowed in both.
+    ///
+    /// ```
+    /// use zundrafipo::Graph;
+    ///
+    /// let graph = Graph::new(4, 2, 0, vec![0, 0, 1, 0, 1, 2, 1, 1, 3, 2, 0, 3]);
+    /// assert_eq!(graph.audit(&Graph::new(2, 2, 0, vec![0, 1, 1]), &[0, 0, 1, 1])?.faults, 0);
+    /// assert_eq!(graph.audit(&Graph::new(2, 2, 0, vec![]), &[0, 0, 1, 1])?.faults, 2);
+    /// # Ok::<(), zundrafipo::Refusal>(())
+    /// ```
+    pub fn audit(&self, other: &Graph, map: &[u16]) -> Result<Audit, Refusal> {
+        let mut answer = [0; 4];
+        // SAFETY: each pointer stands with the length of the slice it is of; the answer is borrowed alone.
+        let number = unsafe {
+            ffi::zf_audit(
+                self.states,
+                self.labels,
+                self.initial,
+                self.hops.as_ptr(),
+                self.hops.len(),
+                other.states,
+                other.labels,
+                other.initial,
+                other.hops.as_ptr(),
+                other.hops.len(),
+                map.as_ptr(),
+                map.len(),
+                answer.as_mut_ptr(),
+                answer.len(),
+            )
+        };
+        let [_, _, _, faults] = judge(number, answer)?;
+        Ok(Audit { faults })
+    }
+
+    /// Whether the silent hop at `place` survives `rounds`, 0 to 4, of the marking. Rings do not matter.
+    ///
+    /// ```
+    /// use zundrafipo::Graph;
+    ///
+    /// let graph = Graph::new(5, 3, 0, vec![0, 0, 1, 0, 1, 2, 1, 1, 3, 2, 0, 3, 2, 2, 4]);
+    /// assert!(graph.survives(0, 1)?);
+    /// assert!(!graph.survives(0, 2)?);
+    /// assert_eq!(graph.survives(1, 0).unwrap_err().number, 9);
+    /// # Ok::<(), zundrafipo::Refusal>(())
+    /// ```
+    pub fn survives(&self, place: u64, rounds: u32) -> Result<bool, Refusal> {
+        let mut answer = [0; 4];
+        // SAFETY: each pointer stands with the length of the slice it is of; the answer is borrowed alone.
+        let number = unsafe {
+            ffi::zf_round(
+                self.states,
+                self.labels,
+                self.initial,
+                self.hops.as_ptr(),
+                self.hops.len(),
+                place,
+                rounds,
+                answer.as_mut_ptr(),
+                answer.len(),
+            )
+        };
+        let [_, _, _, survives] = judge(number, answer)?;
+        Ok(survives == 1)
+    }
+
+    /// The graph as a file, with a name block: for labels 1 upward a length byte of 1 to 32 and that many bytes. An empty block: no names.
+    ///
+    /// ```
+    /// use zundrafipo::Graph;
+    ///
+    /// let graph = Graph::new(2, 2, 0, vec![0, 1, 1]);
+    /// assert_eq!(graph.write(b"")?, [2, 2, 0, 2, 0, 1, 0, 0, 0, 1, 0, 1, 0]);
+    /// assert_eq!(graph.write(b"\x04pass")?.len(), 18);
+    /// # Ok::<(), zundrafipo::Refusal>(())
+    /// ```
+    pub fn write(&self, names: &[u8]) -> Result<Vec<u8>, Refusal> {
+        let mut file = vec![0; LONGEST_FILE];
+        let written = self.write_into(names, &mut file)?;
+        file.truncate(written);
+        Ok(file)
+    }
+
+    /// Writes the graph as a file to the front of `out` and gives the file's length; nothing past it, and nothing at all with a refusal.
+    ///
+    /// ```
+    /// use zundrafipo::Graph;
+    ///
+    /// let mut out = [9; 6];
+    /// assert_eq!(Graph::new(3, 1, 0, vec![]).write_into(b"", &mut out)?, 5);
+    /// assert_eq!(out, [0, 3, 0, 1, 0, 9]);
+    /// # Ok::<(), zundrafipo::Refusal>(())
+    /// ```
+    pub fn write_into(&self, names: &[u8], out: &mut [u8]) -> Result<usize, Refusal> {
+        let mut answer = [0; 4];
+        // SAFETY: each pointer stands with the length of the slice it is of; output and answer are borrowed alone.
+        let number = unsafe {
+            ffi::zf_write(
+                self.states,
+                self.labels,
+                self.initial,
+                self.hops.as_ptr(),
+                self.hops.len(),
+                names.as_ptr(),
+                names.len(),
+                out.as_mut_ptr(),
+                out.len(),
+                answer.as_mut_ptr(),
+                answer.len(),
+            )
+        };
+        let [_, _, _, written] = judge(number, answer)?;
+        Ok(length(written))
+    }
+}
+
+/// The outgoing hops of a state, as a part of the list of the graph on that side, 1 or 2. Empty for another side, an absent state, or if either
+/// graph is refused with 1 to 4.
+///
+/// ```
+/// use zundrafipo::{hops_of, Graph};
+///
+/// let one = Graph::new(3, 2, 0, vec![0, 0, 1, 1, 0, 2, 1, 1, 0]);
+/// let two = Graph::new(1, 2, 0, vec![0, 1, 0]);
+/// assert_eq!(hops_of(1, 1, &one, &two), [1, 0, 2, 1, 1, 0]);
+/// assert_eq!(hops_of(2, 0, &one, &two), [0, 1, 0]);
+/// assert!(hops_of(3, 0, &one, &two).is_empty());
+/// ```
+pub fn hops_of<'a>(side: u32, state: u32, one: &'a Graph, two: &'a Graph) -> &'a [u16] {
+    let mut answer = [0; 2];
+    // SAFETY: each pointer stands with the length of the slice it is of; the answer is borrowed alone.
+    unsafe {
+        ffi::zf_hops_of(
+            side,
+            state,
+            one.states,
+            one.labels,
+            one.initial,
+            one.hops.as_ptr(),
+            one.hops.len(),
+            two.states,
+            two.labels,
+            two.initial,
+            two.hops.as_ptr(),
+            two.hops.len(),
+            answer.as_mut_ptr(),
+            answer.len(),
+        )
+    };
+    let list = if side == 2 { &two.hops } else { &one.hops };
+    let start = length(answer[0]);
+    &list[start..start + length(answer[1])]
+}

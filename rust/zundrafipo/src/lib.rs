@@ -1,0 +1,60 @@
+//! Silent-hop reduction for mode graphs.
+//!
+//! Safe wrappers over an archive in which every function is proved against its contract. A graph is shrunk by striking out confluent silent hops
+//! ([`Graph::reduce`]), and the result can be held against the original ([`Graph::audit`]): no faults means that the map between them is a branching
+//! bisimulation that joins the initial states.
+//!
+//! ```
+//! use zundrafipo::Graph;
+//!
+//! let graph = Graph::new(4, 2, 0, vec![0, 0, 1, 0, 1, 2, 1, 1, 3, 2, 0, 3]);
+//! let reduction = graph.reduce()?;
+//! assert_eq!(reduction.map, [0, 0, 1, 1]);
+//! assert_eq!(reduction.graph, Graph::new(2, 2, 0, vec![0, 1, 1]));
+//! assert_eq!(graph.audit(&reduction.graph, &reduction.map)?.faults, 0);
+//! # Ok::<(), zundrafipo::Refusal>(())
+//! ```
+//!
+//! No entry panics on what it is given: whatever is not admitted comes back as a [`Refusal`], and numbers go through unchanged.
+
+#![deny(missing_docs)]
+
+pub mod ffi;
+mod file;
+mod graph;
+mod refusal;
+
+pub use file::{read, read_into, Figures, File, Names};
+pub use graph::{hops_of, Audit, Graph, Reduction, ShortFigures};
+pub use refusal::Refusal;
+
+/// The most states a graph can have.
+pub const MOST_STATES: usize = 1024;
+
+/// The most labels a graph can have, the silent one counted.
+pub const MOST_LABELS: usize = 1024;
+
+/// The most hops a graph can have.
+pub const MOST_HOPS: usize = 4096;
+
+/// The length of the longest legal file.
+pub const LONGEST_FILE: usize = 58_344;
+
+/// Splits an answer of an entry: its figures, or the refusal.
+fn judge<const N: usize>(number: u32, answer: [u64; N]) -> Result<[u64; N], Refusal> {
+    if number == 0 {
+        Ok(answer)
+    } else {
+        Err(Refusal { number, table: answer[1], place: answer[2] })
+    }
+}
+
+/// A count or state number of an accepted graph; it is at most 65,535.
+fn figure(number: u64) -> u32 {
+    u32::try_from(number).expect("a figure of an accepted graph fits 32 bits")
+}
+
+/// The length or place of a part of what was lent.
+fn length(number: u64) -> usize {
+    usize::try_from(number).expect("a length of what was lent fits a usize")
+}

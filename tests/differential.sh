@@ -1,0 +1,23 @@
+#!/usr/bin/env bash
+# Compares the proved library, through its archive for C and Rust, with a checker that is written from the scope document's sentences: every answer,
+# figure and lent element, refused calls too. Words given here go to the comparison: --seed N, --small N, --files N, --large N.
+set -euo pipefail
+cd "$(dirname "$0")/.."
+
+if [ ! -d crates/capi ]; then
+    echo "crates/capi is not there yet: there is nothing to compare"
+    exit 0
+fi
+if ! command -v cargo >/dev/null; then
+    echo "the differential tests need cargo on the PATH" >&2
+    exit 1
+fi
+
+# always: an archive that lies there may be older than the code
+rt staticlib capi
+unset ZUNDRAFIPO_ARCHIVE_DIR
+
+cd rust
+cargo test --release --offline --quiet -p checker
+cargo test --offline --quiet -p zundrafipo
+cargo run --release --offline --quiet -p differential --features library -- "$@"
