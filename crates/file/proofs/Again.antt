@@ -74,7 +74,7 @@ module _ (b : List ℕ) (small : Bytes b) where
 
   module _ (s : Sound b) where
     -- the field ends are within the file
-    names-within : namesPlace b ≤ length b
+    pub names-within : namesPlace b ≤ length b
     unfolding need
     names-within = omega (arith, s .exact)
 
@@ -108,7 +108,7 @@ module _ (b : List ℕ) (small : Bytes b) where
       off : hasHops b ≡ false → drop (hopsPlace b) b ≡ hopBytes (hopListIn b) ++ drop (namesPlace b) b
       off e = let (v, p) = hops-off b e in rw (hops-none (hopListIn b) (count-hop-list b ∙ v), p)
 
-    block-again : drop (namesPlace b) b ≡ blockIn b
+    pub block-again : drop (namesPlace b) b ≡ blockIn b
     unfolding blockIn need restOf
     block-again = ⊎-elim on off (decided (hasNames b)) where
       on : hasNames b ≡ true → drop (namesPlace b) b ≡ blockIn b
@@ -138,11 +138,11 @@ module _ (b : List ℕ) (small : Bytes b) where
       off : hasHops b ≡ false → cond (eqb (count (hopListIn b)) 0) 0 2 ≡ 2 * (bitMap b / 2 % 2)
       off e = let n = eqb-false (bitMap b / 2 % 2) 1 e in rw (eq-eqb _ _ (count-hop-list b ∙ hops-off b e .0)) (omega arith)
 
-    block-some : hasNames b ≡ true → 1 ≤ length (blockIn b)
+    pub block-some : hasNames b ≡ true → 1 ≤ length (blockIn b)
     unfolding need restOf
     block-some e = omega (arith, ap length block-again, length-drop (namesPlace b) b, s .exact, names-on b e .0, names-there b (s .busy) e, name-later (restOf b) {j = 0} {k = namesIn b} (omega arith))
 
-    block-none : hasNames b ≡ false → length (blockIn b) ≡ 0
+    pub block-none : hasNames b ≡ false → length (blockIn b) ≡ 0
     unfolding blockIn
     block-none e = let (n, p, l) = names-off b e in rw l
 
@@ -159,7 +159,7 @@ module _ (b : List ℕ) (small : Bytes b) where
     unfolding bitsOf shapeIn
     bits-again = rw (initial-bit, hops-bit, names-bit) (three-bits (bitMap b) (s .low))
 
-    same-bytes : encode (shapeIn b) (hopListIn b) (blockIn b) ≡ b
+    pub same-bytes : encode (shapeIn b) (hopListIn b) (blockIn b) ≡ b
     unfolding encode headBytes shapeIn
     same-bytes =
         rw bits-again

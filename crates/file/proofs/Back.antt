@@ -26,7 +26,7 @@ use Rattle.file.specs.Format.{numberAt, bitMap, hasInitial, hasHops, has
 use Rattle.file.specs.Read.{most-bytes, idleBit, formatAnswer, readAnswer, readOf, contentsOf}
 use Rattle.file.specs.Encode.{number, numbers, bitsOf, initialBytes, hopBytes, headBytes, encode}
 use Rattle.file.specs.Write.{blockAnswer, namesGiven, graphAnswer}
-use Rattle.file.specs.declared.Contents.{Contents}
+use Rattle.file.specs.RoundTrip.{blockStart, sameGraph}
 use Rattle.file.proofs.Encoded.{length-numbers, initial-none, initial-some, initial-most, hops-none, hops-some, length-hops-some, hop-bytes-most, length-head, length-encode}
 use Rattle.file.proofs.Fields.{initial-on, initial-off, hops-on, hops-off, names-on, names-off}
 use Rattle.file.proofs.Answers.{names-good}
@@ -176,21 +176,21 @@ module _ (sh : Shape) (hs ns : List ℕ) (three : length hs % 3 ≡ 0) where
         number-drop file (hopsPlace file + 2) (2 * i) ∙
         rw (from-list (λ z. omega (arith, same-length, three))) (number-in hs ns i (omega (arith, same-length)))
 
-  names-back : (namesIn file ≡ named sh ns) × (blockIn file ≡ ns) × (blockLength file ≡ length ns)
-  unfolding blockIn restOf
+  names-back : (namesIn file ≡ named sh ns) × (blockIn file ≡ ns) × (blockLength file ≡ length ns) × (blockPlace file ≡ blockStart sh hs ns)
+  unfolding blockIn restOf blockStart
   names-back = ⊎-elim none some (eq-or-not (length ns) 0) where
     sized : length ns ≡ length file - namesPlace file
     sized = ap length (sym rest-back) ∙ length-drop (namesPlace file) file
 
-    none : length ns ≡ 0 → (namesIn file ≡ named sh ns) × (blockIn file ≡ ns) × (blockLength file ≡ length ns)
+    none : length ns ≡ 0 → (namesIn file ≡ named sh ns) × (blockIn file ≡ ns) × (blockLength file ≡ length ns) × (blockPlace file ≡ blockStart sh hs ns)
     none z =
         let (n, p, l) = names-off file (bits-back .2 ∙ rw (eq-eqb _ _ z)) in
-        (n ∙ rw (eq-eqb _ _ z), rw l (sym (no-elements ns z)), l ∙ sym z)
+        (n ∙ rw (eq-eqb _ _ z), rw l (sym (no-elements ns z)), l ∙ sym z, p ∙ rw (eq-eqb (length ns) 0 z))
 
-    some : (length ns ≡ 0 → ⊥) → (namesIn file ≡ named sh ns) × (blockIn file ≡ ns) × (blockLength file ≡ length ns)
+    some : (length ns ≡ 0 → ⊥) → (namesIn file ≡ named sh ns) × (blockIn file ≡ ns) × (blockLength file ≡ length ns) × (blockPlace file ≡ blockStart sh hs ns)
     some y =
         let (n, p, l) = names-on file (bits-back .2 ∙ rw (ne-eqb _ _ y)) in
-        (n ∙ rw (ne-eqb _ _ y, labels-back), rw (p, l, rest-back, ← sized) (take-length ns), l ∙ sym sized)
+        (n ∙ rw (ne-eqb _ _ y, labels-back), rw (p, l, rest-back, ← sized) (take-length ns), l ∙ sym sized, p ∙ rw (ne-eqb (length ns) 0 y) (omega (arith, hops-back .1, length-encode sh hs ns)))
 
   module _ (legal : Legal ns (named sh ns)) where
     need-back : need file ≡ length file
@@ -243,7 +243,7 @@ longest sh hs ns e = let (a, l) = written-means sh hs ns e in short-back sh hs n
 -- what is read of a file that was written
 pub record ReadBack (sh : Shape) (hs ns b : List ℕ) (room : ℕ) : Type 0 where
   pub accepts : readAnswer b room ≡ accepted
-  pub same-graph : contentsOf b ≡ record { answer = accepted; shape = sh; hops = count hs; «names_place» = blockPlace b; «names_len» = length ns }
+  pub same-graph : contentsOf b ≡ sameGraph sh hs ns
   pub same-hops : hopListIn b ≡ hs
   pub same-block : blockIn b ≡ ns
 
@@ -253,7 +253,7 @@ encode-decode sh hs ns room e m =
     let t = a .three-a-hop in
     record {
       accepts = answer-back sh hs ns t l a room m;
-      same-graph = rw (shape-back sh hs ns t l a, hops-back sh hs ns t .0, names-back sh hs ns t .2);
+      same-graph = rw (shape-back sh hs ns t l a, hops-back sh hs ns t .0, names-back sh hs ns t .2, names-back sh hs ns t .3);
       same-hops = list-back sh hs ns t;
       same-block = names-back sh hs ns t .1;
     }

@@ -8,3 +8,4 @@ pub mod Given
 pub mod Sound
 pub mod Again
 pub mod Back
+pub mod Both

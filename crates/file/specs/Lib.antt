@@ -2,3 +2,4 @@ pub mod Format
 pub mod Encode
 pub mod Read
 pub mod Write
+pub mod RoundTrip

@@ -2,6 +2,7 @@
 pub mod format; // format.rt: the fields of a file, where they lie and what they hold
 pub mod reading; // reading.rt: the entry `read`
 pub mod writing; // writing.rt: the entry `write`
+pub mod round_trip; // round_trip.rt: a file read and written again, and a graph written and read again
 
 // What reading gives: the answer, the graph's shape and number of hops, and where the block of names lies in the file.
 pub struct Contents {

@@ -99,7 +99,7 @@ fn graph_answer(file: &[u8]) -> Answer
 }
 
 // With a refusal every other figure is 0.
-fn refusal(answer: Answer) -> Contents
+pub fn refusal(answer: Answer) -> Contents
     ensures { λ r. ⌜ r ≡ nothing answer ⌝ }
 {
     Contents {

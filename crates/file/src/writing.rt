@@ -37,7 +37,7 @@ fn block_answer(names: &[u8], n: usize) -> Answer
 }
 
 // 1 to 4, then 14: an empty block means no names.
-fn graph_answer(shape: Shape, hops: &[u16], names: &[u8]) -> Answer
+pub fn graph_answer(shape: Shape, hops: &[u16], names: &[u8]) -> Answer
     ensures { λ r. ⌜ r ≡ graphAnswer shape (now (hops .entry)) (now (names .entry)) ⌝ }
 {
     let graph = check(shape, hops);
@@ -180,13 +180,10 @@ fn encoded_length(shape: Shape, hops: &[u16], names: &[u8]) -> usize
 }
 
 // With a refusal the length is 0.
-fn unwritten(answer: Answer) -> Written
+pub fn unwritten(answer: Answer) -> Written
     ensures { λ r. ⌜ r ≡ nothingWritten answer ⌝ }
 {
-    Written {
-        answer,
-        length: 0,
-    }
+    Written { answer, length: 0 }
 }
 
 // The entry. Nothing is written before the last check, 6, has passed.
@@ -204,8 +201,5 @@ pub fn write(shape: Shape, hops: &[u16], names: &[u8], out: &mut [u8]) -> Writte
     }
     put_file(shape, hops, names, out);
     let answer = accept();
-    Written {
-        answer,
-        length,
-    }
+    Written { answer, length }
 }
