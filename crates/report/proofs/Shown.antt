@@ -1,0 +1,95 @@
+-- What is printed where a check refuses and where all accept: with outputs of full size row 6 never speaks. Assumes nothing.
+use Prim.Native.Nat.{ℕ, _*_, _-_, _<_, _≤_}
+use mathlib.Core.Path.{_≡_, refl, sym, ap, _∙_}
+use mathlib.Core.Bool.{Bool, true, false, cond}
+use mathlib.Core.List.{List, [], _∷_, _++_}
+use native.Mathlib.Omega.{arith}
+use borrow.Author.Tests.{eq-eqb, ne-eqb, eqb-true, le-leb}
+use lib.ListN.{length, getD, take, drop, List·getD-append}
+use lib.Seq.{take-at}
+use lib.Dec.{eqb}
+use Rattle.graph.specs.Hops.{count, flat, between}
+use Rattle.graph.specs.Check.{checkOf, andThen, roomFor}
+use Rattle.graph.specs.declared.Shape.{Shape}
+use Rattle.graph.specs.declared.Answer.{Answer}
+use Rattle.graph.proofs.Checked.{check-admitted}
+use Rattle.graph.proofs.Places.{length-flat}
+use Rattle.graph.proofs.Tests.{length-listed, getD-listed}
+use Rattle.silent.specs.Silent.{ringless}
+use Rattle.confluence.specs.Mark.{marksOf, markAnswer, markOutput}
+use Rattle.confluence.proofs.Entry.{then-both, output-marked}
+use Rattle.quotient.specs.Short.{shortHops, shortShape, mapList}
+use Rattle.quotient.specs.Representative.{mapOf}
+use Rattle.quotient.specs.Reduce.{reduceAnswer, reduceOf, mapOutput, shortOutput}
+use Rattle.quotient.specs.Tables.{Reducible}
+use Rattle.quotient.specs.declared.Reduction.{Reduction}
+use Rattle.quotient.proofs.Images.{short-within}
+use Rattle.quotient.proofs.Tabled.{marks-front}
+use Rattle.file.specs.Format.{hopsIn, shapeIn, hopListIn}
+use Rattle.file.specs.Read.{formatAnswer, readAnswer, readOf, readHops, contentsOf, nothing, onFront}
+use Rattle.file.specs.declared.Contents.{Contents}
+use Rattle.file.proofs.Entry.{length-hop-list, count-hop-list}
+use Rattle.report.specs.Report.{linesOf, reportOf, refusalOf, unlessRefused, printedGraph, printedOf}
+use Rattle.report.proofs.Parts.{report-same}
+
+pub refused-text : (a : Answer) (t : List ℕ) → (a .number ≡ 0 → ⊥) → unlessRefused a t ≡ refusalOf a
+unfolding unlessRefused
+refused-text a t n = rw (ne-eqb (a .number) 0 n)
+
+pub accepted-text : (a : Answer) (t : List ℕ) → a .number ≡ 0 → unlessRefused a t ≡ t
+unfolding unlessRefused
+accepted-text a t z = rw (eq-eqb (a .number) 0 z)
+
+-- two checks one behind the other
+then-text : (a b : Answer) (t : List ℕ) → unlessRefused (andThen a b) t ≡ unlessRefused a (unlessRefused b t)
+unfolding unlessRefused
+then-text a b t = go (eqb (a .number) 0) refl where
+  go : (x : Bool) → eqb (a .number) 0 ≡ x → cond (eqb (cond x b a .number) 0) t (refusalOf (cond x b a)) ≡ cond x (cond (eqb (b .number) 0) t (refusalOf b)) (refusalOf a)
+  go true e = refl
+  go false e = rw e
+
+-- only what follows an acceptance matters
+same-text : (a : Answer) {t u : List ℕ} → (a .number ≡ 0 → t ≡ u) → unlessRefused a t ≡ unlessRefused a u
+unfolding unlessRefused
+same-text a {t} {u} f = go (eqb (a .number) 0) refl where
+  go : (x : Bool) → eqb (a .number) 0 ≡ x → cond x t (refusalOf a) ≡ cond x u (refusalOf a)
+  go true e = f (eqb-true (a .number) 0 e)
+  go false e = refl
+
+room-text : {n r : ℕ} → n ≤ r → (t : List ℕ) → unlessRefused (roomFor n r) t ≡ t
+unfolding unlessRefused
+room-text {n} {r} l t = rw (le-leb n r l)
+
+module _ (sh : Shape) (hs : List ℕ) where
+  hops-fit : checkOf sh hs .number ≡ 0 → count hs ≤ 4096
+  hops-fit z = check-admitted sh hs z .hops-most
+
+  -- marking with room for every mark
+  mark-text : (ms : List ℕ) → 4096 ≡ length ms → unlessRefused (markAnswer sh hs ms) (reportOf sh hs) ≡ printedGraph sh hs
+  unfolding markAnswer printedGraph
+  mark-text ms e =
+      then-text (checkOf sh hs) (andThen (ringless sh hs) (roomFor (count hs) (length ms))) (reportOf sh hs) ∙
+      same-text (checkOf sh hs)
+      (λ z. then-text (ringless sh hs) (roomFor (count hs) (length ms)) (reportOf sh hs) ∙
+        same-text (ringless sh hs) (λ y. room-text (omega (arith, hops-fit z)) (reportOf sh hs)))
+
+  module _ (ms : List ℕ) (sized : 4096 ≡ length ms) {a : Answer} (e : a ≡ markAnswer sh hs ms) where
+    pub graph-refused : (a .number ≡ 0 → ⊥) → refusalOf a ≡ printedGraph sh hs
+    graph-refused n = ap refusalOf e ∙ sym (refused-text (markAnswer sh hs ms) (reportOf sh hs) (rw e at n)) ∙ mark-text ms sized
+
+    module _ (z : a .number ≡ 0) where
+      speaks : markAnswer sh hs ms .number ≡ 0
+      speaks = rw e at z
+
+      parts : (checkOf sh hs .number ≡ 0) × (andThen (ringless sh hs) (roomFor (count hs) (length ms)) .number ≡ 0)
+      unfolding markAnswer
+      parts = then-both (checkOf sh hs) (andThen (ringless sh hs) (roomFor (count hs) (length ms))) speaks
+
+      pub graph-reducible : Reducible sh hs
+      graph-reducible = record {
+        admitted = check-admitted sh hs (parts .0);
+        free = then-both (ringless sh hs) (roomFor (count hs) (length ms)) (parts .1) .0;
+      }
+
+      accepts : reportOf sh hs ≡ printedGraph sh hs
+      accepts = sym (accepted-text (markAnswer sh hs ms) (reportOf sh hs) speaks) ∙ mark-text ms sized
