@@ -17,7 +17,7 @@ use Rattle.quotient.specs.Representative.{mapOf}
 use Rattle.quotient.specs.Short.{shortHops, shortShape}
 use Rattle.quotient.specs.Tables.{Reducible}
 use Rattle.quotient.proofs.Reduced.{short-admitted, map-inside}
-use Rattle.report.specs.Text.{digits, decimal, spaced, ending, line, lines, in-word, marked-word, map-word, out-word, hop-word}
+use Rattle.report.specs.Text.{digits, decimal, spaced, ending, line, lines, in-word, marked-word, map-word, out-word, hop-word, no-word}
 use Rattle.report.specs.Report.{markedLine, mapLine, hopLine, linesOf, reportOf, refusalOf, most-text}
 
 digits-most : (k n : ℕ) → length (digits k n) ≤ k
@@ -68,7 +68,8 @@ lines-most f w (suc n) h =
 
 pub refusal-most : (a : Answer) → length (refusalOf a) ≤ most-text
 unfolding refusalOf
-refusal-most a = let h = line2-most 20 _ (a .number) (a .place) (decimal-any (a .number)) (decimal-any (a .place)) in omega arith
+refusal-most a =
+    omega (arith, line2-most 20 no-word (a .number) (a .place) (decimal-any (a .number)) (decimal-any (a .place)))
 
 module _ (sh : Shape) (hs : List ℕ) (adm : Admitted sh hs) where
   marked-most : (mark : ℕ → ℕ) (i : ℕ) → i < count hs → length (markedLine hs mark i) ≤ 19

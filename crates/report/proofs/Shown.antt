@@ -56,9 +56,9 @@ same-text a {t} {u} f = go (eqb (a .number) 0) refl where
   go true e = f (eqb-true (a .number) 0 e)
   go false e = refl
 
-room-text : {n r : ℕ} → n ≤ r → (t : List ℕ) → unlessRefused (roomFor n r) t ≡ t
+room-text : (n r : ℕ) → n ≤ r → (t : List ℕ) → unlessRefused (roomFor n r) t ≡ t
 unfolding unlessRefused
-room-text {n} {r} l t = rw (le-leb n r l)
+room-text n r l t = rw (le-leb n r l)
 
 module _ (sh : Shape) (hs : List ℕ) where
   hops-fit : checkOf sh hs .number ≡ 0 → count hs ≤ 4096
@@ -71,7 +71,7 @@ module _ (sh : Shape) (hs : List ℕ) where
       then-text (checkOf sh hs) (andThen (ringless sh hs) (roomFor (count hs) (length ms))) (reportOf sh hs) ∙
       same-text (checkOf sh hs)
       (λ z. then-text (ringless sh hs) (roomFor (count hs) (length ms)) (reportOf sh hs) ∙
-        same-text (ringless sh hs) (λ y. room-text (omega (arith, hops-fit z)) (reportOf sh hs)))
+        same-text (ringless sh hs) (λ y. room-text (count hs) (length ms) (omega (arith, hops-fit z)) (reportOf sh hs)))
 
   module _ (ms : List ℕ) (sized : 4096 ≡ length ms) {a : Answer} (e : a ≡ markAnswer sh hs ms) where
     pub graph-refused : (a .number ≡ 0 → ⊥) → refusalOf a ≡ printedGraph sh hs
