@@ -8,20 +8,21 @@ use borrow.Author.Tests.{eq-eqb, ne-eqb, eqb-true, le-leb}
 use lib.ListN.{length, getD, take, drop, List·getD-append}
 use lib.Seq.{take-at}
 use lib.Dec.{eqb}
+use Rattle.graph.specs.Tests.{listed}
 use Rattle.graph.specs.Hops.{count, flat, between}
 use Rattle.graph.specs.Check.{checkOf, andThen, roomFor}
 use Rattle.graph.specs.declared.Shape.{Shape}
 use Rattle.graph.specs.declared.Answer.{Answer}
-use Rattle.graph.proofs.Checked.{check-admitted}
+use Rattle.graph.proofs.Checked.{check-admitted, admitted-check}
 use Rattle.graph.proofs.Places.{length-flat}
 use Rattle.graph.proofs.Tests.{length-listed, getD-listed}
 use Rattle.silent.specs.Silent.{ringless}
-use Rattle.confluence.specs.Mark.{marksOf, markAnswer, markOutput}
+use Rattle.confluence.specs.Mark.{markOf, markAnswer, markOutput}
 use Rattle.confluence.proofs.Entry.{then-both, output-marked}
 use Rattle.quotient.specs.Short.{shortHops, shortShape, mapList}
 use Rattle.quotient.specs.Representative.{mapOf}
 use Rattle.quotient.specs.Reduce.{reduceAnswer, reduceOf, mapOutput, shortOutput}
-use Rattle.quotient.specs.Tables.{Reducible}
+use Rattle.quotient.specs.Tables.{Reducible, Marks}
 use Rattle.quotient.specs.declared.Reduction.{Reduction}
 use Rattle.quotient.proofs.Images.{short-within}
 use Rattle.quotient.proofs.Tabled.{marks-front}
@@ -29,8 +30,10 @@ use Rattle.file.specs.Format.{hopsIn, shapeIn, hopListIn}
 use Rattle.file.specs.Read.{formatAnswer, readAnswer, readOf, readHops, contentsOf, nothing, onFront}
 use Rattle.file.specs.declared.Contents.{Contents}
 use Rattle.file.proofs.Entry.{length-hop-list, count-hop-list}
-use Rattle.report.specs.Report.{linesOf, reportOf, refusalOf, unlessRefused, printedGraph, printedOf}
+use Rattle.report.specs.Report.{linesOf, reportOf, refusalOf, unlessRefused, printedGraph, printedOf, most-text}
+use Rattle.report.specs.Text.{Room}
 use Rattle.report.proofs.Parts.{report-same}
+use Rattle.report.proofs.Lengths.{report-most}
 
 pub refused-text : (a : Answer) (t : List ℕ) → (a .number ≡ 0 → ⊥) → unlessRefused a t ≡ refusalOf a
 unfolding unlessRefused
@@ -91,5 +94,63 @@ module _ (sh : Shape) (hs : List ℕ) where
         free = then-both (ringless sh hs) (roomFor (count hs) (length ms)) (parts .1) .0;
       }
 
-      accepts : reportOf sh hs ≡ printedGraph sh hs
-      accepts = sym (accepted-text (markAnswer sh hs ms) (reportOf sh hs) speaks) ∙ mark-text ms sized
+      pub graph-accepted : reportOf sh hs ≡ printedGraph sh hs
+      graph-accepted = sym (accepted-text (markAnswer sh hs ms) (reportOf sh hs) speaks) ∙ mark-text ms sized
+
+      pub graph-marks : {after : List ℕ} → after ≡ markOutput sh hs ms → Marks hs after
+      graph-marks d = marks-front hs _ (drop (count hs) ms) (d ∙ sym (output-marked sh hs ms speaks))
+
+-- reducing with room for the map and the short hops of any graph
+module _ {sh : Shape} {hs : List ℕ} (red : Reducible sh hs) where
+  reduces : (m k : ℕ) → 1024 ≤ m → 12288 ≤ k → eqb (reduceAnswer sh hs m k .number) 0 ≡ true
+  unfolding reduceAnswer
+  reduces m k p q =
+      rw (eq-eqb (checkOf sh hs .number) 0 (ap (λ (x : Answer). x .number) (admitted-check sh hs (red .admitted))),
+        eq-eqb (ringless sh hs .number) 0 (red .free),
+        le-leb (sh .states) m (omega (arith, red .admitted .states-most)),
+        le-leb (length hs) k (omega (arith, red .admitted .hops-most, red .admitted .three-a-hop)))
+
+  module _ (m0 s0 : List ℕ) (p : 1024 ≤ length m0) (q : 12288 ≤ length s0) where
+    module _ {r : Reduction} (d : r ≡ reduceOf sh hs (length m0) (length s0)) where
+      pub reduced-shape : r .shape ≡ shortShape sh hs
+      unfolding reduceOf
+      reduced-shape = ap (λ (x : Reduction). x .shape) d ∙ rw (reduces (length m0) (length s0) p q)
+
+      pub reduced-hops : r .hops ≡ length (shortHops sh hs)
+      unfolding reduceOf
+      reduced-hops = ap (λ (x : Reduction). x .hops) d ∙ rw (reduces (length m0) (length s0) p q)
+
+      pub reduced-most : r .hops ≤ 4096
+      reduced-most = omega (arith, reduced-hops, short-within sh hs, red .admitted .hops-most)
+
+      pub reduced-short : {after part : List ℕ} → after ≡ shortOutput sh hs m0 s0 → part ≡ between after 0 (r .hops) → part ≡ flat (shortHops sh hs)
+      unfolding shortOutput
+      reduced-short e f =
+          f ∙ rw (e, reduces (length m0) (length s0) p q)
+          (take-at (flat (shortHops sh hs)) _ (3 * r .hops - 0) (omega (arith, length-flat (shortHops sh hs), reduced-hops)))
+
+    pub reduced-map : {after : List ℕ} → after ≡ mapOutput sh hs m0 s0 → (s : ℕ) → s < sh .states → getD after s 0 ≡ mapOf sh hs s
+    unfolding mapOutput mapList
+    reduced-map e s l =
+        rw (e, reduces (length m0) (length s0) p q)
+        (List·getD-append (listed (sh .states) (mapOf sh hs)) _ 0 s (rw (length-listed (mapOf sh hs) (sh .states)) l) ∙ getD-listed (mapOf sh hs) (sh .states) l)
+
+  pub reduced-lines : {mark map : ℕ → ℕ} {new : Shape} {short : List ℕ} → ((i : ℕ) → i < count hs → mark i ≡ markOf hs i) →
+      ((s : ℕ) → s < sh .states → map s ≡ mapOf sh hs s) → new ≡ shortShape sh hs → short ≡ flat (shortHops sh hs) →
+      linesOf sh hs mark map new short ≡ reportOf sh hs
+  unfolding reportOf
+  reduced-lines f g d e = report-same sh hs f g d e
+
+-- reading with room for the hops of any graph
+module _ (b : List ℕ) where
+  read-text : (old t : List ℕ) → 12288 ≤ length old →
+      unlessRefused (readAnswer b (length old)) t ≡ unlessRefused (formatAnswer b) (unlessRefused (checkOf (shapeIn b) (hopListIn b)) t)
+  unfolding readAnswer
+  read-text old t l =
+      then-text (formatAnswer b) (andThen (checkOf (shapeIn b) (hopListIn b)) (roomFor (3 * hopsIn b) (length old))) t ∙
+      same-text (formatAnswer b)
+      (λ y. then-text (checkOf (shapeIn b) (hopListIn b)) (roomFor (3 * hopsIn b) (length old)) t ∙
+        same-text (checkOf (shapeIn b) (hopListIn b)) (λ z. room-text (3 * hopsIn b) (length old) (omega (arith, hops-fit (shapeIn b) (hopListIn b) z, count-hop-list b)) t))
+
+pub text-room : {t out : List ℕ} → length t ≤ most-text → most-text ≤ length out → Room 0 t out
+text-room p q = record { fits = omega arith }

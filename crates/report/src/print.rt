@@ -9,11 +9,25 @@ use quotient::entry::reduce;
 ghost use mathlib.Core.Path.{_≡_};
 ghost use Prim.Native.Nat.{_≤_};
 ghost use lib.ListN.{length};
+ghost use Rattle.quotient.specs.Tables.{Reducible, Marks};
 ghost use Rattle.file.specs.Read.{onFront};
 ghost use Rattle.report.specs.Text.{Put};
-ghost use Rattle.report.specs.Report.{most-text, printedGraph, printedOf, shownIn};
+ghost use Rattle.report.specs.Report.{most-text, reportOf, printedGraph, printedOf, shownIn};
 
 const MOST_TEXT: usize = 196608;
+
+// The report of a graph that every row lets pass, and whose marks are given.
+fn print_reduced(shape: Shape, hops: &[u16], marks: &[u8], out: &mut [u8]) -> usize
+    requires { ⌜ Reducible shape (now hops) ⌝ ∗ ⌜ Marks (now hops) (now marks) ⌝ ∗ ⌜ most-text ≤ length (now out) ⌝ }
+    ensures { λ r. ⌜ Put (now (out .entry)) 0 (reportOf shape (now (hops .entry))) r (now (out .exit)) ⌝ }
+{
+    let mut map = [0u16; 1024];
+    let mut short = [0u16; 12288];
+    let reduction = reduce(shape, hops, &mut map, &mut short);
+    let new = reduction.shape;
+    let n = reduction.hops;
+    put_report(shape, hops, marks, &map, new, part(&short, 0, n), out)
+}
 
 // The report of a graph, or its refusal.
 fn print_graph(shape: Shape, hops: &[u16], out: &mut [u8]) -> usize
@@ -21,16 +35,11 @@ fn print_graph(shape: Shape, hops: &[u16], out: &mut [u8]) -> usize
     ensures { λ r. ⌜ Put (now (out .entry)) 0 (printedGraph shape (now (hops .entry))) r (now (out .exit)) ⌝ }
 {
     let mut marks = [0u8; 4096];
-    let marked = mark(shape, hops, &mut marks);
-    if marked.number != 0 {
-        return put_refusal(out, 0, marked);
+    let answer = mark(shape, hops, &mut marks);
+    if answer.number != 0 {
+        return put_refusal(out, 0, answer);
     }
-    let mut map = [0u16; 1024];
-    let mut short = [0u16; 12288];
-    let reduction = reduce(shape, hops, &mut map, &mut short);
-    let new = reduction.shape;
-    let n = reduction.hops;
-    put_report(shape, hops, &marks, &map, new, part(&short, 0, n), out)
+    print_reduced(shape, hops, &marks, out)
 }
 
 // The same of a file.
