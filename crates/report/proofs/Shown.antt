@@ -1,11 +1,11 @@
 -- What is printed where a check refuses and where all accept: with outputs of full size row 6 never speaks. Assumes nothing.
-use Prim.Native.Nat.{ℕ, _*_, _-_, _<_, _≤_}
+use Prim.Native.Nat.{ℕ, _+_, _*_, _-_, _<_, _≤_}
 use mathlib.Core.Path.{_≡_, refl, sym, ap, _∙_}
 use mathlib.Core.Bool.{Bool, true, false, cond}
 use mathlib.Core.List.{List, [], _∷_, _++_}
 use native.Mathlib.Omega.{arith}
-use borrow.Author.Tests.{eq-eqb, ne-eqb, eqb-true, le-leb}
-use lib.ListN.{length, getD, take, drop, List·getD-append}
+use borrow.Author.Tests.{eq-eqb, ne-eqb, eqb-true, le-leb, lt-leb}
+use lib.ListN.{length, getD, take, drop, length-append, List·getD-append}
 use lib.Seq.{take-at}
 use lib.Dec.{eqb}
 use Rattle.graph.specs.Tests.{listed}
@@ -30,8 +30,8 @@ use Rattle.file.specs.Format.{hopsIn, shapeIn, hopListIn}
 use Rattle.file.specs.Read.{formatAnswer, readAnswer, readOf, readHops, contentsOf, nothing, onFront}
 use Rattle.file.specs.declared.Contents.{Contents}
 use Rattle.file.proofs.Entry.{length-hop-list, count-hop-list}
-use Rattle.report.specs.Report.{linesOf, reportOf, refusalOf, unlessRefused, printedGraph, printedOf, most-text}
-use Rattle.report.specs.Text.{Room}
+use Rattle.report.specs.Report.{linesOf, reportOf, refusalOf, unlessRefused, printedGraph, printedOf, most-text, shownIn}
+use Rattle.report.specs.Text.{Room, Put}
 use Rattle.report.proofs.Parts.{report-same}
 use Rattle.report.proofs.Lengths.{report-most}
 
@@ -151,6 +151,79 @@ module _ (b : List ℕ) where
       same-text (formatAnswer b)
       (λ y. then-text (checkOf (shapeIn b) (hopListIn b)) (roomFor (3 * hopsIn b) (length old)) t ∙
         same-text (checkOf (shapeIn b) (hopListIn b)) (λ z. room-text (3 * hopsIn b) (length old) (omega (arith, hops-fit (shapeIn b) (hopListIn b) z, count-hop-list b)) t))
+
+  module _ (old : List ℕ) (l : 12288 ≤ length old) {x : Contents} (e : x ≡ readOf b (length old)) where
+    chosen : (t : Bool) → eqb (readAnswer b (length old) .number) 0 ≡ t → x ≡ cond t (contentsOf b) (nothing (readAnswer b (length old)))
+    unfolding readOf
+    chosen t d = rw d at e
+
+    refused-answer : (x .answer .number ≡ 0 → ⊥) → x .answer ≡ readAnswer b (length old)
+    refused-answer n = go (eqb (readAnswer b (length old) .number) 0) (chosen _ refl) where
+      go : (t : Bool) → x ≡ cond t (contentsOf b) (nothing (readAnswer b (length old))) → x .answer ≡ readAnswer b (length old)
+      go true d = absurd (n (ap (λ (y : Contents). y .answer .number) d))
+      go false d = ap (λ (y : Contents). y .answer) d
+
+    pub file-refused : (x .answer .number ≡ 0 → ⊥) → refusalOf (x .answer) ≡ printedOf b
+    unfolding printedOf printedGraph
+    file-refused n =
+        ap refusalOf q ∙ sym (refused-text (readAnswer b (length old)) rest (rw q at n)) ∙ read-text old rest l where
+          q : x .answer ≡ readAnswer b (length old)
+          q = refused-answer n
+
+          rest : List ℕ
+          rest = unlessRefused (ringless (shapeIn b) (hopListIn b)) (reportOf (shapeIn b) (hopListIn b))
+
+    module _ (z : x .answer .number ≡ 0) where
+      speaks-not : readAnswer b (length old) .number ≡ 0
+      speaks-not = go (eqb (readAnswer b (length old) .number) 0) refl where
+        go : (t : Bool) → eqb (readAnswer b (length old) .number) 0 ≡ t → readAnswer b (length old) .number ≡ 0
+        go true d = eqb-true _ 0 d
+        go false d = sym (ap (λ (y : Contents). y .answer .number) (chosen false d)) ∙ z
+
+      gives : x ≡ contentsOf b
+      gives = chosen true (eq-eqb _ 0 speaks-not)
+
+      both : (formatAnswer b .number ≡ 0) × (andThen (checkOf (shapeIn b) (hopListIn b)) (roomFor (3 * hopsIn b) (length old)) .number ≡ 0)
+      unfolding readAnswer
+      both = then-both (formatAnswer b) (andThen (checkOf (shapeIn b) (hopListIn b)) (roomFor (3 * hopsIn b) (length old))) speaks-not
+
+      pub file-most : x .hops ≤ 4096
+      file-most =
+          omega (arith, ap (λ (y : Contents). y .hops) gives, count-hop-list b, hops-fit (shapeIn b) (hopListIn b) (then-both (checkOf (shapeIn b) (hopListIn b)) _ (both .1) .0))
+
+      pub file-printed : {after part : List ℕ} → after ≡ readHops b old → part ≡ between after 0 (x .hops) → printedGraph (x .shape) part ≡ printedOf b
+      unfolding printedOf readHops
+      file-printed {after} {part} d f =
+          ap (λ (sh : Shape). printedGraph sh part) (ap (λ (y : Contents). y .shape) gives) ∙ ap (printedGraph (shapeIn b)) whole ∙
+          sym (accepted-text (formatAnswer b) (printedGraph (shapeIn b) (hopListIn b)) (both .0)) where
+            there : after ≡ onFront (hopListIn b) old
+            there = rw (eq-eqb _ 0 speaks-not) at d
+
+            whole : part ≡ hopListIn b
+            whole =
+                f ∙ rw there
+                (take-at (hopListIn b) (drop (length (hopListIn b)) old) (3 * x .hops - 0) (omega (arith, length-hop-list b, ap (λ (y : Contents). y .hops) gives)))
+
+-- a buffer that is too short, and one that is not
+module _ (room : ℕ) (t : List ℕ) where
+  pub shown-none : room < most-text → shownIn room t ≡ []
+  unfolding shownIn
+  shown-none l = rw (lt-leb most-text room l)
+
+  pub shown-whole : most-text ≤ room → shownIn room t ≡ t
+  unfolding shownIn
+  shown-whole l = rw (le-leb most-text room l)
+
+-- a text put at the front
+module _ {old t new : List ℕ} {r : ℕ} (p : Put old 0 t r new) where
+  pub front-length : r ≡ length t
+  front-length = omega arith
+
+  pub front-stands : new ≡ onFront t old
+  front-stands = let e : 0 + length t ≡ length t = omega arith in rw e at (p .stands)
+
+  pub front-within : r ≤ length new
+  front-within = rw front-stands (simp length-append (omega arith))
 
 pub text-room : {t out : List ℕ} → length t ≤ most-text → most-text ≤ length out → Room 0 t out
 text-room p q = record { fits = omega arith }
