@@ -1,3 +1,5 @@
 pub mod Faults
 pub mod Bisimulation
 pub mod Auditing
+pub mod Ticks
+pub mod Together

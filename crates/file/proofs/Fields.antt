@@ -1,12 +1,11 @@
 -- Laws of the fields of a file. Assumes nothing.
-use Prim.Native.Nat.{ℕ, _+_, _-_, _*_, _<_, _≤_}
-use mathlib.Core.Path.{_≡_, refl, sym, ap, _∙_}
+use Prim.Native.Nat.{ℕ, _+_, _-_, _*_, _≤_}
+use mathlib.Core.Path.{_≡_}
 use mathlib.Core.Bool.{Bool, true, false, cond}
 use mathlib.Core.List.{List}
 use native.Mathlib.Omega.{arith}
 use lib.ListN.{length}
 use Rattle.file.specs.Format.{numberAt, hasInitial, hasHops, hasNames, labelsIn, initialIn, hopsPlace, hopsIn, namesPlace, namesIn, blockPlace, blockLength}
-use Rattle.file.proofs.Choice.{chosen, other}
 
 module _ (b : List ℕ) where
   pub hops-place-most : hopsPlace b ≤ 7

@@ -1,10 +1,10 @@
 -- The file of document 01, as it is read: "All numbers are 16-bit, low byte first". Where a field ends is said as if the file went on, a missing
 -- byte reading 0; row 11 is that the file is shorter than this. Assumes nothing: these are definitions.
 use Prim.Native.Nat.{ℕ, _+_, _-_, _*_, _/_, _%_}
-use mathlib.Core.Bool.{Bool, cond, _&&_, _||_}
-use mathlib.Core.List.{List, []}
+use mathlib.Core.Bool.{Bool, cond}
+use mathlib.Core.List.{List}
 use lib.ListN.{length, getD, take, drop}
-use lib.Dec.{eqb, leb, ltb}
+use lib.Dec.{eqb}
 use Rattle.graph.specs.Tests.{listed}
 use Rattle.graph.specs.declared.Shape.{Shape}
 use Rattle.names.specs.Block.{nameAt}

@@ -2,20 +2,16 @@
 -- lies past the front stays. Assumes nothing.
 use Prim.Native.Nat.{ℕ, zero, suc, _+_, _-_, _*_, _<_, _≤_}
 use mathlib.Core.Path.{_≡_, refl, sym, ap, _∙_}
-use mathlib.Core.List.{List, [], _∷_, _++_, append-assoc, append-nil}
+use mathlib.Core.List.{List, [], _∷_, _++_, append-assoc}
 use mathlib.Core.Logic.{⊎-elim}
 use native.Mathlib.Nat.{eq-or-lt-of-le, le-of-suc-le-suc, not-suc-le-zero}
 use native.Mathlib.Numerals.{add-one}
 use native.Mathlib.Omega.{arith}
-use lib.ListN.{length, getD, set, drop, length-append, length-set, List·getD-append}
+use lib.ListN.{length, getD, set, drop, length-append, length-drop, length-set, List·getD-append}
 use lib.Seq.{drop-cons, drop-drop, drop-append-add, getD-at, ext-getD}
-use Rattle.graph.specs.Hops.{count, from, label, to, hopAt, flat, put, front, over}
+use Rattle.graph.specs.Hops.{count, from, label, to, hopAt, noHop, flat, put, front, over}
 use Rattle.graph.specs.declared.Hop.{Hop}
 use Rattle.graph.proofs.Places.{length-flat}
-
--- what a list of hops gives past its end
-abbrev pub nowhere : Hop
-nowhere = record { from = 0; label = 0; to = 0 }
 
 -- a place of a list with three numbers more in front
 module _ (a b c : ℕ) (l : List ℕ) (j : ℕ) {i : ℕ} (e : i ≡ suc (suc (suc j))) where
@@ -26,7 +22,7 @@ module _ (a b c : ℕ) (l : List ℕ) (j : ℕ) {i : ℕ} (e : i ≡ suc (suc (s
   set-later v = ap (λ (k : ℕ). set (a ∷ b ∷ c ∷ l) k v) e
 
 module _ (rest : List ℕ) where
-  pub hop-flat : (xs : List Hop) {i : ℕ} → i < length xs → hopAt (flat xs ++ rest) i ≡ getD xs i nowhere
+  pub hop-flat : (xs : List Hop) {i : ℕ} → i < length xs → hopAt (flat xs ++ rest) i ≡ getD xs i noHop
   unfolding flat
   hop-flat [] l = absurd (not-suc-le-zero l)
   hop-flat (x ∷ xs) {i = zero} l = refl
@@ -48,10 +44,6 @@ module _ (rest : List ℕ) where
       set-later (x .from) (x .label) (x .to) _ (3 * i + 2) {i = 3 * suc i + 2} (omega arith) (h .to) ∙
       ap (λ (m : List ℕ). x .from ∷ x .label ∷ x .to ∷ m) (put-flat h xs (le-of-suc-le-suc l))
 
--- the same with nothing past the hops
-pub hop-at-flat : (xs : List Hop) {i : ℕ} → i < length xs → hopAt (flat xs) i ≡ getD xs i nowhere
-hop-at-flat xs {i} l = ap (λ (m : List ℕ). hopAt m i) (sym (append-nil (flat xs))) ∙ hop-flat [] xs l
-
 flat-append : (xs ys : List Hop) → flat (xs ++ ys) ≡ flat xs ++ flat ys
 unfolding flat
 flat-append [] ys = refl
@@ -64,12 +56,12 @@ module _ (hs : List ℕ) where
   length-front zero = refl
   length-front (suc n) = rw (length-append, length-front n, add-one)
 
-  pub getD-front : (n : ℕ) {i : ℕ} → i < n → getD (front n hs) i nowhere ≡ hopAt hs i
+  pub getD-front : (n : ℕ) {i : ℕ} → i < n → getD (front n hs) i noHop ≡ hopAt hs i
   unfolding front
   getD-front zero l = absurd (not-suc-le-zero l)
   getD-front (suc n) {i} l =
-      ⊎-elim (λ q. getD-at (front n hs) (hopAt hs n) [] nowhere i (length-front n ∙ sym q) ∙ ap (hopAt hs) (sym q))
-      (λ m. List·getD-append (front n hs) (hopAt hs n ∷ []) nowhere i (rw (length-front n) m) ∙ getD-front n m)
+      ⊎-elim (λ q. getD-at (front n hs) (hopAt hs n) [] noHop i (length-front n ∙ sym q) ∙ ap (hopAt hs) (sym q))
+      (λ m. List·getD-append (front n hs) (hopAt hs n ∷ []) noHop i (rw (length-front n) m) ∙ getD-front n m)
       (eq-or-lt-of-le (le-of-suc-le-suc l))
 
 -- a list with hops written at its front
@@ -100,7 +92,7 @@ module _ (hs : List ℕ) where
         append-assoc (flat (front n hs)) (flat (hopAt hs n ∷ [])) (drop (3 * suc n) hs) ∙
         ap (λ (m : List ℕ). flat (front n hs) ++ m) (sym (whole-hop n (omega arith))) ∙ go n (omega arith)
 
-  pub hop-over : (xs : List Hop) {i : ℕ} → i < length xs → hopAt (over xs hs) i ≡ getD xs i nowhere
+  pub hop-over : (xs : List Hop) {i : ℕ} → i < length xs → hopAt (over xs hs) i ≡ getD xs i noHop
   unfolding over
   hop-over xs l = hop-flat _ xs l
 
@@ -109,9 +101,13 @@ module _ (hs : List ℕ) where
       ap (λ (m : List ℕ). put m i h) (over-is xs) ∙ put-flat _ h xs l ∙
       ap (λ (k : ℕ). flat (set xs i h) ++ drop (3 * k) hs) (sym (length-set xs i h)) ∙ sym (over-is (set xs i h))
 
+  pub length-over : (xs : List Hop) → length xs ≤ count hs → length (over xs hs) ≡ length hs
+  unfolding over
+  length-over xs l = simp (length-append, length-drop, length-flat) (omega arith)
+
   pub front-over : (xs : List Hop) → front (length xs) (over xs hs) ≡ xs
   front-over xs =
-      ext-getD nowhere (front (length xs) (over xs hs)) xs (length-front (over xs hs) (length xs))
+      ext-getD noHop (front (length xs) (over xs hs)) xs (length-front (over xs hs) (length xs))
       (λ i l. let k : i < length xs = omega (arith, length-front (over xs hs) (length xs)) in getD-front (over xs hs) (length xs) k ∙ hop-over xs k)
 
   pub over-over : (xs ys : List Hop) → length xs ≤ length ys → over ys (over xs hs) ≡ over ys hs

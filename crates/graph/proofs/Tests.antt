@@ -1,18 +1,18 @@
 -- Laws of the tests over each number below a bound. Four serve a loop of each kind: `-none` where it begins, `-more` for a turn, `-fails`
 -- or `-found` for an early return, `-done` where the count has reached the bound. Assumes nothing.
-use Prim.Native.Nat.{ℕ, zero, suc, _+_, _<_, _≤_}
+use Prim.Native.Nat.{ℕ, zero, suc, _+_, _*_, _<_, _≤_}
 use mathlib.Core.Path.{_≡_, refl, sym, ap, _∙_}
 use mathlib.Core.Bool.{Bool, true, false, cond, _&&_, _||_}
 use mathlib.Core.List.{List, [], _∷_, _++_}
 use mathlib.Core.Logic.{_⊎_, inl, inr, ⊎-elim}
-use native.Mathlib.Nat.{eq-or-lt-of-le, le-of-suc-le-suc, not-suc-le-zero, le-refl}
+use native.Mathlib.Nat.{eq-or-lt-of-le, le-of-suc-le-suc, not-suc-le-zero, le-refl, suc-mul}
 use native.Mathlib.Numerals.{add-one}
 use native.Mathlib.Omega.{arith}
 use borrow.Author.Tests.{ltb-true, ltb-false, lt-ltb, le-ltb}
 use lib.Dec.{ltb}
 use lib.ListN.{length, getD, length-append, List·getD-append}
 use lib.Seq.{getD-at}
-use Rattle.graph.specs.Tests.{all, any, least, tally, listed}
+use Rattle.graph.specs.Tests.{all, any, least, tally, listed, total}
 use Rattle.graph.proofs.Bools.{clash, and-left, and-right, and-no-right, or-right, or-yes, same-test}
 
 module _ (p : ℕ → Bool) where
@@ -229,3 +229,86 @@ module _ (f : ℕ → ℕ) where
       ⊎-elim (λ q. getD-at (listed n f) (f n) [] 0 i (length-listed n ∙ sym q) ∙ ap f (sym q))
       (λ m. List·getD-append (listed n f) (f n ∷ []) 0 i (rw (length-listed n) m) ∙ getD-listed n m)
       (eq-or-lt-of-le (le-of-suc-le-suc l))
+
+-- how many pass: one turn of a loop that counts, and none at all
+module _ (p : ℕ → Bool) where
+  pub tally-none : tally 0 p ≡ 0
+  unfolding tally
+  tally-none = refl
+
+  pub tally-more : (i : ℕ) {n : ℕ} → n ≡ tally i p → p i ≡ true → n + 1 ≡ tally (i + 1) p
+  unfolding tally
+  tally-more i h e = rw (add-one i, e) (omega arith)
+
+  pub tally-skip : (i : ℕ) {n : ℕ} → n ≡ tally i p → p i ≡ false → n ≡ tally (i + 1) p
+  unfolding tally
+  tally-skip i h e = rw (add-one i, e) (omega arith)
+
+  pub tally-done : {i n k : ℕ} → i ≤ n → n ≤ i → k ≡ tally i p → k ≡ tally n p
+  tally-done {i} {n} h l e = let q : n ≡ i = omega arith in rw q e
+
+  pub tally-zero : (n : ℕ) → ((j : ℕ) → j < n → p j ≡ false) → tally n p ≡ 0
+  unfolding tally
+  tally-zero zero f = refl
+  tally-zero (suc n) f = let h : tally n p ≡ 0 = tally-zero n (λ j l. f j (omega arith)) in rw (f n (omega arith)) (omega arith)
+
+  pub tally-each : (n : ℕ) {i : ℕ} → tally n p ≡ 0 → i < n → p i ≡ false
+  unfolding tally
+  tally-each zero e l = absurd (not-suc-le-zero l)
+  tally-each (suc n) {i} e l = go (p n) refl (λ d m. tally-each n d m) e where
+    go : (x : Bool) → p n ≡ x → (tally n p ≡ 0 → i < n → p i ≡ false) → cond x 1 0 + tally n p ≡ 0 → p i ≡ false
+    go true d ih e = absurd (omega arith)
+    go false d ih e = ⊎-elim (λ q. ap p q ∙ d) (λ m. ih (omega arith) m) (eq-or-lt-of-le (le-of-suc-le-suc l))
+
+-- sums: one turn of a loop that adds, and bounds
+module _ (f : ℕ → ℕ) where
+  pub total-none : total 0 f ≡ 0
+  unfolding total
+  total-none = refl
+
+  pub total-more : (i : ℕ) {n k : ℕ} → n ≡ total i f → k ≡ f i → n + k ≡ total (i + 1) f
+  unfolding total
+  total-more i h e = rw (add-one i) (omega arith)
+
+  pub total-done : {i n k : ℕ} → i ≤ n → n ≤ i → k ≡ total i f → k ≡ total n f
+  total-done {i} {n} h l e = let q : n ≡ i = omega arith in rw q e
+
+  pub total-zero : (n : ℕ) → ((j : ℕ) → j < n → f j ≡ 0) → total n f ≡ 0
+  unfolding total
+  total-zero zero h = refl
+  total-zero (suc n) h = omega (arith, h n (omega arith), total-zero n (λ j l. h j (omega arith)))
+
+  -- a sum that is 0 has no other summand
+  pub total-each : (n : ℕ) {i : ℕ} → total n f ≡ 0 → i < n → f i ≡ 0
+  unfolding total
+  total-each zero e l = absurd (not-suc-le-zero l)
+  total-each (suc n) {i} e l =
+      ⊎-elim (λ q. ap f q ∙ head) (λ m. total-each n (omega arith) m) (eq-or-lt-of-le (le-of-suc-le-suc l)) where
+        head : f n ≡ 0
+        head = omega arith
+
+  pub total-most : (b n : ℕ) → ((j : ℕ) → j < n → f j ≤ b) → total n f ≤ n * b
+  unfolding total
+  total-most b zero h = omega arith
+  total-most b (suc n) h =
+      let most : total n f ≤ n * b = total-most b n (λ j l. h j (omega arith)) in
+      let last : f n ≤ b = h n (omega arith) in
+      rw (suc-mul n b) (omega arith)
+
+module _ (f g : ℕ → ℕ) where
+  pub total-add : (n : ℕ) → total n (λ (j : ℕ). f j + g j) ≡ total n f + total n g
+  unfolding total
+  total-add zero = refl
+  total-add (suc n) = let h : total n (λ (j : ℕ). f j + g j) ≡ total n f + total n g = total-add n in omega arith
+
+tally-total : (p : ℕ → Bool) (n : ℕ) → tally n p ≡ total n (λ (j : ℕ). cond (p j) 1 0)
+unfolding tally total
+tally-total p zero = refl
+tally-total p (suc n) = rw (tally-total p n)
+
+-- pairs that pass may be counted by the one number or by the other
+pub total-exchange : (p : ℕ → ℕ → Bool) (n m : ℕ) → total n (λ (j : ℕ). tally m (p j)) ≡ total m (λ (s : ℕ). tally n (λ (j : ℕ). p j s))
+unfolding total tally
+total-exchange p zero m = sym (total-zero (λ (s : ℕ). 0) m (λ j l. refl))
+total-exchange p (suc n) m =
+    rw (tally-total (p n) m, total-exchange p n m) (sym (total-add (λ (s : ℕ). cond (p n s) 1 0) (λ (s : ℕ). tally n (λ (j : ℕ). p j s)) m))

@@ -8,7 +8,7 @@ use super::hops::is_hop_at;
 use super::order::is_before;
 ghost use mathlib.Core.Path.{_≡_};
 ghost use Prim.Native.Nat.{_<_};
-ghost use Rattle.graph.specs.Hops.{count};
+ghost use Rattle.graph.specs.Hops.{count, has};
 ghost use Rattle.graph.specs.Order.{Ascending};
 ghost use Rattle.graph.specs.Search.{lower, Bracket, placed, firstOf, pastOf};
 
@@ -50,6 +50,18 @@ pub fn find(hops: &[u16], h: Hop) -> Found
         }
     }
     Found::Gap(at)
+}
+
+// Whether the graph has the hop.
+pub fn has_hop(hops: &[u16], h: Hop) -> bool
+    requires { ⌜ Ascending (now hops) ⌝ }
+    ensures { λ r. ⌜ r ≡ has (now (hops .entry)) (h .from) (h .label) (h .to) ⌝ }
+{
+    let found = find(hops, h);
+    match found {
+        Found::At(_) => true,
+        Found::Gap(_) => false,
+    }
 }
 
 // The place of the first hop of s, or where it would stand.

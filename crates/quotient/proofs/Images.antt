@@ -7,12 +7,11 @@ use mathlib.Core.Logic.{inl, inr, ⊎-elim, _↔_}
 use native.Mathlib.Nat.{eq-or-lt-of-le, le-of-suc-le-suc, not-suc-le-zero}
 use native.Mathlib.Omega.{arith}
 use lib.ListN.{length, getD}
-use Rattle.graph.specs.Hops.{count, from, label, to, hopAt, flat, has}
+use Rattle.graph.specs.Hops.{count, from, label, to, hopAt, noHop, flat, has}
 use Rattle.graph.specs.Order.{Ascending}
 use Rattle.graph.specs.declared.Hop.{Hop}
 use Rattle.graph.specs.declared.Shape.{Shape}
-use Rattle.graph.proofs.Places.{has-at, has-place, place-has, count-flat}
-use Rattle.graph.proofs.Fronts.{nowhere, hop-at-flat}
+use Rattle.graph.proofs.Places.{has-at, has-place, place-has, count-flat, flat-at}
 use Rattle.quotient.specs.Representative.{resting, newOf, mapOf}
 use Rattle.quotient.specs.Short.{image, insert, gathered, shortHops}
 use Rattle.quotient.specs.Tables.{Rising, collected}
@@ -24,13 +23,13 @@ module _ (n a m : ℕ) where
   abbrev hop : Hop
   hop = record { from = n; label = a; to = m }
 
-  among-place : (xs : List Hop) → Among hop xs → (i : ℕ) × (i < length xs) × (getD xs i nowhere ≡ hop)
+  among-place : (xs : List Hop) → Among hop xs → (i : ℕ) × (i < length xs) × (getD xs i noHop ≡ hop)
   unfolding Among
   among-place [] w = absurd w
   among-place (x ∷ xs) (inl e) = (0, omega arith, e)
   among-place (x ∷ xs) (inr w) = let (i, l, e) = among-place xs w in (suc i, omega arith, e)
 
-  place-among : (xs : List Hop) (i : ℕ) → i < length xs → getD xs i nowhere ≡ hop → Among hop xs
+  place-among : (xs : List Hop) (i : ℕ) → i < length xs → getD xs i noHop ≡ hop → Among hop xs
   unfolding Among
   place-among [] i l e = absurd (not-suc-le-zero l)
   place-among (x ∷ xs) zero l e = inl e
@@ -40,20 +39,20 @@ module _ (n a m : ℕ) where
   among-has xs w =
       let (i, l, e) = among-place xs w in
       let k : i < count (flat xs) = rw (count-flat xs) l in
-      let q : hopAt (flat xs) i ≡ hop = hop-at-flat xs l ∙ e in
+      let q : hopAt (flat xs) i ≡ hop = flat-at xs i ∙ e in
       place-has (flat xs) n a m (record { at = i; within = k; from-is = ap (λ (h : Hop). h .from) q; label-is = ap (λ (h : Hop). h .label) q; to-is = ap (λ (h : Hop). h .to) q })
 
   pub has-among : (xs : List Hop) → has (flat xs) n a m ≡ true → Among hop xs
   has-among xs e =
       let p = has-place (flat xs) n a m e in
       let k : p .at < length xs = rw (count-flat xs) at (p .within) in
-      place-among xs (p .at) k (sym (hop-at-flat xs k) ∙ (λ d. record { from = p .from-is d; label = p .label-is d; to = p .to-is d }))
+      place-among xs (p .at) k (sym (flat-at xs (p .at)) ∙ (λ d. record { from = p .from-is d; label = p .label-is d; to = p .to-is d }))
 
 pub rising-ascending : (xs : List Hop) → Rising xs → Ascending (flat xs)
 unfolding Ascending
 rising-ascending xs o i l =
     let k : i + 1 < length xs = rw (count-flat xs) at l in
-    rw (hop-at-flat xs {i = i} (omega arith), hop-at-flat xs {i = i + 1} (omega arith)) (rising-lt xs {i = i} {j = i + 1} o (omega arith) k)
+    rw (flat-at xs i, flat-at xs (i + 1)) (rising-lt xs {i = i} {j = i + 1} o (omega arith) k)
 
 module _ (sh : Shape) (hs : List ℕ) where
   gathered-is : (n : ℕ) → gathered sh hs n ≡ collected (λ (i : ℕ). resting hs (from hs i)) (image sh hs) n

@@ -1,7 +1,7 @@
 -- `file::format::hops_in` meets its contract: each way out is a case of the definition. Assumes nothing.
 use mathlib.Core.Path.{refl}
 use native.Mathlib.Omega.{arith}
-use Rattle.file.specs.Format.{hopsPlace, hopsIn}
+use Rattle.file.specs.Format.{hopsIn}
 use Rattle.file.proofs.Choice.{chosen, other}
 use Rattle.file.proofs.Fields.{hops-place-most}
 use borrow.Author.Needs.{needs}

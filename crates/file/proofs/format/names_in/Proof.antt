@@ -1,5 +1,5 @@
 -- `file::format::names_in` meets its contract: each way out is a case of the definition. Assumes nothing.
-use mathlib.Core.Path.{refl, sym}
+use mathlib.Core.Path.{refl}
 use native.Mathlib.Omega.{arith}
 use Rattle.file.specs.Format.{namesIn}
 use Rattle.file.proofs.Choice.{chosen, other}

@@ -1,7 +1,5 @@
 -- `file::format::names_place` meets its contract: each way out is a case of the definition. Assumes nothing.
-use mathlib.Core.Path.{refl}
 use native.Mathlib.Omega.{arith}
-use Rattle.file.specs.Format.{namesPlace}
 use Rattle.file.proofs.Fields.{hops-place-most, place-with-hops, place-without}
 use borrow.Author.Needs.{needs}
 use Rattle.file.proofs.format.names_place.Statement.{statement}

@@ -1,7 +1,5 @@
 -- `file::writing::write` meets its contract: each way out is a case of the definition, and only the last one writes. Assumes nothing.
-use mathlib.Core.Path.{_≡_, ap, _∙_}
-use native.Mathlib.Omega.{arith}
-use lib.ListN.{length}
+use mathlib.Core.Path.{_∙_}
 use Rattle.file.proofs.Entry.{six-refuses}
 use Rattle.file.proofs.Given.{graph-speaks, hops-most-numbers, room-speaks, none-speaks, writable, refused-writes, accepted-writes}
 use borrow.Author.Needs.{needs}

@@ -1,0 +1,52 @@
+-- What `reduce` makes of a graph without rings passes the audit: the map and the short graph are admitted, and the fault count is 0. So the map is
+-- a branching bisimulation that joins the initial states. Assumes nothing.
+use Prim.Native.Nat.{ℕ, _<_}
+use mathlib.Core.Path.{_≡_, refl, sym}
+use mathlib.Core.List.{List}
+use Rattle.graph.specs.Hops.{flat}
+use Rattle.graph.specs.Check.{accepted}
+use Rattle.graph.specs.declared.Shape.{Shape}
+use Rattle.graph.proofs.Tests.{length-listed, getD-listed}
+use Rattle.quotient.specs.Representative.{mapOf}
+use Rattle.quotient.specs.Short.{shortHops, shortShape, mapList}
+use Rattle.quotient.specs.Tables.{Reducible}
+use Rattle.quotient.proofs.Reduced.{map-inside, short-admitted, short-reduces}
+use Rattle.bisimulation.specs.Faults.{mapped, faultsOf}
+use Rattle.bisimulation.specs.Bisimulation.{BranchingBisimulation, MapRelation, JoinsInitial}
+use Rattle.bisimulation.specs.Auditing.{auditOf}
+use Rattle.bisimulation.specs.declared.Audit.{Audit}
+use Rattle.bisimulation.proofs.Meaning.{zero-means, reduces-zero}
+use Rattle.bisimulation.proofs.Answering.{Audited, audited-answer, audit-counts}
+
+module _ {sh : Shape} {hs : List ℕ} (red : Reducible sh hs) where
+  list-maps : (s : ℕ) → s < sh .states → mapped (mapList sh hs) s ≡ mapOf sh hs s
+  unfolding mapList
+  list-maps s l = getD-listed (mapOf sh hs) (sh .states) l
+
+  reduced-audited : Audited sh (shortShape sh hs) hs (flat (shortHops sh hs)) (mapList sh hs)
+  unfolding mapList shortShape
+  reduced-audited = record {
+    first = red .admitted;
+    second = short-admitted red;
+    labels = refl;
+    map = record { one-a-state = length-listed (mapOf sh hs) (sh .states); entries-in = λ s l. rw (list-maps s l) (map-inside red s l) };
+  }
+
+  -- the audit's count of what `reduce` makes is 0
+  pub reduced-zero : faultsOf sh (shortShape sh hs) hs (flat (shortHops sh hs)) (mapList sh hs) ≡ 0
+  unfolding shortShape
+  reduced-zero =
+      reduces-zero sh (shortShape sh hs) hs (flat (shortHops sh hs)) (mapList sh hs) (red .admitted .range) (short-reduces red) list-maps joins where
+        joins : mapped (mapList sh hs) (sh .initial) ≡ shortShape sh hs .initial
+        joins = list-maps (sh .initial) (red .admitted .initial-in)
+
+  -- the audit accepts what `reduce` makes, and finds no fault
+  pub reduce-right : _≡_ {A = Audit} (auditOf sh (shortShape sh hs) hs (flat (shortHops sh hs)) (mapList sh hs)) (record { answer = accepted; faults = 0 })
+  reduce-right =
+      sym (audit-counts sh (shortShape sh hs) hs (flat (shortHops sh hs)) (mapList sh hs)
+      (sym (audited-answer sh (shortShape sh hs) hs (flat (shortHops sh hs)) (mapList sh hs) reduced-audited)) refl (sym reduced-zero))
+
+  -- so the map is one of Definition 2.4
+  pub reduce-bisimulation : BranchingBisimulation hs (flat (shortHops sh hs)) (MapRelation sh (mapList sh hs)) × JoinsInitial sh (shortShape sh hs) (MapRelation sh (mapList sh hs))
+  reduce-bisimulation =
+      zero-means sh (shortShape sh hs) hs (flat (shortHops sh hs)) (mapList sh hs) (reduced-audited .first) (reduced-audited .second) (reduced-audited .map) .0 reduced-zero

@@ -1,0 +1,22 @@
+-- `bisimulation::auditing::audit` meets its contract: its two ways out are the two cases of the definition. Assumes nothing.
+use borrow.Author.Needs.{needs}
+use mathlib.Core.Path.{sym, ap, _∙_}
+use Rattle.graph.specs.declared.Answer.{Answer}
+use Rattle.bisimulation.proofs.Answering.{auditable, answer-audited, audit-refuses, audit-counts}
+use Rattle.bisimulation.proofs.auditing.audit.Statement.{statement}
+use Rattle.bisimulation.proofs.auditing.audit.Tie as tie
+
+audit-answer-requires : tie.Need-audit-answer-requires
+audit-answer-requires c κs = search needs
+
+returns : tie.Need-returns
+returns c = audit-refuses _ _ _ _ _ (c .before .before .audit-answer .ensures) (c .if1 .taken)
+
+fault-count-requires : tie.Need-fault-count-requires
+fault-count-requires c κs = auditable (answer-audited _ _ _ _ _ (ap (λ (x : Answer). x .number) (sym (c .before .before .audit-answer .ensures)) ∙ c .if1 .left))
+
+returns-2 : tie.Need-returns-2
+returns-2 c = audit-counts _ _ _ _ _ (c .before .before .before .audit-answer .ensures) (c .before .if1 .left) (c .fault-count .ensures)
+
+pub audit-spec : {M : Type 1} → statement M
+audit-spec = tie.close (tie.spec audit-answer-requires returns fault-count-requires returns-2)
