@@ -8,11 +8,14 @@ use native.Mathlib.Nat.{eq-or-lt-of-le, le-refl}
 use native.Mathlib.Numerals.{add-one}
 use native.Mathlib.Omega.{arith}
 use borrow.Author.Tests.{lt-ltb, le-ltb}
-use lib.ListN.{length, set, length-append}
-use lib.Seq.{set-split}
+use lib.ListN.{length, set, length-append, length-drop}
+use lib.Seq.{set-split, length-take-le}
 use Rattle.file.specs.Read.{over}
-use Rattle.file.proofs.Front.{over-none, over-then, length-over}
+use Rattle.file.proofs.Front.{over-none, over-then}
 use Rattle.report.specs.Text.{digits, decimal, spaced, ending, line, lines, Room, Put}
+
+length-over : (at : ℕ) (text old : List ℕ) → at + length text ≤ length old → length (over at text old) ≡ length old
+length-over at text old l = rw (length-append, length-append, length-drop, length-take-le at old (omega arith)) (omega arith)
 
 pub put-none : (old : List ℕ) (at : ℕ) → Put old at [] at old
 put-none old at = record { follows = omega arith; stands = over-none at old }
