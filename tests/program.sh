@@ -88,6 +88,7 @@ expect hops_over "$work/hops_over.in" "$work/hops_over.out"
 # the most marks: nine states at a time, a silent hop from each to each above it; each nine become one state
 clusters='
 BEGIN {
+    n = 0
     for (s = 0; s < 1024; s++) for (t = s + 1; t < 1024 && int(t / 9) == int(s / 9); t++) { from[n] = s; to[n] = t; n++ }
     show()
 }'
