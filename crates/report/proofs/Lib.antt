@@ -1,0 +1,4 @@
+pub mod Puts
+pub mod Parts
+pub mod Lengths
+pub mod Shown
