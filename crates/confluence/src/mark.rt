@@ -11,7 +11,7 @@ ghost use mathlib.Core.Path.{_≡_};
 ghost use Rattle.confluence.specs.Mark.{markAnswer, markOutput};
 
 // The answer, before anything is written: rows 1 to 4, then 5, then 6.
-fn answer_of(shape: Shape, hops: &[u16], marks: &[u8]) -> Answer
+pub fn mark_answer(shape: Shape, hops: &[u16], marks: &[u8]) -> Answer
     ensures { λ r. ⌜ r ≡ markAnswer shape (now (hops .entry)) (now (marks .entry)) ⌝ }
 {
     let checked = check(shape, hops);
@@ -33,7 +33,7 @@ pub fn mark(shape: Shape, hops: &[u16], marks: &mut [u8]) -> Answer
     ensures answers { λ r. ⌜ r ≡ markAnswer shape (now (hops .entry)) (now (marks .entry)) ⌝ }
     ensures writes { λ r. ⌜ now (marks .exit) ≡ markOutput shape (now (hops .entry)) (now (marks .entry)) ⌝ }
 {
-    let answer = answer_of(shape, hops, marks);
+    let answer = mark_answer(shape, hops, marks);
     if answer.number == 0 {
         mark_all(hops, marks);
     }

@@ -10,13 +10,18 @@ use lib.Seq.{take-at}
 use lib.Dec.{leb}
 use Rattle.graph.specs.Tests.{listed}
 use Rattle.graph.specs.Hops.{count, whole}
-use Rattle.graph.specs.Check.{most-states, most-labels, most-hops, accepted, refused, countsFit, checkOf}
+use Rattle.graph.specs.Check.{most-states, most-labels, most-hops, accepted, refused, andThen, roomFor, countsFit, checkOf}
 use Rattle.graph.specs.declared.Shape.{Shape}
 use Rattle.graph.specs.declared.Answer.{Answer}
 use Rattle.graph.proofs.Bools.{and-no-left, and-no-right, not-no}
 use Rattle.graph.proofs.Tests.{length-listed}
 use Rattle.graph.proofs.Checked.{check-counts}
+<<<<<<< HEAD
 use Rattle.fields.specs.Format.{numberAt, hopsPlace, hopsIn, shapeIn, hopListIn}
+=======
+use Rattle.fields.specs.Format.{numberAt, hopsPlace, hopsIn, shapeIn, hopListIn}
+use Rattle.file.proofs.Given.{both-accept, second-accepts, room-accepts}
+>>>>>>> capi
 use Rattle.file.specs.Read.{formatAnswer, readAnswer, readOf, readHops, nothing, contentsOf, onFront}
 
 -- a graph with too many hops is refused whatever they are
@@ -71,6 +76,15 @@ module _ (b : List ℕ) where
         pub none-speaks : 3 * n ≤ room → accepted ≡ readAnswer b room
         unfolding readAnswer
         none-speaks l = rw (← f, eq-eqb _ _ z, ← e, eq-eqb _ _ y, ← d, le-leb _ _ l)
+
+  -- what acceptance says
+  pub read-accepts : (room : ℕ) → readAnswer b room .number ≡ 0 → (readAnswer b room ≡ accepted) × (3 * hopsIn b ≤ room)
+  unfolding readAnswer
+  read-accepts room z =
+      let (f, g) = both-accept (formatAnswer b) (andThen (checkOf (shapeIn b) (hopListIn b)) (roomFor (3 * hopsIn b) room)) z in
+      let (h, r) = both-accept (checkOf (shapeIn b) (hopListIn b)) (roomFor (3 * hopsIn b) room) g in
+      let (a, l) = room-accepts (3 * hopsIn b) room r in
+      (second-accepts (formatAnswer b) _ z ∙ second-accepts (checkOf (shapeIn b) (hopListIn b)) _ g ∙ a, l)
 
   -- what a refusal and an acceptance give and write
   module _ (old : List ℕ) where

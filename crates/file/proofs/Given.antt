@@ -5,10 +5,16 @@ use mathlib.Core.Bool.{Bool, true, false, cond}
 use mathlib.Core.List.{List}
 use mathlib.Core.Logic.{inl}
 use native.Mathlib.Omega.{arith}
-use borrow.Author.Tests.{lt-ltb, le-ltb, lt-leb, le-leb, eq-eqb, ne-eqb, eqb-true, eqb-false}
+use borrow.Author.Tests.{lt-ltb, le-ltb, lt-leb, le-leb, eq-eqb, ne-eqb, eqb-true, eqb-false, leb-true}
 use lib.ListN.{length}
+<<<<<<< HEAD
 use lib.Dec.{eqb}
 use Rattle.graph.specs.Check.{accepted, refused, andThen, checkOf, Admitted}
+=======
+use lib.Dec.{eqb, leb}
+use Rattle.graph.specs.Hops.{count}
+use Rattle.graph.specs.Check.{accepted, refused, andThen, roomFor, checkOf, Admitted}
+>>>>>>> capi
 use Rattle.graph.specs.declared.Shape.{Shape}
 use Rattle.graph.specs.declared.Answer.{Answer}
 use Rattle.graph.proofs.Checked.{check-admitted, admitted-check}
@@ -50,6 +56,17 @@ both-accept a b e = go (eqb (a .number) 0) refl e where
   go false d z = absurd (no-zero d z) where
     no-zero : eqb (a .number) 0 ≡ false → a .number ≡ 0 → ⊥
     no-zero d z = eqb-false _ _ d z
+
+-- and the answer is then that of the second
+pub second-accepts : (a b : Answer) → andThen a b .number ≡ 0 → andThen a b ≡ b
+second-accepts a b e = rw (eq-eqb (a .number) 0 (both-accept a b e .0))
+
+-- a room that is not refused is wide enough
+pub room-accepts : (n r : ℕ) → roomFor n r .number ≡ 0 → (roomFor n r ≡ accepted) × (n ≤ r)
+room-accepts n r = go (leb n r) refl where
+  go : (t : Bool) → leb n r ≡ t → cond t accepted (refused 6 0) .number ≡ 0 → (cond t accepted (refused 6 0) ≡ accepted) × (n ≤ r)
+  go true d z = (refl, leb-true n r d)
+  go false d z = absurd (omega arith)
 
 module _ (sh : Shape) (hs ns : List ℕ) where
   -- rows 1 to 4, then 14
@@ -104,6 +121,15 @@ module _ (sh : Shape) (hs ns : List ℕ) where
           hops-fit = hops-most-numbers;
           fits = rw (← d) l;
         }
+
+  -- what acceptance says
+  pub write-accepts : (room : ℕ) → writeAnswer sh hs ns room .number ≡ 0 →
+      (writeAnswer sh hs ns room ≡ accepted) × (graphAnswer sh hs ns .number ≡ 0) × (length (encode sh hs ns) ≤ room)
+  unfolding writeAnswer
+  write-accepts room z =
+      let (g, r) = both-accept (graphAnswer sh hs ns) (roomFor (length (encode sh hs ns)) room) z in
+      let (a, l) = room-accepts (length (encode sh hs ns)) room r in
+      (second-accepts (graphAnswer sh hs ns) _ z ∙ a, g, l)
 
   -- what a refusal and an acceptance give and write
   module _ (old : List ℕ) where

@@ -23,7 +23,7 @@ ghost use lib.ListN.{length};
 ghost use Rattle.graph.specs.Tests.{listed};
 ghost use Rattle.graph.specs.Check.{checkOf};
 ghost use Rattle.fields.specs.Format.{numberAt, shapeIn, hopListIn};
-ghost use Rattle.file.specs.Read.{RestAt, formatAnswer, readOf, readHops, nothing, contentsOf, onFront};
+ghost use Rattle.file.specs.Read.{RestAt, formatAnswer, readAnswer, readOf, readHops, nothing, contentsOf, onFront};
 
 const MOST_BYTES: usize = 58344;
 
@@ -132,23 +132,34 @@ fn contents(file: &[u8]) -> Contents
     }
 }
 
+// The answer, before anything is written: the format, then 1 to 4, then 6.
+pub fn read_answer(file: &[u8], room: usize) -> Answer
+    ensures { λ r. ⌜ r ≡ readAnswer (now (file .entry)) room ⌝ }
+{
+    let format = format_answer(file);
+    if format.number != 0 {
+        return format;
+    }
+    let graph = graph_answer(file);
+    if graph.number != 0 {
+        return graph;
+    }
+    if room < 3 * (hops_in(file) as usize) {
+        return refuse(6, 0);
+    }
+    accept()
+}
+
 // The entry. Nothing is written before the last check, 6, has passed.
 pub fn read(file: &[u8], hops: &mut [u16]) -> Contents
     ensures answers { λ r. ⌜ r ≡ readOf (now (file .entry)) (length (now (hops .entry))) ⌝ }
     ensures writes { λ _. ⌜ now (hops .exit) ≡ readHops (now (file .entry)) (now (hops .entry)) ⌝ }
 {
-    let format = format_answer(file);
-    if format.number != 0 {
-        return refusal(format);
-    }
-    let graph = graph_answer(file);
-    if graph.number != 0 {
-        return refusal(graph);
+    let answer = read_answer(file, hops.len());
+    if answer.number != 0 {
+        return refusal(answer);
     }
     let n = 3 * (hops_in(file) as usize);
-    if hops.len() < n {
-        return refusal(refuse(6, 0));
-    }
     let at = hops_place(file) + 2;
     copy_numbers(file, at, n, hops);
     contents(file)

@@ -15,7 +15,7 @@ ghost use lib.ListN.{length};
 ghost use Rattle.graph.specs.Hops.{count};
 ghost use Rattle.file.specs.Encode.{number, numbers, bitsOf, initialBytes, hopBytes, headBytes, encode};
 ghost use Rattle.file.specs.Read.{onFront, over};
-ghost use Rattle.file.specs.Write.{blockAnswer, graphAnswer, nothingWritten, writeOf, writeBytes, Writable};
+ghost use Rattle.file.specs.Write.{blockAnswer, graphAnswer, writeAnswer, nothingWritten, writeOf, writeBytes, Writable};
 
 // Row 14 of a block of n names.
 fn block_answer(names: &[u8], n: usize) -> Answer
@@ -186,20 +186,30 @@ pub fn unwritten(answer: Answer) -> Written
     Written { answer, length: 0 }
 }
 
+// The answer, before anything is written: 1 to 4, then 14, then 6.
+pub fn write_answer(shape: Shape, hops: &[u16], names: &[u8], room: usize) -> Answer
+    ensures { λ r. ⌜ r ≡ writeAnswer shape (now (hops .entry)) (now (names .entry)) room ⌝ }
+{
+    let graph = graph_answer(shape, hops, names);
+    if graph.number != 0 {
+        return graph;
+    }
+    if room < encoded_length(shape, hops, names) {
+        return refuse(6, 0);
+    }
+    accept()
+}
+
 // The entry. Nothing is written before the last check, 6, has passed.
 pub fn write(shape: Shape, hops: &[u16], names: &[u8], out: &mut [u8]) -> Written
     ensures answers { λ r. ⌜ r ≡ writeOf shape (now (hops .entry)) (now (names .entry)) (length (now (out .entry))) ⌝ }
     ensures writes { λ _. ⌜ now (out .exit) ≡ writeBytes shape (now (hops .entry)) (now (names .entry)) (now (out .entry)) ⌝ }
 {
-    let graph = graph_answer(shape, hops, names);
-    if graph.number != 0 {
-        return unwritten(graph);
-    }
-    let length = encoded_length(shape, hops, names);
-    if out.len() < length {
-        return unwritten(refuse(6, 0));
+    let answer = write_answer(shape, hops, names, out.len());
+    if answer.number != 0 {
+        return unwritten(answer);
     }
     put_file(shape, hops, names, out);
-    let answer = accept();
+    let length = encoded_length(shape, hops, names);
     Written { answer, length }
 }

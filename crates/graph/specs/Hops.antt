@@ -16,6 +16,10 @@ count hs = length hs / 3
 abbrev pub whole : List ℕ → Bool
 whole hs = eqb (length hs % 3) 0
 
+-- where the hop at a place begins, in numbers of the list
+abbrev pub numberPlace : ℕ → ℕ
+numberPlace i = 3 * i
+
 -- the three numbers of the hop at a place
 abbrev pub from : List ℕ → ℕ → ℕ
 from hs i = getD hs (3 * i) 0

@@ -5,7 +5,8 @@ use super::OldState;
 ghost use mathlib.Core.Path.{_≡_};
 ghost use Prim.Native.Nat.{_<_, _≤_};
 ghost use denote.Ref.{ptr};
-ghost use Rattle.graph.specs.Hops.{count, whole, from, label, to, hopAt, put, is, between, standsAt};
+ghost use Rattle.graph.specs.Hops.{count, whole, from, label, to, hopAt, put, is, between, standsAt, numberPlace};
+ghost use Rattle.graph.specs.Check.{most-hops};
 
 // How many hops the list holds.
 pub fn hop_count(hops: &[u16]) -> usize
@@ -19,6 +20,14 @@ pub fn is_whole(hops: &[u16]) -> bool
     ensures { λ r. ⌜ r ≡ whole (now (hops .entry)) ⌝ }
 {
     hops.len() % 3 == 0
+}
+
+// Where the hop at a place begins, in numbers of the list.
+pub fn number_place(i: usize) -> usize
+    requires { ⌜ i ≤ most-hops ⌝ }
+    ensures { λ r. ⌜ r ≡ numberPlace i ⌝ }
+{
+    3 * i
 }
 
 pub fn from_at(hops: &[u16], i: usize) -> OldState

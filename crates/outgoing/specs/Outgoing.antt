@@ -1,14 +1,15 @@
 -- Hops of a state: "For a side, 1 or 2, and a state, the outgoing hops are shown as a part of that table itself. The part is empty for another
 -- side, an absent state, or if either table breaks checks 1 to 4." Assumes nothing: these are definitions.
-use Prim.Native.Nat.{ℕ}
+use Prim.Native.Nat.{ℕ, _-_}
 use mathlib.Core.Bool.{Bool, cond, _&&_}
 use mathlib.Core.List.{List, []}
 use lib.Dec.{eqb, ltb}
 use denote.Ref.{RefT, now}
-use Rattle.graph.specs.Hops.{between, standsAt}
+use Rattle.graph.specs.Hops.{numberPlace, between, standsAt}
 use Rattle.graph.specs.Search.{firstOf, pastOf}
 use Rattle.graph.specs.Check.{checkOf}
 use Rattle.graph.specs.declared.Shape.{Shape}
+use Rattle.outgoing.specs.declared.Span.{Span}
 
 -- both tables pass checks 1 to 4 (that label counts differ does not matter)
 unfoldable pub bothPass : Shape → List ℕ → Shape → List ℕ → Bool
@@ -32,3 +33,15 @@ shown which s h1 h2 = cond (eqb which 1) (outgoing h1 s) (cond (eqb which 2) (ou
 unfoldable pub shownAt : ℕ → ℕ → RefT (List ℕ) → RefT (List ℕ) → ℕ × ℕ
 shownAt which s t1 t2 =
     cond (eqb which 1) (standsAt t1 (firstOf (now t1) s)) (cond (eqb which 2) (standsAt t2 (firstOf (now t2) s)) (standsAt t1 0))
+
+-- the same part by start and length in numbers of its table; 0 and 0 wherever it is empty, also for a state that has no hops
+abbrev pub noSpan : Span
+noSpan = record { start = 0; length = 0 }
+
+unfoldable pub spanIn : List ℕ → ℕ → Span
+spanIn hs s =
+    cond (eqb (firstOf hs s) (pastOf hs s)) noSpan
+    (record { start = numberPlace (firstOf hs s); length = numberPlace (pastOf hs s) - numberPlace (firstOf hs s) })
+
+unfoldable pub spanOf : ℕ → ℕ → List ℕ → List ℕ → Span
+spanOf which s h1 h2 = cond (eqb which 1) (spanIn h1 s) (cond (eqb which 2) (spanIn h2 s) noSpan)

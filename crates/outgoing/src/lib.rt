@@ -1,17 +1,25 @@
 // Hops of a state: the outgoing hops, shown as a part of the lent table itself.
 use graph::OldState;
 use graph::Shape;
+use graph::hops::number_place;
 use graph::hops::part;
 use graph::limits::check;
 use graph::search::first_of;
 use graph::search::past_of;
 ghost use mathlib.Core.Path.{_≡_};
-ghost use Prim.Native.Nat.{_<_};
+ghost use Prim.Native.Nat.{_<_, _≤_};
 ghost use denote.Ref.{ptr};
-ghost use Rattle.graph.specs.Hops.{standsAt};
+ghost use Rattle.graph.specs.Hops.{count, standsAt};
 ghost use Rattle.graph.specs.Order.{Ascending};
 ghost use Rattle.graph.specs.Search.{firstOf};
-ghost use Rattle.outgoing.specs.Outgoing.{bothPass, chosen, outgoing, shown, shownAt};
+ghost use Rattle.graph.specs.Check.{most-hops};
+ghost use Rattle.outgoing.specs.Outgoing.{bothPass, chosen, outgoing, shown, shownAt, noSpan, spanIn, spanOf};
+
+// Where a part stands in its table, in numbers; 0 and 0 for an empty part.
+pub struct Span {
+    pub start: usize,
+    pub length: usize,
+}
 
 fn both_pass(shape1: Shape, hops1: &[u16], shape2: Shape, hops2: &[u16]) -> bool
     ensures { λ r. ⌜ r ≡ bothPass shape1 (now (hops1 .entry)) shape2 (now (hops2 .entry)) ⌝ }
@@ -71,4 +79,54 @@ pub fn hops_of<'a>(
         return out_of(hops2, state);
     }
     part(hops1, 0, 0)
+}
+
+fn no_span() -> Span
+    ensures { λ r. ⌜ r ≡ noSpan ⌝ }
+{
+    Span {
+        start: 0,
+        length: 0,
+    }
+}
+
+// Where the hops of a state stand in an ascending list.
+fn span_in(hops: &[u16], state: u32) -> Span
+    requires { ⌜ Ascending (now hops) × (count (now hops) ≤ most-hops) × (state < 65535) ⌝ }
+    ensures { λ r. ⌜ r ≡ spanIn (now (hops .entry)) state ⌝ }
+{
+    let s = OldState(state as u16);
+    let first = first_of(hops, s);
+    let past = past_of(hops, s);
+    if first == past {
+        return no_span();
+    }
+    let start = number_place(first);
+    let end = number_place(past);
+    Span {
+        start,
+        length: end - start,
+    }
+}
+
+// The entry by numbers: where the part stands that `hops_of` shows.
+pub fn span_of(
+    side: u32,
+    state: u32,
+    shape1: Shape,
+    hops1: &[u16],
+    shape2: Shape,
+    hops2: &[u16],
+) -> Span
+    ensures { λ r. ⌜ r ≡
+        spanOf (chosen side state shape1 (now (hops1 .entry)) shape2 (now (hops2 .entry))) state (now (hops1 .entry)) (now (hops2 .entry)) ⌝ }
+{
+    let which = choose(side, state, shape1, hops1, shape2, hops2);
+    if which == 1 {
+        return span_in(hops1, state);
+    }
+    if which == 2 {
+        return span_in(hops2, state);
+    }
+    no_span()
 }

@@ -24,7 +24,7 @@ ghost use Rattle.quotient.specs.Reduce.{reduceAnswer, reduceOf, mapOutpu
 ghost use Rattle.quotient.specs.Tables.{Reducible, Onward, refusal};
 
 // The answer, before anything is written: rows 1 to 4, then 5, then 6.
-fn answer_of(shape: Shape, hops: &[u16], entries: usize, numbers: usize) -> Answer
+pub fn reduce_answer(shape: Shape, hops: &[u16], entries: usize, numbers: usize) -> Answer
     ensures { λ r. ⌜ r ≡ reduceAnswer shape (now (hops .entry)) entries numbers ⌝ }
 {
     let checked = check(shape, hops);
@@ -97,7 +97,7 @@ pub fn reduce(shape: Shape, hops: &[u16], map: &mut [u16], short: &mut [u16]) ->
     ensures mapped { λ r. ⌜ now (map .exit) ≡ mapOutput shape (now (hops .entry)) (now (map .entry)) (now (short .entry)) ⌝ }
     ensures shortened { λ r. ⌜ now (short .exit) ≡ shortOutput shape (now (hops .entry)) (now (map .entry)) (now (short .entry)) ⌝ }
 {
-    let answer = answer_of(shape, hops, map.len(), short.len());
+    let answer = reduce_answer(shape, hops, map.len(), short.len());
     if answer.number != 0 {
         return refused_reduction(answer);
     }

@@ -12,7 +12,7 @@ use Rattle.silent.specs.Silent.{ringless}
 use Rattle.confluence.specs.Mark.{markOf}
 use Rattle.quotient.specs.Representative.{mapOf}
 use Rattle.quotient.specs.Short.{shortHops, shortShape}
-use Rattle.file.specs.Format.{shapeIn, hopListIn}
+use Rattle.fields.specs.Format.{shapeIn, hopListIn}
 use Rattle.file.specs.Read.{formatAnswer}
 use Rattle.report.specs.Text.{line, lines, in-word, marked-word, map-word, out-word, hop-word, no-word}
 

@@ -5,12 +5,12 @@ use Rattle.confluence.proofs.Entry.{admitted-ready, mark-admitted, mark
 use Rattle.confluence.proofs.mark.mark.Statement.{statement}
 use Rattle.confluence.proofs.mark.mark.Tie as tie
 
-answer-of-requires : tie.Need-answer-of-requires
-answer-of-requires c κs = search needs
+mark-answer-requires : tie.Need-mark-answer-requires
+mark-answer-requires c κs = search needs
 
 mark-all-requires : tie.Need-mark-all-requires
 mark-all-requires c κs =
-    let e = rw (c .before .before .before .answer-of .ensures) at (c .before .if1 .taken) in
+    let e = rw (c .before .before .before .mark-answer .ensures) at (c .before .if1 .taken) in
     (admitted-ready (mark-admitted _ _ _ e), mark-room _ _ _ e)
 
 same-length : tie.Need-same-length
@@ -18,7 +18,7 @@ same-length c = search needs
 
 returns : tie.Need-returns
 returns c =
-    let d = c .before .before .before .before .before .before .answer-of .ensures in
+    let d = c .before .before .before .before .before .before .mark-answer .ensures in
     (d, c .before .before .mark-all .ensures ∙ output-marked _ _ _ (rw d at (c .before .before .before .before .if1 .taken)))
 
 same-length-2 : tie.Need-same-length-2
@@ -26,10 +26,10 @@ same-length-2 c = search needs
 
 returns-2 : tie.Need-returns-2
 returns-2 c =
-    let d = c .before .before .answer-of .ensures in
+    let d = c .before .before .mark-answer .ensures in
     (d, output-same _ _ _ (rw d at (c .if1 .left)))
 
 pub mark-spec : {M : Type 1} → statement M
 mark-spec =
     tie.close
-    (tie.spec answer-of-requires mark-all-requires same-length returns same-length-2 returns-2)
+    (tie.spec mark-answer-requires mark-all-requires same-length returns same-length-2 returns-2)

@@ -5,15 +5,15 @@ use borrow.Author.Needs.{needs}
 use Rattle.quotient.proofs.entry.reduce.Statement.{statement}
 use Rattle.quotient.proofs.entry.reduce.Tie as tie
 
-answer-of-requires : tie.Need-answer-of-requires
-answer-of-requires c κs = search needs
+reduce-answer-requires : tie.Need-reduce-answer-requires
+reduce-answer-requires c κs = search needs
 
 refused-reduction-requires : tie.Need-refused-reduction-requires
 refused-reduction-requires c κs = search needs
 
 returns : tie.Need-returns
 returns c =
-    let d = c .before .before .before .answer-of .ensures in
+    let d = c .before .before .before .reduce-answer .ensures in
     let n = c .before .if1 .taken in
     let map = c .before .before .before .before .before .before .before .args .map .now in
     let short = c .before .before .before .before .before .before .before .args .short .now in
@@ -21,7 +21,7 @@ returns c =
 
 accepted-reduction-requires : tie.Need-accepted-reduction-requires
 accepted-reduction-requires c κs =
-    let e = rw (c .before .before .before .before .answer-of .ensures) at (c .before .before .if1 .left) in
+    let e = rw (c .before .before .before .before .reduce-answer .ensures) at (c .before .before .if1 .left) in
     (reduce-reducible _ _ _ _ e, (reduce-map-room _ _ _ _ e, reduce-short-room _ _ _ _ e))
 
 same-length : tie.Need-same-length
@@ -32,7 +32,7 @@ same-length-2 c = search needs
 
 returns-2 : tie.Need-returns-2
 returns-2 c =
-    let d = c .before .before .before .before .before .before .before .before .before .answer-of .ensures in
+    let d = c .before .before .before .before .before .before .before .before .before .reduce-answer .ensures in
     let z = c .before .before .before .before .before .before .before .if1 .left in
     let map = c .before .before .before .before .before .before .before .before .before .before .before .before .before .args .map .now in
     let short = c .before .before .before .before .before .before .before .before .before .before .before .before .before .args .short .now in
@@ -43,7 +43,7 @@ pub reduce-spec : {M : Type 1} → statement M
 reduce-spec =
     tie.close
     (tie.spec
-    answer-of-requires
+    reduce-answer-requires
     refused-reduction-requires
     returns
     accepted-reduction-requires

@@ -23,7 +23,7 @@ put-marks-requires : tie.Need-put-marks-requires
 put-marks-requires c κs = (c .before .before .before .before .before .before .before .before .before .before .before .before .before .pre .0, room-first _ _ (room-rest _ _ (room-same (report-parts _ _ _ _ _ _ (c .before .before .before .before .before .before .hop-count .ensures) refl) (c .before .before .before .before .before .before .before .before .before .before .before .before .before .pre .1 .1 .1)) (c .before .before .before .put-line2 .ensures)))
 
 put-map-requires : tie.Need-put-map-requires
-put-map-requires c κs = 
+put-map-requires c κs =
     let s = c .before .before .before .before .before .before .before .before .before .before .before .before .before .before .before .before .before in
     (s .pre .1 .0, (s .pre .1 .1 .0, room-first _ _ (room-rest _ _ (room-rest _ _ (room-same (report-parts _ _ _ _ _ _ (c .before .before .before .before .before .before .before .before .before .before .hop-count .ensures) refl) (c .before .before .before .before .before .before .before .before .before .before .before .before .before .before .before .before .before .pre .1 .1 .1)) (c .before .before .before .before .before .before .before .put-line2 .ensures)) (c .before .before .before .put-marks .ensures))))
 

@@ -1,11 +1,11 @@
--- `confluence::mark::answer_of` meets its contract, row by row. Assumes nothing.
+-- `confluence::mark::mark_answer` meets its contract, row by row. Assumes nothing.
 use mathlib.Core.Path.{_∙_}
 use native.Mathlib.Omega.{arith}
 use borrow.Author.Needs.{needs}
 use Rattle.graph.proofs.Checked.{check-admitted}
 use Rattle.confluence.proofs.Entry.{mark-refused, mark-ringed, mark-narrow, mark-accepts}
-use Rattle.confluence.proofs.mark.answer_of.Statement.{statement}
-use Rattle.confluence.proofs.mark.answer_of.Tie as tie
+use Rattle.confluence.proofs.mark.mark_answer.Statement.{statement}
+use Rattle.confluence.proofs.mark.mark_answer.Tie as tie
 
 check-requires : tie.Need-check-requires
 check-requires c κs = search needs
@@ -39,8 +39,8 @@ returns-4 c =
     c .accept .ensures ∙ mark-accepts _ _ _ (c .before .before .before .before .before .before .before .before .check .ensures) (c .before .before .before .before .before .before .if1 .left)
     (c .before .before .before .before .before .ring-answer .ensures) (c .before .before .before .if2 .left) (omega arith)
 
-pub answer-of-spec : {M : Type 1} → statement M
-answer-of-spec =
+pub mark-answer-spec : {M : Type 1} → statement M
+mark-answer-spec =
     tie.close
     (tie.spec
     check-requires

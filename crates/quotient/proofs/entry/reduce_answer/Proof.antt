@@ -1,10 +1,10 @@
--- `quotient::entry::answer_of` meets its contract: each way out is a row. Assumes nothing.
+-- `quotient::entry::reduce_answer` meets its contract: each way out is a row. Assumes nothing.
 use mathlib.Core.Path.{_∙_}
 use Rattle.graph.proofs.Checked.{check-admitted}
 use Rattle.quotient.proofs.Answering.{answer-checked, answer-ringed, answer-narrow, answer-accepts}
 use borrow.Author.Needs.{needs}
-use Rattle.quotient.proofs.entry.answer_of.Statement.{statement}
-use Rattle.quotient.proofs.entry.answer_of.Tie as tie
+use Rattle.quotient.proofs.entry.reduce_answer.Statement.{statement}
+use Rattle.quotient.proofs.entry.reduce_answer.Tie as tie
 
 check-requires : tie.Need-check-requires
 check-requires c κs = search needs
@@ -38,8 +38,8 @@ returns-4 c =
     c .accept .ensures ∙
     answer-accepts _ _ _ _ (c .before .before .before .before .before .before .before .before .check .ensures) (c .before .before .before .before .before .before .if1 .left) (c .before .before .before .before .before .ring-answer .ensures) (c .before .before .before .if2 .left) (c .before .if3 .left)
 
-pub answer-of-spec : {M : Type 1} → statement M
-answer-of-spec =
+pub reduce-answer-spec : {M : Type 1} → statement M
+reduce-answer-spec =
     tie.close
     (tie.spec
     check-requires

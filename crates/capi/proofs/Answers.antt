@@ -1,0 +1,60 @@
+-- An answer slice: the stores that write it, and what is returned where it is too short or long enough. Assumes nothing.
+use Prim.Native.Nat.{ℕ, _+_, _<_, _≤_}
+use mathlib.Core.Path.{_≡_, refl, ap, _∙_}
+use mathlib.Core.Bool.{Bool, true, false, cond}
+use mathlib.Core.List.{List, [], _∷_, _++_}
+use native.Mathlib.Omega.{arith}
+use borrow.Author.Tests.{le-leb, lt-leb, eq-eqb, ne-eqb, eqb-true}
+use lib.ListN.{length, drop}
+use lib.Seq.{sets, sets-eq}
+use lib.Dec.{eqb, leb}
+use Rattle.graph.specs.declared.Answer.{Answer}
+use Rattle.capi.specs.Interface.{returned, told, unlessShort}
+
+-- numbers stored one after another from the front
+pub stored : (vs out : List ℕ) → length vs ≤ length out → sets out 0 vs ≡ vs ++ drop (length vs) out
+stored vs out l = sets-eq vs out 0 (omega arith) ∙ simp zero-add where
+  zero-add : (n : ℕ) → 0 + n ≡ n
+  zero-add n = omega arith
+
+module _ (a : Answer) (n room : ℕ) where
+  -- too short: 6, unless the entry refuses
+  pub short-six : room < n → a .number ≡ 0 → 6 ≡ returned a n room
+  unfolding returned
+  short-six l e = rw (eq-eqb _ _ e, lt-leb n room l)
+
+  pub refusal-returns : (a .number ≡ 0 → ⊥) → a .number ≡ returned a n room
+  unfolding returned
+  refusal-returns e = rw (ne-eqb _ _ e)
+
+  pub long-returns : n ≤ room → a .number ≡ returned a n room
+  unfolding returned
+  long-returns l = go (eqb (a .number) 0) refl where
+    go : (x : Bool) → eqb (a .number) 0 ≡ x → a .number ≡ cond x (cond (leb n room) 0 6) (a .number)
+    go true e = eqb-true _ _ e ∙ rw (le-leb n room l)
+    go false e = refl
+
+-- what is said of an answer, or of its numbers, is said of an equal one
+pub returned-of : (n room : ℕ) {a b : Answer} {r : ℕ} → a ≡ b → r ≡ returned a n room → r ≡ returned b n room
+returned-of n room e h = h ∙ ap (λ (x : Answer). returned x n room) e
+
+pub told-of : (n : ℕ) (old : List ℕ) {xs ys new : List ℕ} → xs ≡ ys → new ≡ told n xs old → new ≡ told n ys old
+told-of n old e h = h ∙ ap (λ (xs : List ℕ). told n xs old) e
+
+module _ (n : ℕ) (new old : List ℕ) where
+  pub short-told : length old < n → old ≡ told n new old
+  unfolding told
+  short-told l = rw (lt-leb n (length old) l)
+
+  pub long-told : n ≤ length old → new ++ drop n old ≡ told n new old
+  unfolding told
+  long-told l = rw (le-leb n (length old) l)
+
+module _ (n : ℕ) (answer new old : List ℕ) where
+  pub short-kept : length answer < n → old ≡ unlessShort n answer new old
+  unfolding unlessShort
+  short-kept l = rw (lt-leb n (length answer) l)
+
+  pub long-left : n ≤ length answer → new ≡ unlessShort n answer new old
+  unfolding unlessShort
+  long-left l = rw (le-leb n (length answer) l)

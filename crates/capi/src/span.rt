@@ -1,0 +1,43 @@
+// Hops of a state, by start and length.
+use super::answer::put_span;
+use super::answer::shape_of;
+use outgoing::span_of;
+ghost use mathlib.Core.Path.{_≡_};
+ghost use lib.ListN.{length};
+ghost use Rattle.graph.specs.Check.{accepted};
+ghost use Rattle.outgoing.specs.Outgoing.{chosen, spanOf};
+ghost use Rattle.capi.specs.Interface.{shapeOf, spanNumbers, returned, told};
+
+#[no_mangle]
+pub extern "C" fn zf_hops_of(
+    side: u32,
+    state: u32,
+    states1: u32,
+    labels1: u32,
+    initial1: u32,
+    hops1: &[u16],
+    states2: u32,
+    labels2: u32,
+    initial2: u32,
+    hops2: &[u16],
+    answer: &mut [u64],
+) -> u32
+    ensures returns { λ r. ⌜ r ≡ returned accepted 2 (length (now (answer .entry))) ⌝ }
+    ensures tells { λ r. ⌜ now (answer .exit) ≡
+        told 2
+        (spanNumbers
+        (spanOf
+        (chosen side state (shapeOf states1 labels1 initial1) (now (hops1 .entry)) (shapeOf states2 labels2 initial2) (now (hops2 .entry)))
+        state
+        (now (hops1 .entry))
+        (now (hops2 .entry))))
+        (now (answer .entry)) ⌝ }
+{
+    if answer.len() < 2 {
+        return 6;
+    }
+    let shape1 = shape_of(states1, labels1, initial1);
+    let shape2 = shape_of(states2, labels2, initial2);
+    put_span(answer, span_of(side, state, shape1, hops1, shape2, hops2));
+    0
+}
