@@ -16,12 +16,8 @@ use Rattle.graph.specs.declared.Answer.{Answer}
 use Rattle.graph.proofs.Bools.{and-no-left, and-no-right, not-no}
 use Rattle.graph.proofs.Tests.{length-listed}
 use Rattle.graph.proofs.Checked.{check-counts}
-<<<<<<< HEAD
-use Rattle.fields.specs.Format.{numberAt, hopsPlace, hopsIn, shapeIn, hopListIn}
-=======
 use Rattle.fields.specs.Format.{numberAt, hopsPlace, hopsIn, shapeIn, hopListIn}
 use Rattle.file.proofs.Given.{both-accept, second-accepts, room-accepts}
->>>>>>> capi
 use Rattle.file.specs.Read.{formatAnswer, readAnswer, readOf, readHops, nothing, contentsOf, onFront}
 
 -- a graph with too many hops is refused whatever they are

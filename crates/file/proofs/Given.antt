@@ -7,14 +7,9 @@ use mathlib.Core.Logic.{inl}
 use native.Mathlib.Omega.{arith}
 use borrow.Author.Tests.{lt-ltb, le-ltb, lt-leb, le-leb, eq-eqb, ne-eqb, eqb-true, eqb-false, leb-true}
 use lib.ListN.{length}
-<<<<<<< HEAD
-use lib.Dec.{eqb}
-use Rattle.graph.specs.Check.{accepted, refused, andThen, checkOf, Admitted}
-=======
 use lib.Dec.{eqb, leb}
 use Rattle.graph.specs.Hops.{count}
 use Rattle.graph.specs.Check.{accepted, refused, andThen, roomFor, checkOf, Admitted}
->>>>>>> capi
 use Rattle.graph.specs.declared.Shape.{Shape}
 use Rattle.graph.specs.declared.Answer.{Answer}
 use Rattle.graph.proofs.Checked.{check-admitted, admitted-check}

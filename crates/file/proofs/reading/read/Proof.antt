@@ -2,14 +2,8 @@
 use borrow.Author.Needs.{needs}
 use mathlib.Core.Path.{sym, _∙_}
 use native.Mathlib.Omega.{arith}
-<<<<<<< HEAD
 use Rattle.fields.proofs.Laws.{hops-place-most}
-use Rattle.file.proofs.Entry.{format-speaks, graph-speaks, room-speaks, none-speaks, six-refuses, refused-gives, accepted-gives, front-copied}
-use borrow.Author.Needs.{needs}
-=======
-use Rattle.file.proofs.Fields.{hops-place-most}
 use Rattle.file.proofs.Entry.{read-accepts, refused-gives, accepted-gives, front-copied}
->>>>>>> capi
 use Rattle.file.proofs.reading.read.Statement.{statement}
 use Rattle.file.proofs.reading.read.Tie as tie
 

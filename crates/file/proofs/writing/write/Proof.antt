@@ -1,11 +1,4 @@
-<<<<<<< HEAD
--- `file::writing::write` meets its contract: each way out is a case of the definition, and only the last one writes. Assumes nothing.
-use mathlib.Core.Path.{_∙_}
-use Rattle.file.proofs.Entry.{six-refuses}
-use Rattle.file.proofs.Given.{graph-speaks, hops-most-numbers, room-speaks, none-speaks, writable, refused-writes, accepted-writes}
-=======
 -- `file::writing::write` meets its contract: a refusal writes nothing, and acceptance says that there is room. Assumes nothing.
->>>>>>> capi
 use borrow.Author.Needs.{needs}
 use mathlib.Core.Path.{refl, sym, _∙_}
 use Rattle.file.proofs.Given.{hops-most-numbers, write-accepts, writable, refused-writes, accepted-writes}
