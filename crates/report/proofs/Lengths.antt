@@ -1,11 +1,10 @@
 -- How long texts are at most, and that the buffer holds the longest: a number below 100,000 takes 5 digits, any takes 20. Assumes nothing.
 use Prim.Native.Nat.{ℕ, zero, suc, _+_, _*_, _/_, _%_, _<_, _≤_}
-use mathlib.Core.Path.{_≡_}
 use mathlib.Core.Bool.{Bool, true, false, cond}
 use mathlib.Core.List.{List, [], _∷_, _++_}
 use native.Mathlib.Nat.{le-refl, suc-mul}
 use native.Mathlib.Omega.{arith}
-use borrow.Author.Tests.{ltb-false, lt-ltb}
+use borrow.Author.Tests.{lt-ltb}
 use lib.ListN.{length, length-append}
 use lib.Dec.{ltb, eqb}
 use Rattle.graph.specs.Hops.{count, from, label, to, flat}
@@ -104,7 +103,8 @@ pub report-most : {sh : Shape} {hs : List ℕ} → Reducible sh hs → length (r
 unfolding reportOf linesOf
 report-most {sh} {hs} red =
     simp length-append
-    (omega (arith,
+    (omega (
+      arith,
       line2-most 20 in-word (sh .states) (count hs) (decimal-any (sh .states)) (decimal-any (count hs)),
       lines-most (markedLine hs (markOf hs)) 19 (count hs) (marked-most sh hs (red .admitted) (markOf hs)),
       lines-most (mapLine (mapOf sh hs)) 16 (sh .states) (map-most sh hs (red .admitted) (mapOf sh hs) (λ s l. omega (arith, map-inside red s l, short .states-most))),
@@ -112,12 +112,13 @@ report-most {sh} {hs} red =
       lines-most (hopLine xs) 22 (count xs) (hop-most new xs short),
       red .admitted .hops-most,
       red .admitted .states-most,
-      short .hops-most)) where
-        new : Shape
-        new = shortShape sh hs
+      short .hops-most,
+    )) where
+      new : Shape
+      new = shortShape sh hs
 
-        xs : List ℕ
-        xs = flat (shortHops sh hs)
+      xs : List ℕ
+      xs = flat (shortHops sh hs)
 
-        short : Admitted (shortShape sh hs) (flat (shortHops sh hs))
-        short = short-admitted red
+      short : Admitted (shortShape sh hs) (flat (shortHops sh hs))
+      short = short-admitted red

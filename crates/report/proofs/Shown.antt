@@ -2,10 +2,10 @@
 use Prim.Native.Nat.{ℕ, _+_, _*_, _-_, _<_, _≤_}
 use mathlib.Core.Path.{_≡_, refl, sym, ap, _∙_}
 use mathlib.Core.Bool.{Bool, true, false, cond}
-use mathlib.Core.List.{List, [], _∷_, _++_}
+use mathlib.Core.List.{List, []}
 use native.Mathlib.Omega.{arith}
 use borrow.Author.Tests.{eq-eqb, ne-eqb, eqb-true, le-leb, lt-leb}
-use lib.ListN.{length, getD, take, drop, length-append, List·getD-append}
+use lib.ListN.{length, getD, drop, length-append, List·getD-append}
 use lib.Seq.{take-at}
 use lib.Dec.{eqb}
 use Rattle.graph.specs.Tests.{listed}
@@ -33,7 +33,6 @@ use Rattle.file.proofs.Entry.{length-hop-list, count-hop-list}
 use Rattle.report.specs.Report.{linesOf, reportOf, refusalOf, unlessRefused, printedGraph, printedOf, most-text, shownIn}
 use Rattle.report.specs.Text.{Room, Put}
 use Rattle.report.proofs.Parts.{report-same}
-use Rattle.report.proofs.Lengths.{report-most}
 
 pub refused-text : (a : Answer) (t : List ℕ) → (a .number ≡ 0 → ⊥) → unlessRefused a t ≡ refusalOf a
 unfolding unlessRefused
@@ -74,7 +73,7 @@ module _ (sh : Shape) (hs : List ℕ) where
       then-text (checkOf sh hs) (andThen (ringless sh hs) (roomFor (count hs) (length ms))) (reportOf sh hs) ∙
       same-text (checkOf sh hs)
       (λ z. then-text (ringless sh hs) (roomFor (count hs) (length ms)) (reportOf sh hs) ∙
-        same-text (ringless sh hs) (λ y. room-text (count hs) (length ms) (omega (arith, hops-fit z)) (reportOf sh hs)))
+      same-text (ringless sh hs) (λ y. room-text (count hs) (length ms) (omega (arith, hops-fit z)) (reportOf sh hs)))
 
   module _ (ms : List ℕ) (sized : 4096 ≡ length ms) {a : Answer} (e : a ≡ markAnswer sh hs ms) where
     pub graph-refused : (a .number ≡ 0 → ⊥) → refusalOf a ≡ printedGraph sh hs
@@ -105,10 +104,12 @@ module _ {sh : Shape} {hs : List ℕ} (red : Reducible sh hs) where
   reduces : (m k : ℕ) → 1024 ≤ m → 12288 ≤ k → eqb (reduceAnswer sh hs m k .number) 0 ≡ true
   unfolding reduceAnswer
   reduces m k p q =
-      rw (eq-eqb (checkOf sh hs .number) 0 (ap (λ (x : Answer). x .number) (admitted-check sh hs (red .admitted))),
+      rw (
+        eq-eqb (checkOf sh hs .number) 0 (ap (λ (x : Answer). x .number) (admitted-check sh hs (red .admitted))),
         eq-eqb (ringless sh hs .number) 0 (red .free),
         le-leb (sh .states) m (omega (arith, red .admitted .states-most)),
-        le-leb (length hs) k (omega (arith, red .admitted .hops-most, red .admitted .three-a-hop)))
+        le-leb (length hs) k (omega (arith, red .admitted .hops-most, red .admitted .three-a-hop)),
+      )
 
   module _ (m0 s0 : List ℕ) (p : 1024 ≤ length m0) (q : 12288 ≤ length s0) where
     module _ {r : Reduction} (d : r ≡ reduceOf sh hs (length m0) (length s0)) where
@@ -150,7 +151,7 @@ module _ (b : List ℕ) where
       then-text (formatAnswer b) (andThen (checkOf (shapeIn b) (hopListIn b)) (roomFor (3 * hopsIn b) (length old))) t ∙
       same-text (formatAnswer b)
       (λ y. then-text (checkOf (shapeIn b) (hopListIn b)) (roomFor (3 * hopsIn b) (length old)) t ∙
-        same-text (checkOf (shapeIn b) (hopListIn b)) (λ z. room-text (3 * hopsIn b) (length old) (omega (arith, hops-fit (shapeIn b) (hopListIn b) z, count-hop-list b)) t))
+      same-text (checkOf (shapeIn b) (hopListIn b)) (λ z. room-text (3 * hopsIn b) (length old) (omega (arith, hops-fit (shapeIn b) (hopListIn b) z, count-hop-list b)) t))
 
   module _ (old : List ℕ) (l : 12288 ≤ length old) {x : Contents} (e : x ≡ readOf b (length old)) where
     chosen : (t : Bool) → eqb (readAnswer b (length old) .number) 0 ≡ t → x ≡ cond t (contentsOf b) (nothing (readAnswer b (length old)))

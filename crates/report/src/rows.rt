@@ -91,7 +91,15 @@ fn put_hops(out: &mut [u8], at: usize, hops: &[u16]) -> usize
 }
 
 // The whole report, from the buffer's front on.
-pub fn put_report(shape: Shape, hops: &[u16], marks: &[u8], map: &[u16], new: Shape, short: &[u16], out: &mut [u8]) -> usize
+pub fn put_report(
+    shape: Shape,
+    hops: &[u16],
+    marks: &[u8],
+    map: &[u16],
+    new: Shape,
+    short: &[u16],
+    out: &mut [u8],
+) -> usize
     requires { ⌜ count (now hops) ≤ length (now marks) ⌝ ∗ ⌜ shape .states ≤ length (now map) ⌝ ∗ ⌜ shape .states ≤ 65535 ⌝ ∗ ⌜ Room 0 (linesOf shape (now hops) (λ (i : ℕ). getD (now marks) i 0) (λ (s : ℕ). getD (now map) s 0) new (now short)) (now out) ⌝ }
     ensures { λ r. ⌜ Put (now (out .entry)) 0 (linesOf shape (now (hops .entry)) (λ (i : ℕ). getD (now (marks .entry)) i 0) (λ (s : ℕ). getD (now (map .entry)) s 0) new (now (short .entry))) r (now (out .exit)) ⌝ }
 {

@@ -31,7 +31,7 @@ slice-aggregate-part : tie.Need-slice-aggregate-part
 slice-aggregate-part c = search needs
 
 part-requires : tie.Need-part-requires
-part-requires c κs = 
+part-requires c κs =
     (omega arith, omega (arith, file-most _ (replicate 12288 0) wide (c .before .before .before .before .before .before .read .ensures .0) (c .before .before .if1 .left)))
 
 print-graph-requires : tie.Need-print-graph-requires
@@ -41,7 +41,7 @@ same-length-2 : tie.Need-same-length-2
 same-length-2 c = search needs
 
 returns-2 : tie.Need-returns-2
-returns-2 c = 
+returns-2 c =
     let r = c .before .before .before .before .before .before .before .before .before .before .before .read .ensures in
     put-same (file-printed _ (replicate 12288 0) wide (r .0) (c .before .before .before .before .before .before .before .if1 .left) (r .1) (c .before .before .before .before .part .ensures .0)) (c .before .before .print-graph .ensures)
 

@@ -18,7 +18,7 @@ same-length : tie.Need-same-length
 same-length c = search needs
 
 returns-2 : tie.Need-returns-2
-returns-2 c = 
+returns-2 c =
     let e = shown-whole _ (printedOf (c .before .before .before .before .before .before .before .args .file .now)) (c .before .before .before .before .if1 .left) in
     let p = c .before .before .print-contents .ensures in
     (rw e (front-length p), (rw e (front-stands p), front-within p))

@@ -31,7 +31,7 @@ slice-aggregate-print-reduced : tie.Need-slice-aggregate-print-reduced
 slice-aggregate-print-reduced c = search needs
 
 print-reduced-requires : tie.Need-print-reduced-requires
-print-reduced-requires c κs = 
+print-reduced-requires c κs =
     let m = c .before .before .before .before .before .mark .ensures in
     let z = c .before .before .if1 .left in
     (graph-reducible _ _ _ sized (m .0) z, (graph-marks _ _ _ sized (m .0) z (m .1), c .before .before .before .before .before .before .before .before .before .pre))

@@ -26,7 +26,7 @@ slice-aggregate-part : tie.Need-slice-aggregate-part
 slice-aggregate-part c = search needs
 
 part-requires : tie.Need-part-requires
-part-requires c κs = 
+part-requires c κs =
     let st = c .before .before .before .before .before .before .before .before .before .before .before in
     let r = c .before .before .before .before .before .reduce .ensures in
     let l1 : 1024 ≤ length (replicate {A = ℕ} 1024 0) = omega (arith, length-replicate {A = ℕ} 1024 0) in
@@ -34,7 +34,7 @@ part-requires c κs =
     (omega arith, omega (arith, reduced-most (st .pre .0) (replicate 1024 0) (replicate 12288 0) l1 l2 (r .0)))
 
 put-report-requires : tie.Need-put-report-requires
-put-report-requires c κs = 
+put-report-requires c κs =
     let st = c .before .before .before .before .before .before .before .before .before .before .before .before .before in
     let r = c .before .before .before .before .before .before .before .reduce .ensures in
     let l1 : 1024 ≤ length (replicate {A = ℕ} 1024 0) = omega (arith, length-replicate {A = ℕ} 1024 0) in
@@ -45,7 +45,7 @@ same-length : tie.Need-same-length
 same-length c = search needs
 
 returns : tie.Need-returns
-returns c = 
+returns c =
     let st = c .before .before .before .before .before .before .before .before .before .before .before .before .before .before .before .before in
     let r = c .before .before .before .before .before .before .before .before .before .before .reduce .ensures in
     let l1 : 1024 ≤ length (replicate {A = ℕ} 1024 0) = omega (arith, length-replicate {A = ℕ} 1024 0) in

@@ -28,14 +28,14 @@ slice-aggregate-put-line3 : tie.Need-slice-aggregate-put-line3
 slice-aggregate-put-line3 c = search needs
 
 put-line3-requires : tie.Need-put-line3-requires
-put-line3-requires c κs = 
+put-line3-requires c κs =
     room-same (hop-parts _ _ (c .before .before .before .before .before .before .before .from-at .ensures) (c .before .before .before .before .before .label-at .ensures) (c .before .before .before .to-at .ensures)) (c .before .before .before .before .before .before .before .before .before .before .pre .1)
 
 same-length : tie.Need-same-length
 same-length c = search needs
 
 returns : tie.Need-returns
-returns c = 
+returns c =
     put-same (sym (hop-parts _ _ (c .before .before .before .before .before .before .before .before .before .before .from-at .ensures) (c .before .before .before .before .before .before .before .before .label-at .ensures) (c .before .before .before .before .before .before .to-at .ensures))) (c .before .before .put-line3 .ensures)
 
 pub put-hop-spec : {M : Type 1} → statement M

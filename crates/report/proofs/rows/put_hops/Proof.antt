@@ -34,7 +34,7 @@ loop-less : tie.Need-loop-less Inv-loop μ-loop
 loop-less c = omega arith
 
 loop-again : tie.Need-loop-again Inv-loop μ-loop
-loop-again c = 
+loop-again c =
     let v = c .before .before .before .before .before .loop .inv in
     (v .0, omega arith, omega arith, lines-more _ _ (c .before .before .before .before .before .before .before .before .before .pre) (omega arith) (v .3) (c .before .before .put-hop .ensures))
 

@@ -34,7 +34,7 @@ slice-aggregate-put-line2 : tie.Need-slice-aggregate-put-line2 Inv-loop μ-loop
 slice-aggregate-put-line2 c = search needs
 
 put-line2-requires : tie.Need-put-line2-requires Inv-loop μ-loop
-put-line2-requires c κs = 
+put-line2-requires c κs =
     room-same (map-parts _ _ (c .before .before .before .map-at .ensures)) (lines-room _ _ (c .before .before .before .before .before .before .before .before .pre .1 .1) (omega arith) (c .before .before .before .before .before .loop .inv .2))
 
 add-s : tie.Need-add-s Inv-loop μ-loop
@@ -44,7 +44,7 @@ loop-less : tie.Need-loop-less Inv-loop μ-loop
 loop-less c = omega arith
 
 loop-again : tie.Need-loop-again Inv-loop μ-loop
-loop-again c = 
+loop-again c =
     let v = c .before .before .before .before .before .before .before .before .loop .inv in
     (omega arith, omega arith, lines-more _ _ (c .before .before .before .before .before .before .before .before .before .before .before .pre .1 .1) (omega arith) (v .2) (put-same (sym (map-parts _ _ (c .before .before .before .before .before .before .map-at .ensures))) (c .before .before .put-line2 .ensures)))
 

@@ -25,14 +25,14 @@ slice-aggregate-put-line2 : tie.Need-slice-aggregate-put-line2
 slice-aggregate-put-line2 c = search needs
 
 put-line2-requires : tie.Need-put-line2-requires
-put-line2-requires c κs = 
+put-line2-requires c κs =
     room-same (mark-yes _ _ _ (c .before .before .before .before .before .before .if1 .taken) (c .before .before .before .before .before .from-at .ensures) (c .before .before .before .to-at .ensures)) (c .before .before .before .before .before .before .before .before .before .before .before .pre .1 .1)
 
 same-length : tie.Need-same-length
 same-length c = search needs
 
 returns : tie.Need-returns
-returns c = 
+returns c =
     put-same (sym (mark-yes _ _ _ (c .before .before .before .before .before .before .before .before .before .if1 .taken) (c .before .before .before .before .before .before .before .before .from-at .ensures) (c .before .before .before .before .before .before .to-at .ensures))) (c .before .before .put-line2 .ensures)
 
 returns-2 : tie.Need-returns-2

@@ -25,7 +25,7 @@ loop-holds : tie.Need-loop-holds Inv-loop μ-loop
 loop-holds c = (c .hop-count .ensures, omega arith, refl, lines-none _)
 
 put-mark-requires : tie.Need-put-mark-requires Inv-loop μ-loop
-put-mark-requires c κs = 
+put-mark-requires c κs =
     (omega arith, (omega arith, lines-room _ _ (c .before .before .before .before .before .before .before .pre .1) (omega arith) (c .before .before .loop .inv .3)))
 
 add-i : tie.Need-add-i Inv-loop μ-loop
@@ -35,7 +35,7 @@ loop-less : tie.Need-loop-less Inv-loop μ-loop
 loop-less c = omega arith
 
 loop-again : tie.Need-loop-again Inv-loop μ-loop
-loop-again c = 
+loop-again c =
     let v = c .before .before .before .before .before .loop .inv in
     (v .0, omega arith, omega arith, lines-more _ _ (c .before .before .before .before .before .before .before .before .before .before .pre .1) (omega arith) (v .3) (c .before .before .put-mark .ensures))
 

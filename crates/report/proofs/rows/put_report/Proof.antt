@@ -1,6 +1,5 @@
 -- `report::rows::put_report` meets its contract: the five parts stand one behind the other. Assumes nothing.
 use mathlib.Core.Path.{refl, sym}
-use native.Mathlib.Omega.{arith}
 use Rattle.report.proofs.Puts.{put-same, put-then, room-same, room-first, room-rest}
 use Rattle.report.proofs.Parts.{report-parts}
 use borrow.Author.Needs.{needs}
@@ -23,7 +22,7 @@ put-marks-requires : tie.Need-put-marks-requires
 put-marks-requires c κs = (c .before .before .before .before .before .before .before .before .before .before .before .before .before .pre .0, room-first _ _ (room-rest _ _ (room-same (report-parts _ _ _ _ _ _ (c .before .before .before .before .before .before .hop-count .ensures) refl) (c .before .before .before .before .before .before .before .before .before .before .before .before .before .pre .1 .1 .1)) (c .before .before .before .put-line2 .ensures)))
 
 put-map-requires : tie.Need-put-map-requires
-put-map-requires c κs = 
+put-map-requires c κs =
     let s = c .before .before .before .before .before .before .before .before .before .before .before .before .before .before .before .before .before in
     (s .pre .1 .0, (s .pre .1 .1 .0, room-first _ _ (room-rest _ _ (room-rest _ _ (room-same (report-parts _ _ _ _ _ _ (c .before .before .before .before .before .before .before .before .before .before .hop-count .ensures) refl) (c .before .before .before .before .before .before .before .before .before .before .before .before .before .before .before .before .before .pre .1 .1 .1)) (c .before .before .before .before .before .before .before .put-line2 .ensures)) (c .before .before .before .put-marks .ensures))))
 
