@@ -1,3 +1,4 @@
+pub mod Decimal
 pub mod Puts
 pub mod Parts
 pub mod Lengths

@@ -2,7 +2,6 @@
 use Prim.Native.Nat.{ℕ}
 use mathlib.Core.Bool.{cond}
 use mathlib.Core.List.{List, [], _∷_, _++_}
-use lib.ListN.{length}
 use lib.Dec.{eqb, leb}
 use Rattle.graph.specs.Hops.{count, from, label, to, flat}
 use Rattle.graph.specs.Check.{checkOf}

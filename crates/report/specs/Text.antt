@@ -1,6 +1,6 @@
 -- Printed text as bytes: numbers in decimal, lines of a word and numbers, lines one behind the other, and what it is to put a text into a buffer.
 -- Assumes nothing: these are definitions.
-use Prim.Native.Nat.{ℕ, zero, suc, _+_, _/_, _%_, _≤_}
+use Prim.Native.Nat.{ℕ, zero, suc, _+_, _-_, _*_, _/_, _%_, _≤_}
 use mathlib.Core.Path.{_≡_}
 use mathlib.Core.Bool.{cond}
 use mathlib.Core.List.{List, [], _∷_, _++_}
@@ -16,6 +16,11 @@ digits (suc k) n = cond (ltb n 10) ((48 + n) ∷ []) (digits k (n / 10) ++ ((48 
 -- 20 digits hold any 64-bit number
 unfoldable pub decimal : ℕ → List ℕ
 decimal n = digits 20 n
+
+-- the number that digits show, read from the left behind a number that stands before them
+unfoldable pub shownBy : ℕ → List ℕ → ℕ
+shownBy before [] = before
+shownBy before (d ∷ ds) = shownBy (10 * before + (d - 48)) ds
 
 -- a space and a number
 unfoldable pub spaced : ℕ → List ℕ

@@ -1,6 +1,5 @@
 -- `report::rows::put_report` meets its contract: the five parts stand one behind the other. Assumes nothing.
 use mathlib.Core.Path.{refl, sym}
-use native.Mathlib.Omega.{arith}
 use Rattle.report.proofs.Puts.{put-same, put-then, room-same, room-first, room-rest}
 use Rattle.report.proofs.Parts.{report-parts}
 use borrow.Author.Needs.{needs}
