@@ -1,29 +1,28 @@
 -- "A file read and written again has the same bytes": the file falls into its fields one after the other, and each is written as it stands.
 -- Assumes nothing.
 use Prim.Native.Nat.{ℕ, zero, suc, _+_, _-_, _*_, _/_, _%_, _<_, _≤_}
-use mathlib.Core.Path.{_≡_, refl, sym, ap, _∙_}
-use mathlib.Core.Bool.{Bool, true, false, cond}
+use mathlib.Core.Path.{_≡_, sym, ap, _∙_}
+use mathlib.Core.Bool.{true, false, cond}
 use mathlib.Core.List.{List, [], _∷_, _++_, append-assoc}
 use mathlib.Core.Logic.{_⊎_, ⊎-elim}
 use native.Mathlib.Nat.{le-refl}
 use native.Mathlib.Numerals.{add-one}
 use native.Mathlib.Omega.{arith}
 use borrow.Author.Tests.{eq-eqb, ne-eqb, eqb-true, eqb-false}
-use lib.ListN.{length, getD, take, drop, length-drop}
+use lib.ListN.{length, getD, drop, length-drop}
 use lib.Seq.{drop-cons, take-all, drop-length}
 use lib.Dec.{eqb}
 use Rattle.graph.specs.Tests.{listed}
 use Rattle.graph.specs.Hops.{count}
-use Rattle.graph.specs.declared.Shape.{Shape}
 use Rattle.graph.proofs.Bools.{decided}
 use Rattle.names.specs.Block.{nameAt}
 use Rattle.names.proofs.Blocks.{name-first, name-later}
-use Rattle.file.specs.Format.{numberAt, bitMap, hasInitial, hasHops, hasNames, statesIn, labelsIn, initialIn, hopsPlace, hopsIn, namesPlace, namesIn, restOf, need, shapeIn, hopListIn, blockPlace, blockLength, blockIn}
+use Rattle.fields.specs.Format.{numberAt, bitMap, hasInitial, hasHops, hasNames, statesIn, labelsIn, initialIn, hopsPlace, hopsIn, namesPlace, namesIn, restOf, need, shapeIn, hopListIn, blockIn}
 use Rattle.file.specs.Read.{readAnswer}
 use Rattle.file.specs.Encode.{number, numbers, bitsOf, initialBytes, hopBytes, headBytes, encode}
 use Rattle.file.proofs.Encoded.{numbers-append, initial-none, initial-some, hops-none, hops-some}
-use Rattle.file.proofs.Fields.{names-place-least, hops-before-names, initial-on, initial-off, hops-on, hops-off, names-on, names-off}
-use Rattle.file.proofs.Entry.{length-hop-list, count-hop-list}
+use Rattle.fields.proofs.Laws.{names-place-least, hops-before-names, initial-on, initial-off, hops-on, hops-off, names-on, names-off}
+use Rattle.file.proofs.Entry.{count-hop-list}
 use Rattle.file.proofs.Sound.{Sound, accepted-sound, initial-there, hops-there, names-there}
 
 -- the bytes of a file are below 256
@@ -159,7 +158,7 @@ module _ (b : List ℕ) (small : Bytes b) where
     unfolding bitsOf shapeIn
     bits-again = rw (initial-bit, hops-bit, names-bit) (three-bits (bitMap b) (s .low))
 
-    pub same-bytes : encode (shapeIn b) (hopListIn b) (blockIn b) ≡ b
+    same-bytes : encode (shapeIn b) (hopListIn b) (blockIn b) ≡ b
     unfolding encode headBytes shapeIn
     same-bytes =
         rw bits-again

@@ -1,21 +1,20 @@
 -- The ways out of reading, in the order of the checks. Assumes nothing.
-use Prim.Native.Nat.{ℕ, _+_, _-_, _*_, _<_, _≤_}
-use mathlib.Core.Path.{_≡_, refl, sym, ap, _∙_}
-use mathlib.Core.Bool.{Bool, true, false, cond}
+use Prim.Native.Nat.{ℕ, _+_, _-_, _<_, _≤_}
+use mathlib.Core.Path.{_≡_, ap, _∙_}
+use mathlib.Core.Bool.{Bool, true, false}
 use mathlib.Core.List.{List}
 use native.Mathlib.Omega.{arith}
 use borrow.Author.Tests.{lt-ltb, le-ltb, le-leb, lt-leb}
-use mathlib.Core.Logic.{_⊎_, inr}
+use mathlib.Core.Logic.{inr}
 use native.Mathlib.Nat.{le-refl}
 use lib.ListN.{length, take, drop, length-drop}
 use lib.Seq.{take-all}
-use lib.Dec.{leb, ltb}
 use Rattle.graph.specs.Check.{accepted, refused}
 use Rattle.names.specs.Block.{nameAt, firstBad, Searchable}
 use Rattle.names.proofs.Blocks.{name-less, name-least}
-use Rattle.file.specs.Format.{bitMap, namesPlace, namesIn, restOf, need}
-use Rattle.file.specs.Read.{most-bytes, idleBit, namesAnswer, RestAt, formatAnswer}
-use Rattle.file.proofs.Fields.{names-place-least}
+use Rattle.fields.specs.Format.{bitMap, namesPlace, namesIn, restOf, need, idleBit}
+use Rattle.file.specs.Read.{most-bytes, namesAnswer, RestAt, formatAnswer}
+use Rattle.fields.proofs.Laws.{names-place-least}
 
 module _ (b : List ℕ) where
   pub over-length : most-bytes < length b → refused 13 most-bytes ≡ formatAnswer b

@@ -2,35 +2,33 @@
 -- longest legal file has 58,344 bytes". Assumes nothing.
 use Prim.Native.Nat.{ℕ, zero, suc, _+_, _-_, _*_, _/_, _%_, _<_, _≤_}
 use mathlib.Core.Path.{_≡_, refl, sym, ap, _∙_}
-use mathlib.Core.Bool.{Bool, true, false, cond, not, _&&_, _||_}
+use mathlib.Core.Bool.{Bool, true, false, cond, not, _&&_}
 use mathlib.Core.List.{List, [], _∷_, _++_, append-assoc}
-use mathlib.Core.Logic.{_⊎_, inl, inr, ⊎-elim}
-use native.Mathlib.Nat.{le-refl}
+use mathlib.Core.Logic.{_⊎_, ⊎-elim}
 use native.Mathlib.Numerals.{add-one}
 use native.Mathlib.Omega.{arith}
-use borrow.Author.Tests.{eq-eqb, ne-eqb, eqb-true, eqb-false, ltb-false, lt-leb}
-use lib.ListN.{length, getD, take, drop, length-append, length-drop}
+use borrow.Author.Tests.{eq-eqb, ne-eqb, ltb-false, lt-leb}
+use lib.ListN.{length, getD, drop, length-append, length-drop}
 use lib.Seq.{drop-at, drop-drop, getD-drop, ext-getD, take-length}
 use lib.Dec.{eqb, leb, ltb}
-use Rattle.graph.specs.Tests.{listed}
 use Rattle.graph.specs.Hops.{count}
-use Rattle.graph.specs.Check.{accepted, refused, checkOf, Admitted}
+use Rattle.graph.specs.Check.{accepted, checkOf, Admitted}
 use Rattle.graph.specs.declared.Shape.{Shape}
 use Rattle.graph.specs.declared.Answer.{Answer}
 use Rattle.graph.proofs.Bools.{eq-or-not, lt-or-le, or-no}
 use Rattle.graph.proofs.Tests.{getD-listed}
 use Rattle.graph.proofs.Checked.{check-admitted, admitted-check}
 use Rattle.names.specs.Block.{nameAt, firstBad}
-use Rattle.names.proofs.Blocks.{name-first, name-later, name-short}
-use Rattle.file.specs.Format.{numberAt, bitMap, hasInitial, hasHops, hasNames, statesIn, labelsIn, initialIn, hopsPlace, hopsIn, namesPlace, namesIn, restOf, need, shapeIn, hopListIn, blockPlace, blockLength, blockIn}
-use Rattle.file.specs.Read.{most-bytes, idleBit, formatAnswer, readAnswer, readOf, contentsOf}
+use Rattle.names.proofs.Blocks.{name-first, name-short}
+use Rattle.fields.specs.Format.{numberAt, bitMap, hasInitial, hasHops, hasNames, statesIn, labelsIn, initialIn, hopsPlace, hopsIn, namesPlace, namesIn, restOf, need, shapeIn, hopListIn, blockPlace, blockLength, blockIn, idleBit}
+use Rattle.file.specs.Read.{most-bytes, formatAnswer, readAnswer, contentsOf}
 use Rattle.file.specs.Encode.{number, numbers, bitsOf, initialBytes, hopBytes, headBytes, encode}
 use Rattle.file.specs.Write.{blockAnswer, namesGiven, graphAnswer}
 use Rattle.file.specs.RoundTrip.{blockStart, sameGraph}
-use Rattle.file.proofs.Encoded.{length-numbers, initial-none, initial-some, initial-most, hops-none, hops-some, length-hops-some, hop-bytes-most, length-head, length-encode}
-use Rattle.file.proofs.Fields.{initial-on, initial-off, hops-on, hops-off, names-on, names-off}
+use Rattle.file.proofs.Encoded.{initial-none, initial-some, initial-most, hops-none, hops-some, length-hops-some, hop-bytes-most, length-head, length-encode}
+use Rattle.fields.proofs.Laws.{initial-on, initial-off, hops-on, hops-off, names-on, names-off}
 use Rattle.file.proofs.Answers.{names-good}
-use Rattle.file.proofs.Entry.{length-hop-list, count-hop-list, none-speaks}
+use Rattle.file.proofs.Entry.{length-hop-list, none-speaks}
 use Rattle.file.proofs.Given.{both-accept}
 use Rattle.file.proofs.Sound.{past}
 
@@ -239,6 +237,11 @@ module _ (sh : Shape) (hs ns : List ℕ) (three : length hs % 3 ≡ 0) where
 -- "The longest legal file has 58,344 bytes"
 pub longest : (sh : Shape) (hs ns : List ℕ) → graphAnswer sh hs ns .number ≡ 0 → length (encode sh hs ns) ≤ most-bytes
 longest sh hs ns e = let (a, l) = written-means sh hs ns e in short-back sh hs ns (a .three-a-hop) l a
+
+-- and it has that many where everything is at its limit: 4,096 hops, and 1,023 names of 32 bytes
+pub longest-at-limits : (sh : Shape) (hs ns : List ℕ) → (sh .initial ≡ 0 → ⊥) → length hs ≡ 3 * 4096 → length ns ≡ 1023 * 33 → length (encode sh hs ns) ≡ most-bytes
+longest-at-limits sh hs ns i h n =
+    omega (arith, length-encode sh hs ns, ap length (initial-some sh i), length-hops-some hs (λ z. omega arith))
 
 -- what is read of a file that was written
 pub record ReadBack (sh : Shape) (hs ns b : List ℕ) (room : ℕ) : Type 0 where

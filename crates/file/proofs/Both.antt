@@ -10,26 +10,24 @@ use borrow.Author.Tests.{eq-eqb, ne-eqb, eqb-true, eqb-false, le-leb, lt-leb, le
 use lib.ListN.{length, take, drop, length-drop}
 use lib.Seq.{take-at}
 use lib.Dec.{eqb, leb}
-use Rattle.graph.specs.Hops.{count}
 use Rattle.graph.specs.Check.{accepted, refused, andThen, roomFor, checkOf, Admitted}
 use Rattle.graph.specs.declared.Shape.{Shape}
 use Rattle.graph.specs.declared.Answer.{Answer}
 use Rattle.graph.proofs.Bools.{decided}
 use Rattle.graph.proofs.Checked.{check-admitted, admitted-check}
-use Rattle.names.specs.Block.{nameAt, firstBad}
 use Rattle.names.proofs.Blocks.{name-later}
-use Rattle.file.specs.Format.{hasNames, labelsIn, hopsIn, namesPlace, namesIn, restOf, need, shapeIn, hopListIn, blockPlace, blockLength, blockIn}
-use Rattle.file.specs.Read.{formatAnswer, readAnswer, nothing, contentsOf, readOf, readHops, onFront}
+use Rattle.fields.specs.Format.{hasNames, labelsIn, hopsIn, namesPlace, namesIn, restOf, need, shapeIn, hopListIn, blockPlace, blockLength, blockIn}
+use Rattle.file.specs.Read.{formatAnswer, readAnswer, nothing, contentsOf, readOf, readHops}
 use Rattle.file.specs.Encode.{encode}
 use Rattle.file.specs.Write.{blockAnswer, namesGiven, graphAnswer, writeAnswer, nothingWritten, writeOf, writeBytes}
-use Rattle.file.specs.RoundTrip.{most-numbers, copyAnswer, copyOf, copyBytes, blockStart, sameGraph, backAnswer, backOf, backBytes, backHops}
+use Rattle.file.specs.RoundTrip.{most-numbers, copyAnswer, copyOf, copyBytes, backAnswer, backOf, backBytes, backHops}
 use Rattle.file.specs.declared.Contents.{Contents}
 use Rattle.file.specs.declared.Written.{Written}
-use Rattle.file.proofs.Fields.{names-on, names-off}
+use Rattle.fields.proofs.Laws.{names-on, names-off}
 use Rattle.file.proofs.Entry.{count-hop-list, length-hop-list}
 use Rattle.file.proofs.Given.{both-accept, block-good}
 use Rattle.file.proofs.Sound.{Sound, accepted-sound}
-use Rattle.file.proofs.Again.{Bytes, names-within, block-again, block-some, block-none, same-bytes}
+use Rattle.file.proofs.Again.{Bytes, names-within, block-again, block-some, block-none, decode-encode}
 use Rattle.file.proofs.Back.{ReadBack, encode-decode}
 
 -- what the entries' results say of their answers
@@ -115,7 +113,7 @@ module _ (b old : List ℕ) where
 
   module _ (small : Bytes b) (z : readAnswer b most-numbers .number ≡ 0) where
     encoded : encode (shapeIn b) (hopListIn b) (blockIn b) ≡ b
-    encoded = same-bytes b small (accepted-sound b most-numbers z)
+    encoded = decode-encode b most-numbers small z
 
     copy-answer : writeAnswer (shapeIn b) (hopListIn b) (blockIn b) (length old) ≡ copyAnswer b (length old)
     unfolding writeAnswer copyAnswer

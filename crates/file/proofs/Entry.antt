@@ -1,13 +1,13 @@
 -- The ways out of the entry `read`: the format speaks, then the graph, then the room; else all that the file holds is given. Assumes nothing.
-use Prim.Native.Nat.{ℕ, _+_, _-_, _*_, _/_, _<_, _≤_}
-use mathlib.Core.Path.{_≡_, refl, sym, ap, _∙_}
-use mathlib.Core.Bool.{Bool, true, false, cond, not, _&&_}
+use Prim.Native.Nat.{ℕ, _+_, _-_, _*_, _<_, _≤_}
+use mathlib.Core.Path.{_≡_, refl, ap, _∙_}
+use mathlib.Core.Bool.{false, _&&_}
 use mathlib.Core.List.{List}
 use native.Mathlib.Omega.{arith}
 use borrow.Author.Tests.{lt-leb, le-leb, eq-eqb, ne-eqb}
 use lib.ListN.{length, take, drop}
 use lib.Seq.{take-at}
-use lib.Dec.{eqb, leb}
+use lib.Dec.{leb}
 use Rattle.graph.specs.Tests.{listed}
 use Rattle.graph.specs.Hops.{count, whole}
 use Rattle.graph.specs.Check.{most-states, most-labels, most-hops, accepted, refused, andThen, roomFor, countsFit, checkOf}
@@ -16,7 +16,7 @@ use Rattle.graph.specs.declared.Answer.{Answer}
 use Rattle.graph.proofs.Bools.{and-no-left, and-no-right, not-no}
 use Rattle.graph.proofs.Tests.{length-listed}
 use Rattle.graph.proofs.Checked.{check-counts}
-use Rattle.file.specs.Format.{numberAt, hopsPlace, hopsIn, shapeIn, hopListIn}
+use Rattle.fields.specs.Format.{numberAt, hopsPlace, hopsIn, shapeIn, hopListIn}
 use Rattle.file.proofs.Given.{both-accept, second-accepts, room-accepts}
 use Rattle.file.specs.Read.{formatAnswer, readAnswer, readOf, readHops, nothing, contentsOf, onFront}
 

@@ -1,10 +1,10 @@
 -- Laws of a list written over the front or a part of an older one, one element at a time or part after part. Assumes nothing.
-use Prim.Native.Nat.{ℕ, suc, _+_, _*_, _<_, _≤_}
+use Prim.Native.Nat.{ℕ, suc, _+_, _<_, _≤_}
 use mathlib.Core.Path.{_≡_, refl, sym, ap, _∙_}
 use mathlib.Core.List.{List, [], _∷_, _++_, append-assoc}
 use native.Mathlib.Numerals.{add-one}
 use native.Mathlib.Omega.{arith}
-use lib.ListN.{length, take, drop, set, getD, length-append, length-drop, length-set, take-append-drop}
+use lib.ListN.{length, take, drop, set, getD, length-append, take-append-drop}
 use lib.Seq.{length-take-le, set-at, drop-cons, take-at, take-append-seam, drop-append-add, drop-drop}
 use Rattle.graph.specs.Tests.{listed}
 use Rattle.graph.proofs.Tests.{length-listed}
@@ -20,9 +20,6 @@ over-more at s old v l =
 
       past : at + (length s + 1) ≡ suc (at + length s)
       past = omega arith
-
-pub length-over : (at : ℕ) (s old : List ℕ) → at + length s ≤ length old → length (over at s old) ≡ length old
-length-over at s old l = rw (length-append, length-append, length-drop, length-take-le at old (omega arith)) (omega arith)
 
 pub over-none : (at : ℕ) (old : List ℕ) → old ≡ over at [] old
 over-none at old = rw (zero-right) (sym (take-append-drop at old)) where
@@ -42,9 +39,6 @@ over-then at s t old {k} e l =
 
       plus-assoc : at + length s + length t ≡ at + (length s + length t)
       plus-assoc = omega arith
-
-pub length-front : (s old : List ℕ) → length s ≤ length old → length (onFront s old) ≡ length old
-length-front s old l = rw (length-append, length-drop) (omega arith)
 
 -- one element more on the front
 pub front-more : (s old : List ℕ) (v : ℕ) → length s < length old → set (onFront s old) (length s) v ≡ onFront (s ++ (v ∷ [])) old

@@ -1,5 +1,3 @@
-pub mod Choice
-pub mod Fields
 pub mod Answers
 pub mod Front
 pub mod Entry
@@ -9,3 +7,6 @@ pub mod Sound
 pub mod Again
 pub mod Back
 pub mod Both
+pub mod Longest
+pub mod Cut
+pub mod Example

@@ -1,19 +1,19 @@
 -- What it means that a file is accepted: it has just the length that its own numbers ask, no bit stands over what absence means, and no name is bad.
 -- Assumes nothing.
-use Prim.Native.Nat.{ℕ, _+_, _-_, _*_, _<_, _≤_}
-use mathlib.Core.Path.{_≡_, refl, sym, ap, _∙_}
+use Prim.Native.Nat.{ℕ, _-_, _*_, _<_, _≤_}
+use mathlib.Core.Path.{_≡_, refl}
 use mathlib.Core.Bool.{Bool, true, false, cond, _&&_, _||_}
 use mathlib.Core.List.{List}
 use native.Mathlib.Omega.{arith}
-use borrow.Author.Tests.{ltb-false, leb-false, eqb-true, eqb-false}
+use borrow.Author.Tests.{ltb-false, leb-false, eqb-false}
 use lib.ListN.{length}
 use lib.Dec.{eqb, leb, ltb}
-use Rattle.graph.specs.Check.{accepted, refused, andThen, roomFor, checkOf}
+use Rattle.graph.specs.Check.{accepted, andThen, roomFor, checkOf}
 use Rattle.graph.specs.declared.Answer.{Answer}
 use Rattle.graph.proofs.Bools.{clash}
-use Rattle.names.specs.Block.{nameAt, firstBad}
-use Rattle.file.specs.Format.{bitMap, hasInitial, hasHops, hasNames, labelsIn, initialIn, hopsIn, namesIn, restOf, need, shapeIn, hopListIn}
-use Rattle.file.specs.Read.{most-bytes, idleBit, namesAnswer, formatAnswer, readAnswer}
+use Rattle.names.specs.Block.{firstBad}
+use Rattle.fields.specs.Format.{bitMap, hasInitial, hasHops, hasNames, labelsIn, initialIn, hopsIn, namesIn, restOf, need, shapeIn, hopListIn, idleBit}
+use Rattle.file.specs.Read.{most-bytes, namesAnswer, formatAnswer, readAnswer}
 use Rattle.file.proofs.Given.{both-accept}
 
 -- a check that can only refuse did not speak

@@ -1,4 +1,3 @@
-pub mod Format
 pub mod Encode
 pub mod Read
 pub mod Write

@@ -1,23 +1,19 @@
 -- What reading a file answers and writes. Assumes nothing: these are definitions.
 use Prim.Native.Nat.{ℕ, _+_, _*_, _<_, _≤_}
 use mathlib.Core.Path.{_≡_}
-use mathlib.Core.Bool.{Bool, cond, _&&_, _||_}
+use mathlib.Core.Bool.{cond}
 use mathlib.Core.List.{List, _++_}
 use lib.ListN.{length, take, drop}
 use lib.Dec.{eqb, leb, ltb}
 use Rattle.graph.specs.Check.{accepted, refused, andThen, roomFor, checkOf}
 use Rattle.graph.specs.declared.Answer.{Answer}
 use Rattle.names.specs.Block.{nameAt, firstBad}
-use Rattle.file.specs.Format.{bitMap, hasInitial, hasHops, hasNames, labelsIn, initialIn, hopsIn, namesPlace, namesIn, restOf, need, shapeIn, hopListIn, blockPlace, blockLength}
+use Rattle.fields.specs.Format.{bitMap, hopsIn, namesPlace, namesIn, restOf, need, shapeIn, hopListIn, blockPlace, blockLength, idleBit}
 use Rattle.file.specs.declared.Contents.{Contents}
 
 -- "The longest legal file has 58,344 bytes"
 abbrev pub most-bytes : ℕ
 most-bytes = 58344
-
--- row 12: "a bit over a field that holds what absence means (0, no hops, or names with label count at most 1)"
-unfoldable pub idleBit : List ℕ → Bool
-idleBit b = (hasInitial b && eqb (initialIn b) 0) || ((hasHops b && eqb (hopsIn b) 0) || (hasNames b && leb (labelsIn b) 1))
 
 -- row 14, of the names of the file
 unfoldable pub namesAnswer : List ℕ → Answer

@@ -1,5 +1,4 @@
 // The file of a graph: reading it into a hop list, and writing it from one.
-pub mod format; // format.rt: the fields of a file, where they lie and what they hold
 pub mod reading; // reading.rt: the entry `read`
 pub mod writing; // writing.rt: the entry `write`
 pub mod round_trip; // round_trip.rt: a file read and written again, and a graph written and read again

@@ -1,14 +1,14 @@
 // The entry `read`: the answer of a file, and its hops in the output.
 use super::Contents;
-use super::format::block_length;
-use super::format::block_place;
-use super::format::hops_in;
-use super::format::hops_place;
-use super::format::idle_bit;
-use super::format::names_in;
-use super::format::names_place;
-use super::format::number_at;
-use super::format::shape_in;
+use fields::block_length;
+use fields::block_place;
+use fields::hops_in;
+use fields::hops_place;
+use fields::idle_bit;
+use fields::names_in;
+use fields::names_place;
+use fields::number_at;
+use fields::shape_in;
 use graph::Answer;
 use graph::Shape;
 use graph::limits::accept;
@@ -22,7 +22,7 @@ ghost use Prim.Native.Nat.{ℕ, _+_, _*_, _<_, _≤_};
 ghost use lib.ListN.{length};
 ghost use Rattle.graph.specs.Tests.{listed};
 ghost use Rattle.graph.specs.Check.{checkOf};
-ghost use Rattle.file.specs.Format.{numberAt, shapeIn, hopListIn};
+ghost use Rattle.fields.specs.Format.{numberAt, shapeIn, hopListIn};
 ghost use Rattle.file.specs.Read.{RestAt, formatAnswer, readAnswer, readOf, readHops, nothing, contentsOf, onFront};
 
 const MOST_BYTES: usize = 58344;

@@ -134,7 +134,8 @@ fn put_hops(out: &mut [u8], at: usize, hops: &[u16])
     }
 }
 
-fn put_bytes(out: &mut [u8], at: usize, bytes: &[u8])
+// Bytes at a place of the output.
+pub fn put_bytes(out: &mut [u8], at: usize, bytes: &[u8])
     requires { ⌜ at + length (now bytes) ≤ length (now out) ⌝ }
     ensures { λ _. ⌜ now (out .exit) ≡ over at (now (bytes .entry)) (now (out .entry)) ⌝ }
 {

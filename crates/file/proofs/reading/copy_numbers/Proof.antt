@@ -1,11 +1,10 @@
 -- `file::reading::copy_numbers` meets its contract: after i turns the first i numbers stand in front. Assumes nothing.
 use Prim.Native.Nat.{ℕ, _+_, _*_, _-_, _≤_}
-use mathlib.Core.Path.{_≡_, refl, sym, ap, _∙_}
+use mathlib.Core.Path.{_≡_, refl}
 use native.Mathlib.Omega.{arith}
 use lib.ListN.{length, length-set}
 use Rattle.graph.specs.Tests.{listed}
-use Rattle.graph.proofs.Tests.{length-listed}
-use Rattle.file.specs.Format.{numberAt}
+use Rattle.fields.specs.Format.{numberAt}
 use Rattle.file.specs.Read.{onFront}
 use Rattle.file.proofs.Front.{listed-none, listed-more, listed-done}
 use borrow.Author.Needs.{needs}

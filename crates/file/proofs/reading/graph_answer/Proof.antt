@@ -1,7 +1,7 @@
 -- `file::reading::graph_answer` meets its contract: what is checked is the list that stands in the file. Assumes nothing.
 use mathlib.Core.Path.{_∙_}
 use native.Mathlib.Omega.{arith}
-use Rattle.file.proofs.Fields.{hops-place-most}
+use Rattle.fields.proofs.Laws.{hops-place-most}
 use Rattle.file.proofs.Entry.{graph-many, graph-copied}
 use borrow.Author.Needs.{needs}
 use Rattle.file.proofs.reading.graph_answer.Statement.{statement}

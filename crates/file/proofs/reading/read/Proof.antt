@@ -2,7 +2,7 @@
 use borrow.Author.Needs.{needs}
 use mathlib.Core.Path.{sym, _∙_}
 use native.Mathlib.Omega.{arith}
-use Rattle.file.proofs.Fields.{hops-place-most}
+use Rattle.fields.proofs.Laws.{hops-place-most}
 use Rattle.file.proofs.Entry.{read-accepts, refused-gives, accepted-gives, front-copied}
 use Rattle.file.proofs.reading.read.Statement.{statement}
 use Rattle.file.proofs.reading.read.Tie as tie

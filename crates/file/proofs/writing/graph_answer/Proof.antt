@@ -1,5 +1,4 @@
 -- `file::writing::graph_answer` meets its contract: each way out is a case of the definition. Assumes nothing.
-use mathlib.Core.Path.{_∙_}
 use native.Mathlib.Omega.{arith}
 use Rattle.file.proofs.Given.{graph-refused, graph-labels, graph-bare, graph-named}
 use borrow.Author.Needs.{needs}

@@ -2,7 +2,6 @@
 use mathlib.Core.Path.{sym, ap}
 use lib.ListN.{length}
 use Rattle.file.proofs.Encoded.{initial-none, initial-some}
-use borrow.Author.Needs.{needs}
 use Rattle.file.proofs.writing.initial_length.Statement.{statement}
 use Rattle.file.proofs.writing.initial_length.Tie as tie
 

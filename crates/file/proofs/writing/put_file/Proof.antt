@@ -1,5 +1,5 @@
 -- `file::writing::put_file` meets its contract: four parts, one after the other. Assumes nothing.
-use mathlib.Core.Path.{_≡_, ap, _∙_}
+use mathlib.Core.Path.{ap}
 use Prim.Native.Nat.{ℕ, _+_}
 use native.Mathlib.Omega.{arith}
 use Rattle.file.proofs.Encoded.{initial-most, hop-bytes-most, length-encode, file-put}

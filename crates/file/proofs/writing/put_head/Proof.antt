@@ -1,5 +1,5 @@
 -- `file::writing::put_head` meets its contract: byte 0, then two numbers, one after the other. Assumes nothing.
-use mathlib.Core.Path.{_≡_, refl}
+use mathlib.Core.Path.{refl}
 use native.Mathlib.Omega.{arith}
 use lib.ListN.{length-set}
 use Rattle.file.proofs.Encoded.{head-put}

@@ -1,5 +1,5 @@
 -- `file::writing::put_hops` meets its contract: each way out is a case of the definition. Assumes nothing.
-use mathlib.Core.Path.{_≡_, ap, _∙_}
+use mathlib.Core.Path.{_∙_}
 use native.Mathlib.Omega.{arith}
 use Rattle.file.proofs.Encoded.{length-hops-some, hops-put-none, hops-put}
 use borrow.Author.Needs.{needs}

@@ -1,5 +1,5 @@
 -- `file::writing::put_initial` meets its contract: each way out is a case of the definition. Assumes nothing.
-use mathlib.Core.Path.{_≡_, ap}
+use mathlib.Core.Path.{ap}
 use native.Mathlib.Omega.{arith}
 use lib.ListN.{length}
 use Rattle.file.proofs.Encoded.{initial-some, initial-put-none, initial-put}

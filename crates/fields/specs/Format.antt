@@ -1,0 +1,80 @@
+-- The file of document 01, as it is read: "All numbers are 16-bit, low byte first". Where a field ends is said as if the file went on, a missing
+-- byte reading 0; row 11 is that the file is shorter than this. Assumes nothing: these are definitions.
+use Prim.Native.Nat.{ℕ, _+_, _-_, _*_, _/_, _%_}
+use mathlib.Core.Bool.{Bool, cond, _&&_, _||_}
+use mathlib.Core.List.{List}
+use lib.ListN.{length, getD, take, drop}
+use lib.Dec.{eqb, leb}
+use Rattle.graph.specs.Tests.{listed}
+use Rattle.graph.specs.declared.Shape.{Shape}
+use Rattle.names.specs.Block.{nameAt}
+
+-- "16-bit, low byte first"
+abbrev pub numberAt : List ℕ → ℕ → ℕ
+numberAt b i = getD b i 0 + 256 * getD b (i + 1) 0
+
+-- "Byte 0 is a bit map: bit 0 initial state, bit 1 hops, bit 2 names"
+abbrev pub bitMap : List ℕ → ℕ
+bitMap b = getD b 0 0
+
+unfoldable pub hasInitial : List ℕ → Bool
+hasInitial b = eqb (bitMap b % 2) 1
+
+unfoldable pub hasHops : List ℕ → Bool
+hasHops b = eqb (bitMap b / 2 % 2) 1
+
+unfoldable pub hasNames : List ℕ → Bool
+hasNames b = eqb (bitMap b / 4 % 2) 1
+
+-- "Then state count and label count, always; then, only where its bit stands: the initial state; the hop count with six bytes a hop"; "Absent means
+-- initial state 0, no hops, no names"
+abbrev pub statesIn : List ℕ → ℕ
+statesIn b = numberAt b 1
+
+abbrev pub labelsIn : List ℕ → ℕ
+labelsIn b = numberAt b 3
+
+unfoldable pub initialIn : List ℕ → ℕ
+initialIn b = cond (hasInitial b) (numberAt b 5) 0
+
+unfoldable pub hopsPlace : List ℕ → ℕ
+hopsPlace b = cond (hasInitial b) 7 5
+
+unfoldable pub hopsIn : List ℕ → ℕ
+hopsIn b = cond (hasHops b) (numberAt b (hopsPlace b)) 0
+
+unfoldable pub namesPlace : List ℕ → ℕ
+namesPlace b = hopsPlace b + cond (hasHops b) (2 + 6 * hopsIn b) 0
+
+-- "for labels 1 upward": none for label counts 0 and 1
+unfoldable pub namesIn : List ℕ → ℕ
+namesIn b = cond (hasNames b) (labelsIn b - 1) 0
+
+-- what follows the hops
+unfoldable pub restOf : List ℕ → List ℕ
+restOf b = drop (namesPlace b) b
+
+-- the length that the file's own numbers ask
+unfoldable pub need : List ℕ → ℕ
+need b = namesPlace b + nameAt (restOf b) (namesIn b)
+
+-- "Reading gives the graph and the place and length of the name block (0 and 0 without names)"
+unfoldable pub shapeIn : List ℕ → Shape
+shapeIn b = record { states = statesIn b; labels = labelsIn b; initial = initialIn b }
+
+unfoldable pub hopListIn : List ℕ → List ℕ
+hopListIn b = listed (3 * hopsIn b) (λ (i : ℕ). numberAt b (hopsPlace b + 2 + 2 * i))
+
+unfoldable pub blockPlace : List ℕ → ℕ
+blockPlace b = cond (hasNames b) (namesPlace b) 0
+
+unfoldable pub blockLength : List ℕ → ℕ
+blockLength b = cond (hasNames b) (length b - namesPlace b) 0
+
+-- the block itself
+unfoldable pub blockIn : List ℕ → List ℕ
+blockIn b = take (blockLength b) (drop (blockPlace b) b)
+
+-- row 12: "a bit over a field that holds what absence means (0, no hops, or names with label count at most 1)"
+unfoldable pub idleBit : List ℕ → Bool
+idleBit b = (hasInitial b && eqb (initialIn b) 0) || ((hasHops b && eqb (hopsIn b) 0) || (hasNames b && leb (labelsIn b) 1))

@@ -1,0 +1,134 @@
+// The fields of a file, where they lie and what they hold. A missing byte reads 0.
+use graph::Shape;
+use names::byte_at;
+ghost use mathlib.Core.Path.{_≡_};
+ghost use Prim.Native.Nat.{_<_};
+ghost use Rattle.fields.specs.Format.{numberAt, hasInitial, hasHops, hasNames, initialIn, hopsPlace, hopsIn, namesPlace, namesIn, shapeIn, blockPlace, blockLength, idleBit};
+
+// The 16-bit number at a place, low byte first.
+pub fn number_at(file: &[u8], i: usize) -> u16
+    requires { ⌜ i < 1000000 ⌝ }
+    ensures { λ r. ⌜ r ≡ numberAt (now (file .entry)) i ⌝ }
+{
+    let low = byte_at(file, i) as u16;
+    let high = byte_at(file, i + 1) as u16;
+    low + 256 * high
+}
+
+pub fn has_initial(file: &[u8]) -> bool
+    ensures { λ r. ⌜ r ≡ hasInitial (now (file .entry)) ⌝ }
+{
+    byte_at(file, 0) % 2 == 1
+}
+
+pub fn has_hops(file: &[u8]) -> bool
+    ensures { λ r. ⌜ r ≡ hasHops (now (file .entry)) ⌝ }
+{
+    byte_at(file, 0) / 2 % 2 == 1
+}
+
+pub fn has_names(file: &[u8]) -> bool
+    ensures { λ r. ⌜ r ≡ hasNames (now (file .entry)) ⌝ }
+{
+    byte_at(file, 0) / 4 % 2 == 1
+}
+
+pub fn initial_in(file: &[u8]) -> u16
+    ensures { λ r. ⌜ r ≡ initialIn (now (file .entry)) ⌝ }
+{
+    if has_initial(file) {
+        return number_at(file, 5);
+    }
+    0
+}
+
+pub fn hops_place(file: &[u8]) -> usize
+    ensures { λ r. ⌜ r ≡ hopsPlace (now (file .entry)) ⌝ }
+{
+    if has_initial(file) {
+        return 7;
+    }
+    5
+}
+
+pub fn hops_in(file: &[u8]) -> u16
+    ensures { λ r. ⌜ r ≡ hopsIn (now (file .entry)) ⌝ }
+{
+    if has_hops(file) {
+        return number_at(file, hops_place(file));
+    }
+    0
+}
+
+// Where the names begin, if there are any.
+pub fn names_place(file: &[u8]) -> usize
+    ensures { λ r. ⌜ r ≡ namesPlace (now (file .entry)) ⌝ }
+{
+    let place = hops_place(file);
+    if has_hops(file) {
+        let hops = hops_in(file) as usize;
+        return place + (2 + 6 * hops);
+    }
+    place
+}
+
+// How many names the file has: none for label counts 0 and 1.
+pub fn names_in(file: &[u8]) -> u16
+    ensures { λ r. ⌜ r ≡ namesIn (now (file .entry)) ⌝ }
+{
+    let labels = number_at(file, 3);
+    if has_names(file) {
+        if 1 <= labels {
+            return labels - 1;
+        }
+    }
+    0
+}
+
+pub fn shape_in(file: &[u8]) -> Shape
+    ensures { λ r. ⌜ r ≡ shapeIn (now (file .entry)) ⌝ }
+{
+    let states = number_at(file, 1) as u32;
+    let labels = number_at(file, 3) as u32;
+    let initial = initial_in(file) as u32;
+    Shape {
+        states,
+        labels,
+        initial,
+    }
+}
+
+// The place and the length of the block of names: 0 and 0 without names.
+pub fn block_place(file: &[u8]) -> usize
+    ensures { λ r. ⌜ r ≡ blockPlace (now (file .entry)) ⌝ }
+{
+    if has_names(file) {
+        return names_place(file);
+    }
+    0
+}
+
+pub fn block_length(file: &[u8]) -> usize
+    ensures { λ r. ⌜ r ≡ blockLength (now (file .entry)) ⌝ }
+{
+    let place = names_place(file);
+    if has_names(file) {
+        if place <= file.len() {
+            return file.len() - place;
+        }
+    }
+    0
+}
+
+// Row 12: a bit over a field that holds what absence means.
+pub fn idle_bit(file: &[u8]) -> bool
+    ensures { λ r. ⌜ r ≡ idleBit (now (file .entry)) ⌝ }
+{
+    let initial = initial_in(file);
+    let hops = hops_in(file);
+    let labels = number_at(file, 3);
+    let initial_bit = has_initial(file);
+    let hops_bit = has_hops(file);
+    let names_bit = has_names(file);
+    (initial_bit & (initial == 0)) | ((hops_bit & (hops == 0)) | (names_bit & (labels <= 1)))
+}

@@ -1,0 +1,5 @@
+pub mod Decimal
+pub mod Puts
+pub mod Parts
+pub mod Lengths
+pub mod Shown

@@ -1,0 +1,69 @@
+-- Printed text as bytes: numbers in decimal, lines of a word and numbers, lines one behind the other, and what it is to put a text into a buffer.
+-- Assumes nothing: these are definitions.
+use Prim.Native.Nat.{ℕ, zero, suc, _+_, _-_, _*_, _/_, _%_, _≤_}
+use mathlib.Core.Path.{_≡_}
+use mathlib.Core.Bool.{cond}
+use mathlib.Core.List.{List, [], _∷_, _++_}
+use lib.ListN.{length}
+use lib.Dec.{ltb}
+use Rattle.file.specs.Read.{over}
+
+-- the last k digits of a number at most, and no zero in front (48 is the digit 0)
+unfoldable pub digits : ℕ → ℕ → List ℕ
+digits zero n = []
+digits (suc k) n = cond (ltb n 10) ((48 + n) ∷ []) (digits k (n / 10) ++ ((48 + n % 10) ∷ []))
+
+-- 20 digits hold any 64-bit number
+unfoldable pub decimal : ℕ → List ℕ
+decimal n = digits 20 n
+
+-- the number that digits show, read from the left behind a number that stands before them
+unfoldable pub shownBy : ℕ → List ℕ → ℕ
+shownBy before [] = before
+shownBy before (d ∷ ds) = shownBy (10 * before + (d - 48)) ds
+
+-- a space and a number
+unfoldable pub spaced : ℕ → List ℕ
+spaced n = 32 ∷ decimal n
+
+-- each number behind a space, then a line feed
+unfoldable pub ending : List ℕ → List ℕ
+ending [] = 10 ∷ []
+ending (n ∷ ns) = spaced n ++ ending ns
+
+-- a line: a word, then the numbers
+unfoldable pub line : List ℕ → List ℕ → List ℕ
+line word ns = word ++ ending ns
+
+-- f 0, f 1, .. up to f (n - 1), one behind the other
+unfoldable pub lines : ℕ → (ℕ → List ℕ) → List ℕ
+lines zero f = []
+lines (suc n) f = lines n f ++ f n
+
+-- the words of the lines
+abbrev pub in-word : List ℕ
+in-word = 105 ∷ 110 ∷ []
+
+abbrev pub marked-word : List ℕ
+marked-word = 109 ∷ 97 ∷ 114 ∷ 107 ∷ 101 ∷ 100 ∷ []
+
+abbrev pub map-word : List ℕ
+map-word = 109 ∷ 97 ∷ 112 ∷ []
+
+abbrev pub out-word : List ℕ
+out-word = 111 ∷ 117 ∷ 116 ∷ []
+
+abbrev pub hop-word : List ℕ
+hop-word = 104 ∷ 111 ∷ 112 ∷ []
+
+abbrev pub no-word : List ℕ
+no-word = 110 ∷ 111 ∷ []
+
+-- the buffer has room for the text from place `at` on
+pub record Room (at : ℕ) (text buffer : List ℕ) : Type 0 where
+  pub fits : at + length text ≤ length buffer
+
+-- the text was put into the buffer from place `at` on, over what was there and over nothing else; `next` is the place behind it
+pub record Put (old : List ℕ) (at : ℕ) (text : List ℕ) (next : ℕ) (new : List ℕ) : Type 0 where
+  pub follows : next ≡ at + length text
+  pub stands : new ≡ over at text old

@@ -1,0 +1,10 @@
+//! Reduces P1, a graph of four states, and audits the result.
+use zundrafipo::Graph;
+
+fn main() -> Result<(), zundrafipo::Refusal> {
+    let graph = Graph::new(4, 2, 0, vec![0, 0, 1, 0, 1, 2, 1, 1, 3, 2, 0, 3]);
+    let reduction = graph.reduce()?;
+    println!("{} states, map {:?}", reduction.graph.states, reduction.map);
+    println!("{} faults", graph.audit(&reduction.graph, &reduction.map)?.faults);
+    Ok(())
+}
