@@ -1,0 +1,35 @@
+// Several files through the library in one program: what is printed of each, behind its name. The whole program is run over more files by
+// tests/program.sh.
+use libc::STDOUT_FILENO;
+use report::print::print_file;
+
+fn show(name: &[u8], file: &[u8]) {
+    io::write_all(STDOUT_FILENO, name);
+    io::write_all(STDOUT_FILENO, b":\n");
+    let mut out = [0u8; 196608];
+    let n = print_file(file, &mut out);
+    io::write_all(STDOUT_FILENO, &out[..n]);
+}
+
+fn main() {
+    show(b"an empty file", b"");
+    show(
+        b"a front of a file",
+        b"\x02\x04\x00\x02\x00\x04\x00\x00\x00",
+    );
+    show(b"bits 3 to 7", b"\x08");
+    show(b"one state, no hops", b"\x00\x01\x00\x01\x00");
+    show(b"a byte left over", b"\x00\x01\x00\x01\x00\x00");
+    show(b"an initial state of 0", b"\x01\x01\x00\x01\x00\x00\x00");
+    show(
+        b"an initial state at the count",
+        b"\x01\x01\x00\x01\x00\x01\x00",
+    );
+    show(b"no states", b"\x00\x00\x00\x01\x00");
+    show(
+        b"a ring of one hop",
+        b"\x02\x01\x00\x01\x00\x01\x00\x00\x00\x00\x00\x00\x00",
+    );
+    show(b"a repeated name", b"\x04\x01\x00\x03\x00\x01a\x01a");
+    show(b"names", b"\x04\x01\x00\x03\x00\x01a\x01b");
+}
