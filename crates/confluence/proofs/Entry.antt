@@ -14,7 +14,6 @@ use Rattle.graph.specs.declared.Answer.{Answer}
 use Rattle.graph.proofs.Checked.{check-admitted}
 use Rattle.silent.specs.Silent.{ringless}
 use Rattle.confluence.specs.Mark.{marksOf, markAnswer, markOutput}
-use Rattle.confluence.specs.Sweep.{Ready}
 
 -- the first answer speaks, or the second
 pub then-first : (a b : Answer) → (a .number ≡ 0 → ⊥) → andThen a b ≡ a
@@ -35,15 +34,6 @@ room-given n r e = go (leb n r) refl e where
   go : (t : Bool) → leb n r ≡ t → cond t accepted (refused 6 0) .number ≡ 0 → n ≤ r
   go true d h = leb-true n r d
   go false d h = absurd (omega arith)
-
-pub admitted-ready : {sh : Shape} {hs : List ℕ} → Admitted sh hs → Ready hs
-admitted-ready a =
-    record {
-      ascending = a .ascending;
-      hops-most = a .hops-most;
-      from-in = λ i l. omega (arith, a .range .from-in i l, a .states-most);
-      to-in = λ i l. omega (arith, a .range .to-in i l, a .states-most);
-    }
 
 module _ (sh : Shape) (hs out : List ℕ) where
   -- the ways out of the code, in order

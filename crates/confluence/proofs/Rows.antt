@@ -19,7 +19,8 @@ use Rattle.graph.proofs.Tests.{all-yes, all-fails, any-found}
 use Rattle.graph.proofs.Ordered.{Below, before-below, ascending-lt}
 use Rattle.graph.proofs.Lookup.{first-law, first-within, range-holds, range-only, any-range}
 use Rattle.confluence.specs.Rounds.{Pairs, closing, leaves, answer, answered, tried, closes}
-use Rattle.confluence.specs.Sweep.{Table, Row, Skipped}
+use Rattle.starts.proofs.Firsts.{first-below, first-next}
+use Rattle.confluence.specs.Sweep.{Row, Skipped}
 use Rattle.confluence.proofs.Closing.{leaves-says, leaves-yes, tried-own, tried-other}
 
 -- one place more of a range
@@ -37,21 +38,6 @@ module _ (hs : List ℕ) (up : Ascending hs) where
         go (inl k) = absurd (omega arith)
         go (inr (q, inl k)) = omega arith
         go (inr (q, inr (k, m))) = omega arith
-
-  pub first-below : (s : ℕ) {j : ℕ} → j < firstOf hs s → from hs j < s
-  first-below s {j} l =
-      let w : j < count hs = omega (arith, first-within hs up s) in
-      ltb-true (from hs j) s (sym (first-law hs up s w) ∙ lt-ltb j (firstOf hs s) l)
-
-  -- a place before which all hops are from states below s, and at which one is not, is the first of s
-  pub first-is : (s : ℕ) {r : ℕ} → r ≤ count hs → ((j : ℕ) → j < r → from hs j < s) → (r < count hs → s ≤ from hs r) → r ≡ firstOf hs s
-  first-is s {r} w f g = go (lt-or-le r (firstOf hs s)) (lt-or-le (firstOf hs s) r) where
-    go : (r < firstOf hs s) ⊎ (firstOf hs s ≤ r) → (firstOf hs s < r) ⊎ (r ≤ firstOf hs s) → r ≡ firstOf hs s
-    go (inl l) d = absurd (omega (arith, first-below s l, g (omega (arith, first-within hs up s))))
-    go (inr m) (inl l) =
-        let k : firstOf hs s < count hs = omega arith in
-        absurd (omega (arith, ltb-true (firstOf hs s) (firstOf hs s) (first-law hs up s k ∙ lt-ltb (from hs (firstOf hs s)) s (f (firstOf hs s) l))))
-    go (inr m) (inr n) = omega arith
 
   -- the walk over a row comes to a place k of the label that closes s3
   pub row-answers : (u : Pairs) (s a s3 : ℕ) {at past : ℕ} → Row hs s a at past → {k : ℕ} → at ≤ k → k < past → label hs k ≡ a →
@@ -84,27 +70,10 @@ module _ (hs : List ℕ) (up : Ascending hs) where
         ⊎-elim (λ n. and-no-right (leaves hs s a j) (f j b n))
         (λ n. no-test (answer hs u s a s3 j) (λ e. late j b m n (and-left (leaves hs s a j) (closing u s3 (to hs j)) e))) (lt-or-le j k)
 
-  pub first-next : (s : ℕ) → firstOf hs s ≤ firstOf hs (s + 1)
-  first-next s = go (lt-or-le (firstOf hs (s + 1)) (firstOf hs s)) where
-    go : (firstOf hs (s + 1) < firstOf hs s) ⊎ (firstOf hs s ≤ firstOf hs (s + 1)) → firstOf hs s ≤ firstOf hs (s + 1)
-    go (inl l) =
-        let k : firstOf hs (s + 1) < count hs = omega (arith, first-within hs up s) in
-        absurd (omega (
-          arith,
-          ltb-true (firstOf hs (s + 1)) (firstOf hs (s + 1))
-              (first-law hs up (s + 1) k ∙ lt-ltb (from hs (firstOf hs (s + 1))) (s + 1) (omega (arith, first-below s l))),
-        ))
-    go (inr l) = l
-
   -- the hops before the first of s1 are not tried
   pub tried-before : (u : Pairs) (s1 s2 : ℕ) {j : ℕ} → j ≡ firstOf hs s1 → (k : ℕ) → k < j → tried hs u s1 s2 k ≡ true
   tried-before u s1 s2 e k l =
-      tried-other hs u s1 s2 k (λ q. let h : from hs k < s1 = first-below s1 (omega arith) in absurd (omega arith))
-
--- what the table says of a state
-pub start-is : (hs st : List ℕ) → Table hs st → (x : ℕ) {y r : ℕ} → x ≡ y → y ≤ most-states → r ≡ getD st x 0 → r ≡ firstOf hs y
-unfolding Table
-start-is hs st t x {y} q l e = e ∙ rw q (t y l)
+      tried-other hs u s1 s2 k (λ q. let h : from hs k < s1 = first-below hs up s1 (omega arith) in absurd (omega arith))
 
 -- Two states' hops walked side by side: j goes over those of s1, up to `end`, and `at` over those of s2, up to `past`. The labels that `at`
 -- has passed are below every label that j has still to come to.

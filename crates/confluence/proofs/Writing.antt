@@ -19,13 +19,5 @@ listed-more f ms {i = i} l d q e =
     e ∙ rw (d, q, add-one, drop-cons ms i 0 l, set-at (listed i f) (getD ms i 0) (drop (suc i) ms) (f i) i (length-listed f i))
     (sym (append-assoc (listed i f) (f i ∷ []) (drop (suc i) ms)))
 
--- one element more of a table of f
-pub filled-more : (f : ℕ → ℕ) (xs : List ℕ) {s v : ℕ} → s < length xs → v ≡ f s → ((t : ℕ) → t < s → getD xs t 0 ≡ f t) →
-    (t : ℕ) → t < s + 1 → getD (set xs s v) t 0 ≡ f t
-filled-more f xs {s} {v} l e g t m = go (lt-or-le t s) where
-  go : (t < s) ⊎ (s ≤ t) → getD (set xs s v) t 0 ≡ f t
-  go (inl n) = getD-set-other xs s t v 0 (λ q. omega arith) ∙ g t n
-  go (inr n) = let q : t ≡ s = omega arith in rw q (getD-set-same xs s v 0 l ∙ e)
-
 pub length-so-far : (f : ℕ → ℕ) (ms : List ℕ) {new : List ℕ} (i : ℕ) → i ≤ length ms → new ≡ listed i f ++ drop i ms → length new ≡ length ms
 length-so-far f ms i l e = ap length e ∙ simp (length-append, length-listed, length-drop) (omega arith)

@@ -1,4 +1,4 @@
--- Marking by sweeps in place: the set that the marks are, what they keep while sweeps run, and the table by which a state's hops are found.
+-- Marking by sweeps in place: the set that the marks are, what they keep while sweeps run, and the parts of a walk over a state's hops.
 -- Assumes nothing: these are definitions.
 use Prim.Native.Nat.{ℕ, _+_, _<_, _≤_}
 use mathlib.Core.Path.{_≡_}
@@ -9,9 +9,6 @@ use lib.ListN.{length, getD, drop}
 use lib.Dec.{eqb}
 use Rattle.graph.specs.Tests.{any, tally}
 use Rattle.graph.specs.Hops.{count, from, label, to, is}
-use Rattle.graph.specs.Order.{Ascending}
-use Rattle.graph.specs.Search.{firstOf}
-use Rattle.graph.specs.Check.{most-states, most-hops}
 use Rattle.confluence.specs.Rounds.{Pairs, closes, marked}
 
 -- the hop at place i is marked: "Marks are 1 or 0"
@@ -39,17 +36,6 @@ pub record Marking (hs ms : List ℕ) : Type 0 where
 -- the hop at place i, if it is marked, closes with the set that the marks are
 unfoldable pub Stands : List ℕ → List ℕ → ℕ → Type 0
 Stands hs ms i = isMarked ms i ≡ true → closes hs (heldBy hs ms) (from hs i) (to hs i) ≡ true
-
--- the table of first places, one for each state that can be and one past the last
-unfoldable pub Table : List ℕ → List ℕ → Type 0
-Table hs st = (s : ℕ) → s ≤ most-states → getD st s 0 ≡ firstOf hs s
-
--- what marking needs of a hop list; `check` sees to it
-pub record Ready (hs : List ℕ) : Type 0 where
-  pub ascending : Ascending hs
-  pub hops-most : count hs ≤ most-hops
-  pub from-in : (i : ℕ) → i < count hs → from hs i < most-states
-  pub to-in : (i : ℕ) → i < count hs → to hs i < most-states
 
 -- the hops of s that are labelled a or more are those from place `at` on and before `past`
 pub record Row (hs : List ℕ) (s a at past : ℕ) : Type 0 where

@@ -1,7 +1,5 @@
 // Whether a silent hop closes with the set that the marks are: document 01's condition, each hop tried once and its answers looked for
 // among the hops of the same label only.
-use super::starts::start_of;
-use super::starts::wide;
 use graph::Found;
 use graph::Hop;
 use graph::Label;
@@ -10,6 +8,8 @@ use graph::hops::from_at;
 use graph::hops::label_at;
 use graph::hops::to_at;
 use graph::search::find;
+use starts::start_of;
+use starts::wide;
 ghost use mathlib.Core.Path.{_≡_};
 ghost use Prim.Native.Nat.{_+_, _<_, _≤_};
 ghost use lib.ListN.{length};
@@ -17,7 +17,8 @@ ghost use Rattle.graph.specs.Tests.{any};
 ghost use Rattle.graph.specs.Hops.{count, from, label, to};
 ghost use Rattle.graph.specs.Order.{Ascending};
 ghost use Rattle.confluence.specs.Rounds.{closing, answer, answered, closes};
-ghost use Rattle.confluence.specs.Sweep.{heldBy, Table, Ready, Row, Skipped};
+ghost use Rattle.starts.specs.Starts.{Table, Ready};
+ghost use Rattle.confluence.specs.Sweep.{heldBy, Row, Skipped};
 
 // The hops of a state from place `at` on; `past` is the place past its last.
 pub struct Rest {

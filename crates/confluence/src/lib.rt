@@ -1,5 +1,4 @@
 // Marking: which silent hops belong to some strongly confluent set.
-pub mod starts; // starts.rt: the table of first places
 pub mod closes; // closes.rt: whether a marked hop closes
 pub mod sweep; // sweep.rt: marking by sweeps in place
 pub mod mark; // mark.rt: the entry `mark`

@@ -2,9 +2,9 @@
 // no longer closes loses its mark at once; sweeps go on until one takes nothing. The marks hold the marked set throughout, and are a
 // confluent set when they rest.
 use super::closes::closes_at;
-use super::starts::starts_of;
 use graph::hops::hop_count;
 use graph::hops::label_at;
+use starts::starts_of;
 ghost use mathlib.Core.Path.{_≡_};
 ghost use mathlib.Core.List.{_++_};
 ghost use Prim.Native.Nat.{_<_, _≤_};
@@ -12,7 +12,8 @@ ghost use lib.ListN.{length, drop};
 ghost use Rattle.graph.specs.Tests.{listed};
 ghost use Rattle.graph.specs.Hops.{count};
 ghost use Rattle.confluence.specs.Mark.{marksOf};
-ghost use Rattle.confluence.specs.Sweep.{Marking, Table, Ready, Tested, Swept, firstMark};
+ghost use Rattle.confluence.specs.Sweep.{Marking, Tested, Swept, firstMark};
+ghost use Rattle.starts.specs.Starts.{Table, Ready};
 
 // 1 for each silent hop, 0 for each visible one.
 fn start_marks(hops: &[u16], marks: &mut [u8])

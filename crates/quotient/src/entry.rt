@@ -18,7 +18,7 @@ ghost use Prim.Native.Nat.{_≤_};
 ghost use lib.ListN.{length};
 ghost use Rattle.graph.specs.Hops.{flat};
 ghost use Rattle.graph.specs.Check.{accepted};
-ghost use Rattle.confluence.specs.Sweep.{Ready};
+ghost use Rattle.starts.specs.Starts.{Ready};
 ghost use Rattle.quotient.specs.Short.{shortHops, mapList};
 ghost use Rattle.quotient.specs.Reduce.{reduceAnswer, reduceOf, mapOutput, shortOutput, reduction, written};
 ghost use Rattle.quotient.specs.Tables.{Reducible, Onward, refusal};

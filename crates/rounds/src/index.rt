@@ -1,5 +1,4 @@
 // Searches among the hops of one state only, by the table of first places.
-use confluence::starts::wide;
 use graph::Found;
 use graph::Hop;
 use graph::Label;
@@ -7,6 +6,7 @@ use graph::OldState;
 use graph::hops::hop_count;
 use graph::hops::is_hop_at;
 use graph::search::lower_between;
+use starts::wide;
 ghost use mathlib.Core.Path.{_≡_};
 ghost use Prim.Native.Nat.{_+_, _<_};
 ghost use lib.ListN.{length, getD};

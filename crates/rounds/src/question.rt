@@ -1,7 +1,6 @@
 // The entry: rows 1 to 4, then 9, then 10, and then the equations.
 use super::RoundAnswer;
 use super::cycle::x;
-use confluence::starts::starts_of;
 use graph::Answer;
 use graph::Shape;
 use graph::hops::hop_count;
@@ -9,6 +8,7 @@ use graph::hops::label_at;
 use graph::limits::accept;
 use graph::limits::check;
 use graph::limits::refuse;
+use starts::starts_of;
 ghost use mathlib.Core.Path.{_≡_};
 ghost use Prim.Native.Nat.{_<_, _≤_};
 ghost use Rattle.graph.specs.Hops.{count, from, label, to};

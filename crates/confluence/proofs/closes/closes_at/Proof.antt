@@ -12,7 +12,8 @@ use Rattle.graph.specs.Check.{most-states}
 use Rattle.confluence.specs.Rounds.{tried}
 use Rattle.confluence.specs.Sweep.{heldBy, Skipped}
 use Rattle.confluence.proofs.Closing.{tried-own}
-use Rattle.confluence.proofs.Rows.{start-is, Walk, walk-start, walk-in, walk-from, walk-past, walk-row, walk-next, tried-before, tried-done, tried-fails}
+use Rattle.starts.proofs.Firsts.{start-is}
+use Rattle.confluence.proofs.Rows.{Walk, walk-start, walk-in, walk-from, walk-past, walk-row, walk-next, tried-before, tried-done, tried-fails}
 use Rattle.confluence.proofs.closes.closes_at.Statement.{statement}
 use Rattle.confluence.proofs.closes.closes_at.Tie as tie
 

@@ -1,7 +1,8 @@
 -- `confluence::mark::mark` meets its contract: acceptance gives what marking needs. Assumes nothing.
 use mathlib.Core.Path.{_∙_}
 use borrow.Author.Needs.{needs}
-use Rattle.confluence.proofs.Entry.{admitted-ready, mark-admitted, mark-room, output-marked, output-same}
+use Rattle.starts.proofs.Firsts.{admitted-ready}
+use Rattle.confluence.proofs.Entry.{mark-admitted, mark-room, output-marked, output-same}
 use Rattle.confluence.proofs.mark.mark.Statement.{statement}
 use Rattle.confluence.proofs.mark.mark.Tie as tie
 

@@ -1,6 +1,6 @@
 -- `quotient::entry::accepted_reduction` meets its contract: the tables hold what the definitions say. Assumes nothing.
 use native.Mathlib.Omega.{arith}
-use Rattle.confluence.proofs.Entry.{admitted-ready}
+use Rattle.starts.proofs.Firsts.{admitted-ready}
 use Rattle.quotient.proofs.Tabled.{tabled-closed, reduced-map, reduced-short, reduced-returns}
 use Rattle.graph.proofs.Tests.{tally-within}
 use Rattle.quotient.specs.Tables.{stays}

@@ -3,7 +3,7 @@ use Prim.Native.Nat.{ℕ, _<_, _≤_, _-_}
 use mathlib.Core.Path.{_≡_, refl}
 use native.Mathlib.Omega.{arith}
 use lib.ListN.{length, getD, length-set, length-replicate}
-use Rattle.confluence.proofs.Writing.{filled-more}
+use Rattle.starts.proofs.Firsts.{filled-more}
 use Rattle.quotient.proofs.follow.own_states.Statement.{statement}
 use Rattle.quotient.proofs.follow.own_states.Tie as tie
 

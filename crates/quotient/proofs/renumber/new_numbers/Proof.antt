@@ -8,7 +8,7 @@ use Rattle.graph.specs.Tests.{tally}
 use Rattle.graph.proofs.Tests.{tally-within}
 use Rattle.quotient.specs.Tables.{stays}
 use Rattle.quotient.proofs.Numbers.{tally-none, tally-more, tally-same-at}
-use Rattle.confluence.proofs.Writing.{filled-more}
+use Rattle.starts.proofs.Firsts.{filled-more}
 use borrow.Author.Needs.{needs}
 use Rattle.quotient.proofs.renumber.new_numbers.Statement.{statement}
 use Rattle.quotient.proofs.renumber.new_numbers.Tie as tie

@@ -3,8 +3,8 @@ use borrow.Author.Needs.{needs}
 use Prim.Native.Nat.{ℕ}
 use native.Mathlib.Omega.{arith}
 use lib.ListN.{length-replicate}
-use Rattle.confluence.specs.Sweep.{Table}
-use Rattle.confluence.proofs.Entry.{admitted-ready}
+use Rattle.starts.specs.Starts.{Table}
+use Rattle.starts.proofs.Firsts.{admitted-ready}
 use Rattle.rounds.proofs.Noted.{nothing-told}
 use Rattle.rounds.proofs.question.survives_rounds.Statement.{statement}
 use Rattle.rounds.proofs.question.survives_rounds.Tie as tie

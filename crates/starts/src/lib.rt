@@ -5,7 +5,7 @@ ghost use mathlib.Core.Path.{_≡_};
 ghost use Prim.Native.Nat.{_+_, _<_};
 ghost use lib.ListN.{getD};
 ghost use Rattle.graph.specs.Search.{firstOf};
-ghost use Rattle.confluence.specs.Sweep.{Table, Ready};
+ghost use Rattle.starts.specs.Starts.{Table, Ready};
 
 // A number read from the list or the table, as a place or an index.
 pub fn wide(x: u16) -> usize

@@ -1,15 +1,15 @@
--- `confluence::starts::starts_of` meets its contract: the elements below s are filled, and `at` is where the hops of s begin. Assumes nothing.
+-- `starts::starts_of` meets its contract: the elements below s are filled, and `at` is where the hops of s begin. Assumes nothing.
 use Prim.Native.Nat.{ℕ, _-_, _<_, _≤_}
 use mathlib.Core.Path.{_≡_}
 use native.Mathlib.Omega.{arith}
 use lib.ListN.{length, getD, length-set, length-replicate}
 use Rattle.graph.specs.Search.{firstOf}
 use Rattle.graph.proofs.Lookup.{first-within}
-use Rattle.confluence.specs.Sweep.{Table}
-use Rattle.confluence.proofs.Rows.{first-is}
-use Rattle.confluence.proofs.Writing.{filled-more}
-use Rattle.confluence.proofs.starts.starts_of.Statement.{statement}
-use Rattle.confluence.proofs.starts.starts_of.Tie as tie
+use Rattle.starts.specs.Starts.{Table}
+use Rattle.starts.proofs.Firsts.{first-is}
+use Rattle.starts.proofs.Firsts.{filled-more}
+use Rattle.starts.proofs.starts_of.Statement.{statement}
+use Rattle.starts.proofs.starts_of.Tie as tie
 
 abbrev Inv-loop : tie.InvT-loop
 Inv-loop hops starts₀ at₀ s₀ starts at s =

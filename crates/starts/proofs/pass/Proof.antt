@@ -1,4 +1,4 @@
--- `confluence::starts::pass` meets its contract: every hop passed is from s or an earlier state. Assumes nothing.
+-- `starts::pass` meets its contract: every hop passed is from s or an earlier state. Assumes nothing.
 use Prim.Native.Nat.{ℕ, _+_, _-_, _<_, _≤_}
 use mathlib.Core.Path.{_≡_}
 use native.Mathlib.Omega.{arith}
@@ -6,9 +6,9 @@ use borrow.Author.Needs.{needs}
 use borrow.Author.Count.{below-more}
 use Rattle.graph.specs.Hops.{count, from}
 use Rattle.graph.proofs.Lookup.{first-within}
-use Rattle.confluence.proofs.Rows.{first-below, first-is}
-use Rattle.confluence.proofs.starts.pass.Statement.{statement}
-use Rattle.confluence.proofs.starts.pass.Tie as tie
+use Rattle.starts.proofs.Firsts.{first-below, first-is}
+use Rattle.starts.proofs.pass.Statement.{statement}
+use Rattle.starts.proofs.pass.Tie as tie
 
 abbrev Inv-loop : tie.InvT-loop
 Inv-loop hops at s n i₀ i = (n ≡ count hops) × (i ≤ n) × ((j : ℕ) → j < i → from hops j < s + 1)

@@ -1,0 +1,20 @@
+-- The table of first places, by which a state's hops are found. Assumes nothing: these are definitions.
+use Prim.Native.Nat.{ℕ, _<_, _≤_}
+use mathlib.Core.Path.{_≡_}
+use mathlib.Core.List.{List}
+use lib.ListN.{getD}
+use Rattle.graph.specs.Hops.{count, from, to}
+use Rattle.graph.specs.Order.{Ascending}
+use Rattle.graph.specs.Search.{firstOf}
+use Rattle.graph.specs.Check.{most-states, most-hops}
+
+-- the table of first places, one for each state that can be and one past the last
+unfoldable pub Table : List ℕ → List ℕ → Type 0
+Table hs st = (s : ℕ) → s ≤ most-states → getD st s 0 ≡ firstOf hs s
+
+-- what the table needs of a hop list; `check` sees to it
+pub record Ready (hs : List ℕ) : Type 0 where
+  pub ascending : Ascending hs
+  pub hops-most : count hs ≤ most-hops
+  pub from-in : (i : ℕ) → i < count hs → from hs i < most-states
+  pub to-in : (i : ℕ) → i < count hs → to hs i < most-states
