@@ -23,13 +23,6 @@ use Rattle.starts.proofs.Firsts.{first-below, first-next}
 use Rattle.confluence.specs.Sweep.{Row, Skipped}
 use Rattle.confluence.proofs.Closing.{leaves-says, leaves-yes, tried-own, tried-other}
 
--- one place more of a range
-pub range-more : {P : ℕ → Type 0} {at k : ℕ} → ((j : ℕ) → at ≤ j → j < k → P j) → P k → (j : ℕ) → at ≤ j → j < k + 1 → P j
-range-more {P} {at} {k} f h j l m = go (lt-or-le j k) where
-  go : (j < k) ⊎ (k ≤ j) → P j
-  go (inl n) = f j l n
-  go (inr n) = let q : j ≡ k = omega arith in rw q h
-
 module _ (hs : List ℕ) (up : Ascending hs) where
   pub ascending-label : {i j : ℕ} → i ≤ j → j < count hs → from hs i ≡ from hs j → label hs i ≤ label hs j
   ascending-label {i} {j} h l e =

@@ -1,22 +1,23 @@
 -- Where silent hops stand: a silent hop of the graph is the hop at some place, and the places of a state's silent hops are a range. Assumes nothing.
-use Prim.Native.Nat.{ℕ, _<_, _≤_}
+use Prim.Native.Nat.{ℕ, _+_, _<_, _≤_}
 use mathlib.Core.Path.{_≡_, refl, sym, _∙_}
 use mathlib.Core.Bool.{true}
 use mathlib.Core.List.{List}
-use mathlib.Core.Logic.{inl, inr}
+use mathlib.Core.Logic.{_⊎_, inl, inr}
 use native.Mathlib.Omega.{arith}
 use borrow.Author.Tests.{eqb-true, eq-eqb, ltb-true, ltb-false, lt-ltb, le-ltb}
 use lib.Dec.{eqb}
 use Rattle.graph.specs.Hops.{count, from, label, to, hopAt}
 use Rattle.graph.specs.Order.{Ascending}
-use Rattle.graph.specs.Search.{firstOf}
+use Rattle.graph.specs.Search.{firstOf, pastOf}
 use Rattle.graph.specs.Check.{InRange}
 use Rattle.graph.specs.declared.Hop.{Hop}
 use Rattle.graph.specs.declared.Shape.{Shape}
-use Rattle.graph.proofs.Bools.{and-left, and-right, and-yes}
+use Rattle.graph.proofs.Bools.{and-left, and-right, and-yes, lt-or-le}
 use Rattle.graph.proofs.Places.{has-place, place-has}
 use Rattle.graph.proofs.Ordered.{Below, before-below, below-before}
-use Rattle.graph.proofs.Lookup.{lower-law, lower-within, first-law, range-holds}
+use Rattle.graph.proofs.Lookup.{lower-law, lower-within, first-law, first-within, range-holds, range-only}
+use Rattle.starts.proofs.Firsts.{first-below}
 use Rattle.silent.specs.Silent.{SilentOf, silentFrom}
 use Rattle.silent.specs.Reach.{silentPast}
 
@@ -73,6 +74,32 @@ module _ (hs : List ℕ) where
     pub silent-past-within : (s : ℕ) → silentPast hs s ≤ count hs
     unfolding silentPast
     silent-past-within s = lower-within hs (record { from = s; label = 1; to = 0 })
+
+    -- a walk over the hops of s comes past its silent ones at r: those passed are silent, and the one at r, if any, is not
+    pub silent-past-is : (s : ℕ) {r : ℕ} → firstOf hs s ≤ r → r ≤ firstOf hs (s + 1) → ((k : ℕ) → firstOf hs s ≤ k → k < r → label hs k ≡ 0) →
+        (r < firstOf hs (s + 1) → label hs r ≡ 0 → ⊥) → r ≡ silentPast hs s
+    unfolding pastOf silentPast
+    silent-past-is s {r} lo hi passed stop = go (lt-or-le r (silentPast hs s)) (lt-or-le (silentPast hs s) r) where
+      within : r ≤ count hs
+      within = omega (arith, first-within hs up (s + 1))
+
+      -- a place before r is before the last silent hop
+      before : (k : ℕ) → k < r → k < silentPast hs s
+      before k l = ltb-true _ _ (lower-law hs past up (omega (arith, within)) ∙ below-before (hopAt hs k) past (below (lt-or-le k (firstOf hs s)))) where
+        past : Hop
+        past = record { from = s; label = 1; to = 0 }
+
+        below : (k < firstOf hs s) ⊎ (firstOf hs s ≤ k) → Below (hopAt hs k) past
+        below (inl m) = inl (first-below hs up s m)
+        below (inr m) = inr (range-only hs up s (omega (arith, within)) m (omega arith), inl (omega (arith, passed k m l)))
+
+      go : (r < silentPast hs s) ⊎ (silentPast hs s ≤ r) → (silentPast hs s < r) ⊎ (r ≤ silentPast hs s) → r ≡ silentPast hs s
+      go (inl l) d =
+          let k : r < count hs = omega (arith, silent-past-within s) in
+          let e : silentFrom hs s r ≡ true = silent-only s r k lo l in
+          absurd (stop (range-holds hs up s k (silent-from-from s r e) .1) (silent-from-label s r e))
+      go (inr m) (inl l) = absurd (omega (arith, before (silentPast hs s) l))
+      go (inr m) (inr n) = omega arith
 
 -- both ends of a silent hop are states
 module _ {sh : Shape} {hs : List ℕ} (ranged : InRange sh hs) where

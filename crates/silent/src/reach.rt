@@ -1,17 +1,17 @@
 // Which states a state leads to by zero or more silent hops: a breadth-first search over a byte for each state and a queue.
-use graph::Hop;
 use graph::OldState;
 use graph::Shape;
+use graph::hops::label_at;
 use graph::hops::to_at;
-use graph::search::first_of;
-use graph::search::lower_place;
+use starts::start_of;
+use starts::wide;
 ghost use mathlib.Core.Path.{_≡_};
 ghost use mathlib.Core.Bool.{false};
 ghost use mathlib.Core.List.{_++_};
 ghost use Prim.Native.Nat.{_<_, _≤_};
 ghost use lib.ListN.{length, drop, replicate};
-ghost use Rattle.graph.specs.Order.{Ascending};
-ghost use Rattle.graph.specs.Check.{Admitted};
+ghost use Rattle.graph.specs.Search.{firstOf};
+ghost use Rattle.starts.specs.Starts.{Tabled};
 ghost use Rattle.silent.specs.Reach.{noted, reached, silentPast, seenWith, queueWith, tailWith, Front, Spread};
 
 // No state is noted.
@@ -42,36 +42,47 @@ fn note(seen: &mut [u8], queue: &mut [u16], tail: usize, t: OldState) -> usize
     tail + 1
 }
 
+// Where the hops of s begin.
+pub fn silent_first(shape: Shape, hops: &[u16], starts: &[u16; 1025], s: OldState) -> usize
+    requires { ⌜ Tabled shape (now hops) (now starts) ⌝ ∗ ⌜ s .0 < shape .states ⌝ }
+    ensures { λ r. ⌜ r ≡ firstOf (now (hops .entry)) (s .0) ⌝ }
+{
+    start_of(starts, wide(s.0))
+}
+
 // The place past the last silent hop of s: silent hops come first among those of a state.
-pub fn silent_past(hops: &[u16], s: OldState) -> usize
-    requires { ⌜ Ascending (now hops) ⌝ }
+pub fn silent_past(shape: Shape, hops: &[u16], starts: &[u16; 1025], s: OldState) -> usize
+    requires { ⌜ Tabled shape (now hops) (now starts) ⌝ ∗ ⌜ s .0 < shape .states ⌝ }
     ensures { λ r. ⌜ r ≡ silentPast (now (hops .entry)) (s .0) ⌝ }
 {
-    lower_place(
-        hops,
-        Hop {
-            from: s.0,
-            label: 1,
-            to: 0,
-        },
-    )
+    let t = wide(s.0);
+    let past = start_of(starts, t + 1);
+    let mut i = start_of(starts, t);
+    while i < past {
+        if label_at(hops, i).0 != 0 {
+            return i;
+        }
+        i += 1;
+    }
+    i
 }
 
 // Notes the ends of all silent hops of v; returns the queue's end.
 fn spread(
     shape: Shape,
     hops: &[u16],
+    starts: &[u16; 1025],
     v: OldState,
     seen: &mut [u8],
     queue: &mut [u16],
     tail: usize,
 ) -> usize
-    requires { ⌜ Admitted shape (now hops) ⌝ ∗ ⌜ Front (shape .states) (now seen) (now queue) tail ⌝ }
+    requires { ⌜ Tabled shape (now hops) (now starts) ⌝ ∗ ⌜ v .0 < shape .states ⌝ ∗ ⌜ Front (shape .states) (now seen) (now queue) tail ⌝ }
     ensures { λ r. ⌜ Spread (now (hops .entry)) (shape .states) (v .0) (now (seen .entry)) (now (queue .entry)) tail (now (seen .exit)) (now (queue .exit)) r ⌝ }
 {
-    let past = silent_past(hops, v);
+    let past = silent_past(shape, hops, starts, v);
     let mut end = tail;
-    let mut i = first_of(hops, v);
+    let mut i = silent_first(shape, hops, starts, v);
     while i < past {
         end = note(seen, queue, end, to_at(hops, i));
         i += 1;
@@ -80,8 +91,15 @@ fn spread(
 }
 
 // The states that s leads to: afterwards a state's byte is 1 if s leads to it, and 0 if not. The queue is working space.
-pub fn reach(shape: Shape, hops: &[u16], s: OldState, seen: &mut [u8], queue: &mut [u16])
-    requires { ⌜ Admitted shape (now hops) ⌝ ∗ ⌜ s .0 < shape .states ⌝ ∗ ⌜ shape .states ≤ length (now seen) ⌝ ∗ ⌜ shape .states ≤ length (now queue) ⌝ }
+pub fn reach(
+    shape: Shape,
+    hops: &[u16],
+    starts: &[u16; 1025],
+    s: OldState,
+    seen: &mut [u8],
+    queue: &mut [u16],
+)
+    requires { ⌜ Tabled shape (now hops) (now starts) ⌝ ∗ ⌜ s .0 < shape .states ⌝ ∗ ⌜ shape .states ≤ length (now seen) ⌝ ∗ ⌜ shape .states ≤ length (now queue) ⌝ }
     ensures { λ r. ⌜ now (seen .exit) ≡ reached (now (hops .entry)) (shape .states) (s .0) ++ drop (shape .states) (now (seen .entry)) ⌝ }
 {
     clear(seen, shape.states as usize);
@@ -89,7 +107,7 @@ pub fn reach(shape: Shape, hops: &[u16], s: OldState, seen: &mut [u8], queue: &m
     let mut head = 0;
     while head < tail {
         let v = OldState(queue[head]);
-        tail = spread(shape, hops, v, seen, queue, tail);
+        tail = spread(shape, hops, starts, v, seen, queue, tail);
         head += 1;
     }
 }

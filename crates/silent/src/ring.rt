@@ -8,12 +8,14 @@ use graph::hops::from_at;
 use graph::hops::hop_count;
 use graph::hops::label_at;
 use graph::hops::to_at;
+use starts::starts_of;
 ghost use mathlib.Core.Path.{_≡_};
 ghost use Prim.Native.Nat.{_<_, _≤_};
 ghost use lib.ListN.{length};
 ghost use Rattle.graph.specs.Tests.{any};
 ghost use Rattle.graph.specs.Hops.{count};
 ghost use Rattle.graph.specs.Check.{Admitted};
+ghost use Rattle.starts.specs.Starts.{Tabled};
 ghost use Rattle.silent.specs.Silent.{onRing, lowestOnRing, ringless};
 ghost use Rattle.silent.specs.Ring.{closesAt, Unringed};
 
@@ -46,25 +48,26 @@ fn closes(shape: Shape, hops: &[u16], s: OldState, seen: &[u8]) -> bool
 fn is_on_ring(
     shape: Shape,
     hops: &[u16],
+    starts: &[u16; 1025],
     s: OldState,
     ranked: &[u8],
     seen: &mut [u8],
     queue: &mut [u16],
 ) -> bool
-    requires { ⌜ Admitted shape (now hops) ⌝ ∗ ⌜ s .0 < shape .states ⌝ ∗ ⌜ (shape .states ≤ length (now ranked)) × Unringed (now hops) (shape .states) (now ranked) ⌝ ∗ ⌜ shape .states ≤ length (now seen) ⌝ ∗ ⌜ shape .states ≤ length (now queue) ⌝ }
+    requires { ⌜ Tabled shape (now hops) (now starts) ⌝ ∗ ⌜ s .0 < shape .states ⌝ ∗ ⌜ (shape .states ≤ length (now ranked)) × Unringed (now hops) (shape .states) (now ranked) ⌝ ∗ ⌜ shape .states ≤ length (now seen) ⌝ ∗ ⌜ shape .states ≤ length (now queue) ⌝ }
     ensures { λ r. ⌜ r ≡ onRing (now (hops .entry)) (shape .states) (s .0) ⌝ }
 {
     let at = s.0 as usize;
     if ranked[at] == 1 {
         return false;
     }
-    reach(shape, hops, s, seen, queue);
+    reach(shape, hops, starts, s, seen, queue);
     closes(shape, hops, s, seen)
 }
 
 // The lowest state on a ring, or the state count: by a search from each state that is not ranked.
-fn lowest_unranked(shape: Shape, hops: &[u16], ranked: &[u8]) -> usize
-    requires { ⌜ Admitted shape (now hops) ⌝ ∗ ⌜ (shape .states ≤ length (now ranked)) × Unringed (now hops) (shape .states) (now ranked) ⌝ }
+fn lowest_unranked(shape: Shape, hops: &[u16], starts: &[u16; 1025], ranked: &[u8]) -> usize
+    requires { ⌜ Tabled shape (now hops) (now starts) ⌝ ∗ ⌜ (shape .states ≤ length (now ranked)) × Unringed (now hops) (shape .states) (now ranked) ⌝ }
     ensures { λ r. ⌜ r ≡ lowestOnRing shape (now (hops .entry)) ⌝ }
 {
     let mut seen = [0u8; 1024];
@@ -75,6 +78,7 @@ fn lowest_unranked(shape: Shape, hops: &[u16], ranked: &[u8]) -> usize
         if is_on_ring(
             shape,
             hops,
+            starts,
             OldState(s as u16),
             ranked,
             &mut seen,
@@ -92,12 +96,13 @@ pub fn lowest_on_ring(shape: Shape, hops: &[u16]) -> usize
     requires { ⌜ Admitted shape (now hops) ⌝ }
     ensures { λ r. ⌜ r ≡ lowestOnRing shape (now (hops .entry)) ⌝ }
 {
+    let starts = starts_of(hops);
     let mut ranked = [0u8; 1024];
     let n = shape.states as usize;
-    if rank_all(shape, hops, &mut ranked) == n {
+    if rank_all(shape, hops, &starts, &mut ranked) == n {
         return n;
     }
-    lowest_unranked(shape, hops, &ranked)
+    lowest_unranked(shape, hops, &starts, &ranked)
 }
 
 // The answer of row 5.

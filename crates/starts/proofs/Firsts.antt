@@ -59,6 +59,13 @@ pub start-is : (hs st : List ℕ) → Table hs st → (x : ℕ) {y r : ℕ} → 
 unfolding Table
 start-is hs st t x {y} q l e = e ∙ rw q (t y l)
 
+-- one place more of a range
+pub range-more : {P : ℕ → Type 0} {at k : ℕ} → ((j : ℕ) → at ≤ j → j < k → P j) → P k → (j : ℕ) → at ≤ j → j < k + 1 → P j
+range-more {P} {at} {k} f h j l m = go (lt-or-le j k) where
+  go : (j < k) ⊎ (k ≤ j) → P j
+  go (inl n) = f j l n
+  go (inr n) = let q : j ≡ k = omega arith in rw q h
+
 -- one element more of a table of f
 pub filled-more : (f : ℕ → ℕ) (xs : List ℕ) {s v : ℕ} → s < length xs → v ≡ f s → ((t : ℕ) → t < s → getD xs t 0 ≡ f t) →
     (t : ℕ) → t < s + 1 → getD (set xs s v) t 0 ≡ f t

@@ -6,7 +6,8 @@ use lib.ListN.{getD}
 use Rattle.graph.specs.Hops.{count, from, to}
 use Rattle.graph.specs.Order.{Ascending}
 use Rattle.graph.specs.Search.{firstOf}
-use Rattle.graph.specs.Check.{most-states, most-hops}
+use Rattle.graph.specs.Check.{most-states, most-hops, Admitted}
+use Rattle.graph.specs.declared.Shape.{Shape}
 
 -- the table of first places, one for each state that can be and one past the last
 unfoldable pub Table : List ℕ → List ℕ → Type 0
@@ -18,3 +19,8 @@ pub record Ready (hs : List ℕ) : Type 0 where
   pub hops-most : count hs ≤ most-hops
   pub from-in : (i : ℕ) → i < count hs → from hs i < most-states
   pub to-in : (i : ℕ) → i < count hs → to hs i < most-states
+
+-- an admitted graph and its table
+pub record Tabled (sh : Shape) (hs st : List ℕ) : Type 0 where
+  pub admitted : Admitted sh hs
+  pub table : Table hs st

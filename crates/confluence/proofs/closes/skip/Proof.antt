@@ -3,7 +3,7 @@ use Prim.Native.Nat.{ℕ, _-_, _<_, _≤_}
 use native.Mathlib.Omega.{arith}
 use borrow.Author.Needs.{needs}
 use Rattle.graph.specs.Hops.{label}
-use Rattle.confluence.proofs.Rows.{range-more}
+use Rattle.starts.proofs.Firsts.{range-more}
 use Rattle.confluence.proofs.closes.skip.Statement.{statement}
 use Rattle.confluence.proofs.closes.skip.Tie as tie
 

@@ -15,16 +15,16 @@ use Rattle.silent.proofs.rank.ends_ranked.Statement.{statement}
 use Rattle.silent.proofs.rank.ends_ranked.Tie as tie
 
 abbrev Inv-loop : tie.InvT-loop
-Inv-loop hops ranked past i₀ i = (i₀ ≤ i) × ((j : ℕ) → i₀ ≤ j → j < i → noted ranked (to hops j) ≡ true)
+Inv-loop hops starts ranked past i₀ i = (i₀ ≤ i) × ((j : ℕ) → i₀ ≤ j → j < i → noted ranked (to hops j) ≡ true)
 
 abbrev μ-loop : tie.MeasureT-loop
-μ-loop hops ranked past i₀ i = past - i
+μ-loop hops starts ranked past i₀ i = past - i
 
 silent-past-requires : tie.Need-silent-past-requires Inv-loop μ-loop
-silent-past-requires c κs = c .before .before .pre .0 .ascending
+silent-past-requires c κs = (c .before .before .pre .0, c .before .before .pre .1 .1)
 
-first-of-requires : tie.Need-first-of-requires Inv-loop μ-loop
-first-of-requires c κs = c .before .before .before .pre .0 .ascending
+silent-first-requires : tie.Need-silent-first-requires Inv-loop μ-loop
+silent-first-requires c κs = (c .before .before .before .pre .0, c .before .before .before .pre .1 .1)
 
 loop-holds : tie.Need-loop-holds Inv-loop μ-loop
 loop-holds c = (omega arith, λ j l m. absurd (omega arith))
@@ -34,8 +34,8 @@ module _ (c : tie.At-loop Inv-loop μ-loop) where
   abbrev start : tie.Start Inv-loop μ-loop
   start = c .before .before .before .before .before
 
-  range : Range (start .args .shape) (start .args .hops .now) (start .args .v .0) (c .before .first-of .result) (c .before .before .silent-past .result)
-  range = record { admitted = start .pre .0; lo-is = c .before .first-of .ensures; hi-is = c .before .before .silent-past .ensures }
+  range : Range (start .args .shape) (start .args .hops .now) (start .args .v .0) (c .before .silent-first .result) (c .before .before .silent-past .result)
+  range = record { admitted = start .pre .0 .admitted; lo-is = c .before .silent-first .ensures; hi-is = c .before .before .silent-past .ensures }
 
 to-at-requires : tie.Need-to-at-requires Inv-loop μ-loop
 to-at-requires c κs = place-within (range (c .before)) _ (c .loop-test .taken)
@@ -45,7 +45,7 @@ cast-at c = search needs
 
 shared-slice-read-if1 : tie.Need-shared-slice-read-if1 Inv-loop μ-loop
 shared-slice-read-if1 c =
-    omega (arith, c .before .before .to-at .ensures, end-within (range (c .before .before .before .before)) (c .before .before .before .before .loop .i) (c .before .before .before .loop-test .taken), start (c .before .before .before .before) .pre .1)
+    omega (arith, c .before .before .to-at .ensures, end-within (range (c .before .before .before .before)) (c .before .before .before .before .loop .i) (c .before .before .before .loop-test .taken), start (c .before .before .before .before) .pre .1 .0)
 
 returns : tie.Need-returns Inv-loop μ-loop
 returns c =
@@ -81,7 +81,7 @@ ends-ranked-spec =
     Inv-loop
     μ-loop
     silent-past-requires
-    first-of-requires
+    silent-first-requires
     loop-holds
     to-at-requires
     cast-at

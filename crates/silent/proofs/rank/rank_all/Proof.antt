@@ -10,11 +10,11 @@ use Rattle.silent.proofs.rank.rank_all.Statement.{statement}
 use Rattle.silent.proofs.rank.rank_all.Tie as tie
 
 abbrev Inv-loop : tie.InvT-loop
-Inv-loop shape hops ranked₀ n done₀ ranked done =
+Inv-loop shape hops starts ranked₀ n done₀ ranked done =
     (n ≡ shape .states) × (length ranked ≡ length ranked₀) × Ranked hops (shape .states) ranked₀ ranked done
 
 abbrev μ-loop : tie.MeasureT-loop
-μ-loop shape hops ranked₀ n done₀ ranked done = n - done
+μ-loop shape hops starts ranked₀ n done₀ ranked done = n - done
 
 cast-n : tie.Need-cast-n Inv-loop μ-loop
 cast-n c = search needs
@@ -29,7 +29,7 @@ sweep-requires c κs =
     (s .pre .0, (omega (arith, s .pre .1 .0, i .1), i .2 .unringed))
 
 same-length : tie.Need-same-length Inv-loop μ-loop
-same-length c = c .before .before .before .sweep .kept .1 .1 .0 ∙ c .before .before .before .before .before .before .loop .inv .1
+same-length c = c .before .before .before .sweep .kept .1 .1 .1 .0 ∙ c .before .before .before .before .before .before .loop .inv .1
 
 returns : tie.Need-returns Inv-loop μ-loop
 returns c =
@@ -38,7 +38,7 @@ returns c =
     rw e at (ranked-join (i .inv .2) (c .before .before .before .sweep .ensures))
 
 add-done : tie.Need-add-done Inv-loop μ-loop
-add-done c = omega (arith, ranked-within (ranked-join (c .before .before .before .before .before .before .loop .inv .2) (c .before .before .before .sweep .ensures)), c .before .before .before .before .before .before .before .before .before .before .pre .0 .states-most)
+add-done c = omega (arith, ranked-within (ranked-join (c .before .before .before .before .before .before .loop .inv .2) (c .before .before .before .sweep .ensures)), c .before .before .before .before .before .before .before .before .before .before .pre .0 .admitted .states-most)
 
 loop-less : tie.Need-loop-less Inv-loop μ-loop
 loop-less c = omega (arith, c .before .before .before .before .before .loop-test .taken, c .if1 .left)
@@ -46,7 +46,7 @@ loop-less c = omega (arith, c .before .before .before .before .before .loop-test
 loop-again : tie.Need-loop-again Inv-loop μ-loop
 loop-again c =
     let i = c .before .before .before .before .before .before .loop .inv in
-    (i .0, c .before .before .before .sweep .kept .1 .1 .0 ∙ i .1, ranked-join (i .2) (c .before .before .before .sweep .ensures))
+    (i .0, c .before .before .before .sweep .kept .1 .1 .1 .0 ∙ i .1, ranked-join (i .2) (c .before .before .before .sweep .ensures))
 
 same-length-2 : tie.Need-same-length-2 Inv-loop μ-loop
 same-length-2 c = c .before .loop .inv .1

@@ -34,7 +34,7 @@ same-length-2 c = search needs
 returns-3 : tie.Need-returns-3
 returns-3 c =
     let s = c .before .before .before .before .before .before .before .before in
-    ranked-one (s .pre .0 .range) (s .args .ranked .now) (s .args .v .0) (s .pre .1 .1 .1) (s .pre .1 .0) (s .pre .1 .1 .0) (noted-no _ _ (c .before .before .before .if1 .left))
+    ranked-one (s .pre .0 .admitted .range) (s .args .ranked .now) (s .args .v .0) (s .pre .1 .1 .1) (s .pre .1 .0) (s .pre .1 .1 .0) (noted-no _ _ (c .before .before .before .if1 .left))
     (sym (c .before .ends-ranked .ensures) ∙ not-false _ (c .if2 .left))
 
 pub rank-one-spec : {M : Type 1} → statement M

@@ -10,11 +10,11 @@ use Rattle.silent.proofs.rank.sweep.Statement.{statement}
 use Rattle.silent.proofs.rank.sweep.Tie as tie
 
 abbrev Inv-loop : tie.InvT-loop
-Inv-loop shape hops ranked₀ got₀ v₀ ranked got v =
+Inv-loop shape hops starts ranked₀ got₀ v₀ ranked got v =
     (v ≤ shape .states) × (length ranked ≡ length ranked₀) × Ranked hops (shape .states) ranked₀ ranked got
 
 abbrev μ-loop : tie.MeasureT-loop
-μ-loop shape hops ranked₀ got₀ v₀ ranked got v = v
+μ-loop shape hops starts ranked₀ got₀ v₀ ranked got v = v
 
 cast-v : tie.Need-cast-v Inv-loop μ-loop
 cast-v c = search needs
@@ -25,8 +25,8 @@ loop-holds c = (omega arith, refl, ranked-none _ (c .before .before .before .pre
 sub-v : tie.Need-sub-v Inv-loop μ-loop
 sub-v c = omega arith
 
-cast-t8 : tie.Need-cast-t8 Inv-loop μ-loop
-cast-t8 c = omega (arith, c .before .before .before .before .before .pre .0 .states-most)
+cast-t9 : tie.Need-cast-t9 Inv-loop μ-loop
+cast-t9 c = omega (arith, c .before .before .before .before .before .pre .0 .admitted .states-most)
 
 rank-one-requires : tie.Need-rank-one-requires Inv-loop μ-loop
 rank-one-requires c κs =
@@ -35,7 +35,7 @@ rank-one-requires c κs =
     (s .pre .0, (omega (arith, s .pre .1 .0, i .1), (omega (arith, c .before .loop-test .taken), i .2 .unringed)))
 
 add-got : tie.Need-add-got Inv-loop μ-loop
-add-got c = omega (arith, ranked-within (ranked-join (c .before .before .before .before .before .loop .inv .2) (c .before .before .rank-one .ensures)), c .before .before .before .before .before .before .before .before .before .pre .0 .states-most)
+add-got c = omega (arith, ranked-within (ranked-join (c .before .before .before .before .before .loop .inv .2) (c .before .before .rank-one .ensures)), c .before .before .before .before .before .before .before .before .before .pre .0 .admitted .states-most)
 
 loop-less : tie.Need-loop-less Inv-loop μ-loop
 loop-less c = omega (arith, c .before .before .before .before .loop-test .taken)
@@ -43,7 +43,7 @@ loop-less c = omega (arith, c .before .before .before .before .loop-test .taken)
 loop-again : tie.Need-loop-again Inv-loop μ-loop
 loop-again c =
     let i = c .before .before .before .before .before .loop .inv in
-    (omega (arith, i .0), c .before .before .rank-one .kept .1 .1 .1 .0 ∙ i .1, ranked-join (i .2) (c .before .before .rank-one .ensures))
+    (omega (arith, i .0), c .before .before .rank-one .kept .1 .1 .1 .1 .0 ∙ i .1, ranked-join (i .2) (c .before .before .rank-one .ensures))
 
 same-length : tie.Need-same-length Inv-loop μ-loop
 same-length c = c .before .loop .inv .1
@@ -60,7 +60,7 @@ sweep-spec =
     cast-v
     loop-holds
     sub-v
-    cast-t8
+    cast-t9
     rank-one-requires
     add-got
     loop-less

@@ -9,11 +9,11 @@ use Rattle.silent.proofs.reach.reach.Tie as tie
 
 -- of every state s and the bytes e and queue q at entry: the loop holds none of them
 abbrev Inv-loop : tie.InvT-loop
-Inv-loop shape hops seen₀ queue₀ tail₀ head₀ seen queue tail head =
+Inv-loop shape hops starts seen₀ queue₀ tail₀ head₀ seen queue tail head =
     (s : ℕ) (e q : List ℕ) → Search hops (shape .states) s e q seen₀ queue₀ head₀ tail₀ → Search hops (shape .states) s e q seen queue head tail
 
 abbrev μ-loop : tie.MeasureT-loop
-μ-loop shape hops seen₀ queue₀ tail₀ head₀ seen queue tail head = shape .states - head
+μ-loop shape hops starts seen₀ queue₀ tail₀ head₀ seen queue tail head = shape .states - head
 
 cast-clear : tie.Need-cast-clear Inv-loop μ-loop
 cast-clear c = search needs
@@ -42,17 +42,19 @@ module _ (c : tie.At-loop Inv-loop μ-loop) where
       (search-starts (start .args .shape .states) (start .args .seen .now) (start .args .queue .now) (start .pre .1 .1 .0) (start .pre .1 .1 .1)
       (start .args .hops .now) (start .args .s .0) (start .pre .1 .0) (c .before .before .before .before .before .before .before .before .before .before .clear .ensures) (n .0) (n .1 .0) (n .1 .1))
 
-mul-t18 : tie.Need-mul-t18 Inv-loop μ-loop
-mul-t18 c = let a = search-at (c .before) in omega (arith, search-tail a, c .loop-test .taken, start (c .before) .pre .0 .states-most)
+mul-t19 : tie.Need-mul-t19 Inv-loop μ-loop
+mul-t19 c = let a = search-at (c .before) in omega (arith, search-tail a, c .loop-test .taken, start (c .before) .pre .0 .admitted .states-most)
 
-slice-read-t20 : tie.Need-slice-read-t20 Inv-loop μ-loop
-slice-read-t20 c = let a = search-at (c .before .before) in omega (arith, search-tail a, a .front .queue-room, c .before .loop-test .taken)
+slice-read-t21 : tie.Need-slice-read-t21 Inv-loop μ-loop
+slice-read-t21 c = let a = search-at (c .before .before) in omega (arith, search-tail a, a .front .queue-room, c .before .loop-test .taken)
 
 spread-requires : tie.Need-spread-requires Inv-loop μ-loop
-spread-requires c κs = (start (c .before .before .before .before) .pre .0, search-at (c .before .before .before .before) .front)
+spread-requires c κs =
+    let a = search-at (c .before .before .before .before) in
+    (start (c .before .before .before .before) .pre .0, (a .front .from-queue _ (c .before .before .before .loop-test .taken) .0, a .front))
 
 add-head : tie.Need-add-head Inv-loop μ-loop
-add-head c = let a = search-at (c .before .before .before .before .before .before .before .before .before) in omega (arith, search-tail a, c .before .before .before .before .before .before .before .before .loop-test .taken, start (c .before .before .before .before .before .before .before .before .before) .pre .0 .states-most)
+add-head c = let a = search-at (c .before .before .before .before .before .before .before .before .before) in omega (arith, search-tail a, c .before .before .before .before .before .before .before .before .loop-test .taken, start (c .before .before .before .before .before .before .before .before .before) .pre .0 .admitted .states-most)
 
 loop-less : tie.Need-loop-less Inv-loop μ-loop
 loop-less c = let a = search-at (c .before .before .before .before .before .before .before .before .before) in omega (arith, search-tail a, c .before .before .before .before .before .before .before .before .loop-test .taken)
@@ -60,7 +62,7 @@ loop-less c = let a = search-at (c .before .before .before .before .before .befo
 loop-again : tie.Need-loop-again Inv-loop μ-loop
 loop-again c =
     λ s e q a.
-    search-turns (start (c .before .before .before .before .before .before .before .before .before) .pre .0 .range) (c .before .before .before .before .before .before .before .before .before .loop .inv s e q a) (c .before .before .before .before .before .before .before .before .loop-test .taken) (c .before .before .before .before .spread .ensures)
+    search-turns (start (c .before .before .before .before .before .before .before .before .before) .pre .0 .admitted .range) (c .before .before .before .before .before .before .before .before .before .loop .inv s e q a) (c .before .before .before .before .before .before .before .before .loop-test .taken) (c .before .before .before .before .spread .ensures)
 
 same-length : tie.Need-same-length Inv-loop μ-loop
 same-length c = search-at (c .before) .seen-length
@@ -70,7 +72,7 @@ same-length-2 c = search-at (c .before) .queue-length
 
 returns : tie.Need-returns Inv-loop μ-loop
 returns c =
-    search-ends (start (c .before) .pre .0 .range) (search-at (c .before)) (c .loop-test .left) (start (c .before) .pre .1 .0)
+    search-ends (start (c .before) .pre .0 .admitted .range) (search-at (c .before)) (c .loop-test .left) (start (c .before) .pre .1 .0)
 
 pub reach-spec : {M : Type 1} → statement M
 reach-spec =
@@ -82,8 +84,8 @@ reach-spec =
     clear-requires
     note-requires
     loop-holds
-    mul-t18
-    slice-read-t20
+    mul-t19
+    slice-read-t21
     spread-requires
     add-head
     loop-less

@@ -10,18 +10,18 @@ use Rattle.silent.proofs.reach.spread.Tie as tie
 
 -- over every shape and state v whose silent hops stand from i₀ up to `past`: the loop holds neither
 abbrev Inv-loop : tie.InvT-loop
-Inv-loop hops seen₀ queue₀ tail past end₀ i₀ seen queue end i =
+Inv-loop hops starts seen₀ queue₀ tail past end₀ i₀ seen queue end i =
     (i₀ ≤ i) × ((sh : Shape) (v : ℕ) → Range sh hops v i₀ past → Front (sh .states) seen₀ queue₀ tail →
     Passed hops (sh .states) v i₀ i seen₀ queue₀ tail seen queue end)
 
 abbrev μ-loop : tie.MeasureT-loop
-μ-loop hops seen₀ queue₀ tail past end₀ i₀ seen queue end i = past - i
+μ-loop hops starts seen₀ queue₀ tail past end₀ i₀ seen queue end i = past - i
 
 silent-past-requires : tie.Need-silent-past-requires Inv-loop μ-loop
-silent-past-requires c κs = c .before .before .before .pre .0 .ascending
+silent-past-requires c κs = (c .before .before .before .pre .0, c .before .before .before .pre .1 .0)
 
-first-of-requires : tie.Need-first-of-requires Inv-loop μ-loop
-first-of-requires c κs = c .before .before .before .before .pre .0 .ascending
+silent-first-requires : tie.Need-silent-first-requires Inv-loop μ-loop
+silent-first-requires c κs = (c .before .before .before .before .pre .0, c .before .before .before .before .pre .1 .0)
 
 loop-holds : tie.Need-loop-holds Inv-loop μ-loop
 loop-holds c = (omega arith, λ sh v r f. passed-none r f)
@@ -31,12 +31,12 @@ module _ (c : tie.At-loop Inv-loop μ-loop) where
   abbrev start : tie.Start Inv-loop μ-loop
   start = c .before .before .before .before .before .before
 
-  range : Range (start .args .shape) (start .args .hops .now) (start .args .v .0) (c .before .first-of .result) (c .before .before .silent-past .result)
-  range = record { admitted = start .pre .0; lo-is = c .before .first-of .ensures; hi-is = c .before .before .silent-past .ensures }
+  range : Range (start .args .shape) (start .args .hops .now) (start .args .v .0) (c .before .silent-first .result) (c .before .before .silent-past .result)
+  range = record { admitted = start .pre .0 .admitted; lo-is = c .before .silent-first .ensures; hi-is = c .before .before .silent-past .ensures }
 
-  passed : Passed (start .args .hops .now) (start .args .shape .states) (start .args .v .0) (c .before .first-of .result) (c .loop .i)
+  passed : Passed (start .args .hops .now) (start .args .shape .states) (start .args .v .0) (c .before .silent-first .result) (c .loop .i)
       (start .args .seen .now) (start .args .queue .now) (start .args .tail) (c .loop .seen) (c .loop .queue) (c .loop .end)
-  passed = c .loop .inv .1 (start .args .shape) (start .args .v .0) range (start .pre .1)
+  passed = c .loop .inv .1 (start .args .shape) (start .args .v .0) range (start .pre .1 .1)
 
 to-at-requires : tie.Need-to-at-requires Inv-loop μ-loop
 to-at-requires c κs = place-within (range (c .before .before .before)) _ (c .before .before .loop-test .taken)
@@ -83,7 +83,7 @@ spread-spec =
     Inv-loop
     μ-loop
     silent-past-requires
-    first-of-requires
+    silent-first-requires
     loop-holds
     to-at-requires
     note-requires

@@ -16,7 +16,7 @@ shared-slice-read-if1 c = search needs
 returns : tie.Need-returns
 returns c =
     let p = c .before .before .before .before .before .before .before .pre in
-    sym (no-ring-test (p .0 .range) _ (p .1 .1 .0 .1 _ (p .1 .0) (noted-yes _ _ (c .if1 .taken))))
+    sym (no-ring-test (p .0 .admitted .range) _ (p .1 .1 .0 .1 _ (p .1 .0) (noted-yes _ _ (c .if1 .taken))))
 
 reach-requires : tie.Need-reach-requires
 reach-requires c κs = search needs
@@ -31,7 +31,7 @@ same-length-2 : tie.Need-same-length-2
 same-length-2 c = search needs
 
 returns-2 : tie.Need-returns-2
-returns-2 c = c .closes .ensures ∙ closes-ring (c .before .before .before .before .before .before .before .before .before .before .before .before .before .before .before .before .pre .0 .range) _ _ _ (c .before .before .before .before .before .before .reach .ensures)
+returns-2 c = c .closes .ensures ∙ closes-ring (c .before .before .before .before .before .before .before .before .before .before .before .before .before .before .before .before .pre .0 .admitted .range) _ _ _ (c .before .before .before .before .before .before .reach .ensures)
 
 pub is-on-ring-spec : {M : Type 1} → statement M
 is-on-ring-spec =

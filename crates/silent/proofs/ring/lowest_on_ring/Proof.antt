@@ -1,9 +1,13 @@
 -- `silent::ring::lowest_on_ring` meets its contract: where all states are ranked there is no ring. Assumes nothing.
 use native.Mathlib.Omega.{arith}
 use borrow.Author.Needs.{needs}
+use Rattle.starts.proofs.Firsts.{admitted-ready}
 use Rattle.silent.proofs.Ranking.{unringed-none, ranked-all, lowest-none}
 use Rattle.silent.proofs.ring.lowest_on_ring.Statement.{statement}
 use Rattle.silent.proofs.ring.lowest_on_ring.Tie as tie
+
+starts-of-requires : tie.Need-starts-of-requires
+starts-of-requires c κs = admitted-ready (c .before .pre)
 
 cast-n : tie.Need-cast-n
 cast-n c = search needs
@@ -13,11 +17,11 @@ slice-aggregate-rank-all c = search needs
 
 rank-all-requires : tie.Need-rank-all-requires
 rank-all-requires c κs =
-    let s = c .before .before .before in
-    (s .pre, (s .pre .states-most, unringed-none (s .args .hops .now) (s .args .shape .states) 1024 (s .pre .states-most)))
+    let s = c .before .before .before .before .before in
+    (record { admitted = s .pre; table = c .before .before .before .starts-of .ensures }, (s .pre .states-most, unringed-none (s .args .hops .now) (s .args .shape .states) 1024 (s .pre .states-most)))
 
 returns : tie.Need-returns
-returns c = lowest-none (c .before .before .before .before .before .before .pre .range) (ranked-all (c .before .before .rank-all .ensures) (omega (arith, c .if1 .taken)))
+returns c = lowest-none (c .before .before .before .before .before .before .before .before .pre .range) (ranked-all (c .before .before .rank-all .ensures) (omega (arith, c .if1 .taken)))
 
 slice-aggregate-lowest-unranked : tie.Need-slice-aggregate-lowest-unranked
 slice-aggregate-lowest-unranked c = search needs
@@ -32,6 +36,7 @@ pub lowest-on-ring-spec : {M : Type 1} → statement M
 lowest-on-ring-spec =
     tie.close
     (tie.spec
+    starts-of-requires
     cast-n
     slice-aggregate-rank-all
     rank-all-requires

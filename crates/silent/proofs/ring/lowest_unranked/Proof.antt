@@ -11,11 +11,11 @@ use Rattle.silent.proofs.ring.lowest_unranked.Statement.{statement}
 use Rattle.silent.proofs.ring.lowest_unranked.Tie as tie
 
 abbrev Inv-loop : tie.InvT-loop
-Inv-loop shape hops ranked seen₀ queue₀ n s₀ seen queue s =
+Inv-loop shape hops starts ranked seen₀ queue₀ n s₀ seen queue s =
     (n ≡ shape .states) × (s ≤ n) × (length seen ≡ 1024) × (length queue ≡ 1024) × (least s (onRing hops (shape .states)) ≡ s)
 
 abbrev μ-loop : tie.MeasureT-loop
-μ-loop shape hops ranked seen₀ queue₀ n s₀ seen queue s = n - s
+μ-loop shape hops starts ranked seen₀ queue₀ n s₀ seen queue s = n - s
 
 cast-n : tie.Need-cast-n Inv-loop μ-loop
 cast-n c = search needs
@@ -23,8 +23,8 @@ cast-n c = search needs
 loop-holds : tie.Need-loop-holds Inv-loop μ-loop
 loop-holds c = (refl, omega arith, length-replicate {A = ℕ} 1024 0, length-replicate {A = ℕ} 1024 0, least-none _)
 
-cast-t10 : tie.Need-cast-t10 Inv-loop μ-loop
-cast-t10 c = omega (arith, c .before .loop .inv .0, c .before .before .before .before .before .pre .0 .states-most)
+cast-t11 : tie.Need-cast-t11 Inv-loop μ-loop
+cast-t11 c = omega (arith, c .before .loop .inv .0, c .before .before .before .before .before .pre .0 .admitted .states-most)
 
 slice-aggregate-is-on-ring : tie.Need-slice-aggregate-is-on-ring Inv-loop μ-loop
 slice-aggregate-is-on-ring c = sym (c .before .before .loop .inv .2)
@@ -36,7 +36,7 @@ is-on-ring-requires : tie.Need-is-on-ring-requires Inv-loop μ-loop
 is-on-ring-requires c κs =
     let p = c .before .before .before .before .before .before .before .pre in
     let i = c .before .before .before .loop .inv in
-    (p .0, (omega (arith, i .0, c .before .before .loop-test .taken), (p .1, (omega (arith, i .2, p .0 .states-most), omega (arith, i .3, p .0 .states-most)))))
+    (p .0, (omega (arith, i .0, c .before .before .loop-test .taken), (p .1, (omega (arith, i .2, p .0 .admitted .states-most), omega (arith, i .3, p .0 .admitted .states-most)))))
 
 returns : tie.Need-returns Inv-loop μ-loop
 unfolding lowestOnRing
@@ -46,7 +46,7 @@ returns c =
     sym (least-found _ _ below (i .4) (rw (c .before .before .before .is-on-ring .ensures) at (c .if1 .taken)))
 
 add-s : tie.Need-add-s Inv-loop μ-loop
-add-s c = omega (arith, c .before .before .before .before .before .before .before .loop .inv .0, c .before .before .before .before .before .before .loop-test .taken, c .before .before .before .before .before .before .before .before .before .before .before .pre .0 .states-most)
+add-s c = omega (arith, c .before .before .before .before .before .before .before .loop .inv .0, c .before .before .before .before .before .before .loop-test .taken, c .before .before .before .before .before .before .before .before .before .before .before .pre .0 .admitted .states-most)
 
 loop-less : tie.Need-loop-less Inv-loop μ-loop
 loop-less c = omega (arith, c .before .before .before .before .before .before .loop-test .taken)
@@ -54,7 +54,7 @@ loop-less c = omega (arith, c .before .before .before .before .before .before .l
 loop-again : tie.Need-loop-again Inv-loop μ-loop
 loop-again c =
     let i = c .before .before .before .before .before .before .before .loop .inv in
-    (i .0, omega (arith, c .before .before .before .before .before .before .loop-test .taken), c .before .before .before .is-on-ring .kept .1 .1 .1 .1 .0 ∙ i .2, c .before .before .before .is-on-ring .kept .1 .1 .1 .1 .1 .0 ∙ i .3, least-more _ _ (i .4) (rw (c .before .before .before .is-on-ring .ensures) at (c .if1 .left)))
+    (i .0, omega (arith, c .before .before .before .before .before .before .loop-test .taken), c .before .before .before .is-on-ring .kept .1 .1 .1 .1 .1 .0 ∙ i .2, c .before .before .before .is-on-ring .kept .1 .1 .1 .1 .1 .1 .0 ∙ i .3, least-more _ _ (i .4) (rw (c .before .before .before .is-on-ring .ensures) at (c .if1 .left)))
 
 returns-2 : tie.Need-returns-2 Inv-loop μ-loop
 unfolding lowestOnRing
@@ -70,7 +70,7 @@ lowest-unranked-spec =
     μ-loop
     cast-n
     loop-holds
-    cast-t10
+    cast-t11
     slice-aggregate-is-on-ring
     slice-aggregate-is-on-ring-2
     is-on-ring-requires
