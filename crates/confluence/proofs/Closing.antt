@@ -101,6 +101,10 @@ module _ (hs : List ℕ) where
         go true e = rw (f (eqb-true a 0 e))
         go false e = refl
 
+    -- "The hop s1 to s2 itself is among the hops tried", and s2 itself answers it, whatever the set: to try it changes no mark
+    pub answered-itself : (s2 j : ℕ) → label hs j ≡ 0 → to hs j ≡ s2 → answered hs u s2 j ≡ true
+    answered-itself s2 j p q = answered-still s2 j refl refl p (closing-same u (to hs j) s2 q)
+
     -- the hop at place j, if it leaves s1, is tried
     module _ (s1 s2 j : ℕ) where
       pub tried-own : from hs j ≡ s1 → tried hs u s1 s2 j ≡ answered hs u s2 j
