@@ -1,4 +1,5 @@
 -- `graph::limits::is_rising` meets its contract. Assumes nothing.
+use mathlib.Core.Path.{_∙_}
 use borrow.Author.Needs.{needs}
 use borrow.Author.Tests.{eq-eqb, ne-eqb}
 use Rattle.graph.specs.Check.{rises}
@@ -23,7 +24,8 @@ is-before-requires c κs = search needs
 
 returns-2 : tie.Need-returns-2
 unfolding rises
-returns-2 c = rw (ne-eqb _ 0 (c .before .before .before .if1 .left)) (cc)
+returns-2 c =
+    c .is-before .ensures ∙ rw (ne-eqb _ 0 (c .before .before .before .if1 .left), c .before .hop-at2 .ensures, c .before .before .hop-at .ensures)
 
 pub is-rising-spec : {M : Type 1} → statement M
 is-rising-spec =
