@@ -104,24 +104,6 @@ fn row(entry: &str, input: &str, call: Call) {
     }
 }
 
-/// What a table of first places would save.
-fn saved(graphs: &[Named]) {
-    println!("\n| plain Rust alone | input | as the library does it | with a table of first places | ratio |\n|---|---|---|---|---|");
-    for Named { name, graph } in graphs.iter().filter(|g| asked("rings", g.name)) {
-        let states = graph.states as usize;
-        let one = Timed::new(move |_| plain::lowest_on_ring(states, &graph.hops).map_or(9999, |s| s as u32));
-        let two = Timed::new(move |_| plain::ranges::lowest_on_ring(states, &graph.hops).map_or(9999, |s| s as u32));
-        row_of("rings", name, one, Some(two));
-    }
-    let shape = |g: &Graph| plain::Shape { states: g.states, labels: g.labels, initial: g.initial };
-    for Named { name, graph } in graphs.iter().filter(|g| asked("audit with itself", g.name)) {
-        let map: Vec<u16> = (0..graph.states as u16).collect();
-        let one = Timed::new(|_| plain::audit(shape(graph), &graph.hops, shape(graph), &graph.hops, &map).1);
-        let two = Timed::new(|_| plain::ranges::audit(shape(graph), &graph.hops, shape(graph), &graph.hops, &map).1);
-        row_of("audit with itself", name, one, Some(two));
-    }
-}
-
 fn show(seconds: f64) -> String {
     if seconds >= 0.1 {
         format!("{seconds:.2} s")
@@ -175,7 +157,6 @@ fn main() {
     row("read", "4,096 hops, no names", &|e, o| e.read(&file, &mut o.hops, &mut o.answer));
     let many = inputs::many_names();
     row("read", "19,446 different names of two bytes", &|e, o| e.read(&many, &mut o.hops, &mut o.answer));
-    saved(&graphs);
 }
 
 /// The short graph and the map, by the plain implementation.

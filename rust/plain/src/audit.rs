@@ -1,5 +1,5 @@
 use crate::rings::reach;
-use crate::{check, find, hop_at, hop_count, refuse, Answer, Shape, ACCEPTED};
+use crate::{check, find, first_places, hop_at, hop_count, places, refuse, Answer, Shape, ACCEPTED};
 
 /// The entry audit, with the fault count.
 pub fn audit(shape1: Shape, hops1: &[u16], shape2: Shape, hops2: &[u16], map: &[u16]) -> (Answer, u32) {
@@ -7,10 +7,10 @@ pub fn audit(shape1: Shape, hops1: &[u16], shape2: Shape, hops2: &[u16], map: &[
     if answer.number != 0 {
         return (answer, 0);
     }
-    (answer, initial_fault(shape1, shape2, map) + lost(hops1, hops2, map) + made_up(shape1, hops1, hops2, map))
+    (answer, initial_fault(shape1, shape2, map) + lost(hops1, hops2, map) + made_up(shape1, hops1, shape2, hops2, map))
 }
 
-pub(crate) fn admitted(shape1: Shape, hops1: &[u16], shape2: Shape, hops2: &[u16], map: &[u16]) -> Answer {
+fn admitted(shape1: Shape, hops1: &[u16], shape2: Shape, hops2: &[u16], map: &[u16]) -> Answer {
     let one = check(shape1, hops1);
     if one.number != 0 {
         return one;
@@ -31,12 +31,12 @@ pub(crate) fn admitted(shape1: Shape, hops1: &[u16], shape2: Shape, hops2: &[u16
     }
 }
 
-pub(crate) fn initial_fault(shape1: Shape, shape2: Shape, map: &[u16]) -> u32 {
+fn initial_fault(shape1: Shape, shape2: Shape, map: &[u16]) -> u32 {
     u32::from(u32::from(map[shape1.initial as usize]) != shape2.initial)
 }
 
 /// The hops of graph 1 that graph 2 does not match.
-pub(crate) fn lost(hops1: &[u16], hops2: &[u16], map: &[u16]) -> u32 {
+fn lost(hops1: &[u16], hops2: &[u16], map: &[u16]) -> u32 {
     let mut faults = 0;
     for place in 0..hop_count(hops1) {
         let (from, label, to) = hop_at(hops1, place);
@@ -49,27 +49,30 @@ pub(crate) fn lost(hops1: &[u16], hops2: &[u16], map: &[u16]) -> u32 {
 }
 
 /// The pairs of a hop of graph 2 and a state of graph 1 that nothing answers: from each state the silent hops are followed, and the hops of the states that are met
-/// stamp hops of graph 2.
-fn made_up(shape1: Shape, hops1: &[u16], hops2: &[u16], map: &[u16]) -> u32 {
+/// and have the same map stamp hops of graph 2.
+fn made_up(shape1: Shape, hops1: &[u16], shape2: Shape, hops2: &[u16], map: &[u16]) -> u32 {
     let states = shape1.states as usize;
+    let first1 = first_places(states, hops1);
+    let first2 = first_places(shape2.states as usize, hops2);
     let mut seen = [false; 1024];
     let mut queue = [0; 1024];
     let mut stamps = [0u16; 4096];
     let mut faults = 0;
     for state in 0..states as u16 {
-        reach(states, hops1, state, &mut seen, &mut queue);
+        reach(states, hops1, &first1, state, &mut seen, &mut queue);
         let r = map[usize::from(state)];
         let stamp = state + 1;
-        for hop in hops1.chunks_exact(3) {
-            let u = usize::from(hop[0]);
-            if seen[u] && map[u] == r {
-                if let Some(place) = find(hops2, (r, hop[1], map[usize::from(hop[2])])) {
+        for u in (0..states as u16).filter(|&u| seen[usize::from(u)] && map[usize::from(u)] == r) {
+            for place in places(&first1, u) {
+                let (_, label, to) = hop_at(hops1, place);
+                if let Some(place) = find(hops2, (r, label, map[usize::from(to)])) {
                     stamps[place] = stamp;
                 }
             }
         }
-        for (hop, &stamped) in hops2.chunks_exact(3).zip(&stamps) {
-            if hop[0] == r && !((hop[1] == 0 && hop[2] == r) || stamped == stamp) {
+        for place in places(&first2, r) {
+            let (_, label, to) = hop_at(hops2, place);
+            if !((label == 0 && to == r) || stamps[place] == stamp) {
                 faults += 1;
             }
         }

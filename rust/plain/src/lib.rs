@@ -1,5 +1,5 @@
-//! The entries in plain Rust, by the library's algorithms: one binary search for a hop, sweeps for rings and marks, searches by states for the audit, a
-//! table of what is known for the round question, lengths before bytes for names.
+//! The entries in plain Rust, by the library's algorithms: one binary search for a hop, a table of first places for the hops of a state, sweeps for rings and
+//! marks, searches by states for the audit, a table of what is known for the round question, lengths before bytes for names.
 //!
 //! It stands beside the library in the benchmarks and in the differential tests. Nothing here is proved.
 
@@ -7,7 +7,6 @@ mod audit;
 mod check;
 mod file;
 mod mark;
-pub mod ranges;
 mod reduce;
 mod rings;
 mod round;
