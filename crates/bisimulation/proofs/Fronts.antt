@@ -15,11 +15,11 @@ use Rattle.graph.specs.declared.Shape.{Shape}
 use Rattle.graph.specs.declared.Answer.{Answer}
 use Rattle.graph.proofs.Tests.{length-listed}
 use Rattle.graph.proofs.Places.{length-flat}
-use Rattle.quotient.specs.Representative.{mapOf}
-use Rattle.quotient.specs.Short.{shortHops, shortShape, mapList}
+use Rattle.representatives.specs.Representative.{mapOf}
+use Rattle.short.specs.Short.{shortHops, shortShape, mapList}
+use Rattle.short.proofs.Images.{short-within}
 use Rattle.quotient.specs.Reduce.{noShape, reduceAnswer, reduceOf, mapOutput, shortOutput}
 use Rattle.quotient.specs.declared.Reduction.{Reduction}
-use Rattle.quotient.proofs.Images.{short-within}
 use Rattle.quotient.proofs.Answering.{reduce-reducible, reduce-map-room, reduce-short-room}
 use Rattle.bisimulation.specs.Auditing.{auditOf}
 use Rattle.bisimulation.specs.Together.{auditAfter, togetherOf}

@@ -7,10 +7,10 @@ use Rattle.graph.specs.Hops.{flat}
 use Rattle.graph.specs.Check.{accepted}
 use Rattle.graph.specs.declared.Shape.{Shape}
 use Rattle.graph.proofs.Tests.{length-listed, getD-listed}
-use Rattle.quotient.specs.Representative.{mapOf}
-use Rattle.quotient.specs.Short.{shortHops, shortShape, mapList}
-use Rattle.quotient.specs.Tables.{Reducible}
-use Rattle.quotient.proofs.Reduced.{map-inside, short-admitted, short-reduces}
+use Rattle.representatives.specs.Representative.{mapOf}
+use Rattle.representatives.specs.Tables.{Reducible}
+use Rattle.short.specs.Short.{shortHops, shortShape, mapList}
+use Rattle.short.proofs.Reduced.{map-inside, short-admitted, short-reduces}
 use Rattle.bisimulation.specs.Faults.{mapped, faultsOf}
 use Rattle.bisimulation.specs.Bisimulation.{BranchingBisimulation, MapRelation, JoinsInitial}
 use Rattle.bisimulation.specs.Auditing.{auditOf}

@@ -16,9 +16,10 @@ use Rattle.graph.proofs.Bools.{clash, or-yes, lt-or-le}
 use Rattle.graph.proofs.Checked.{check-admitted}
 use Rattle.silent.specs.Silent.{ringless}
 use Rattle.confluence.proofs.Entry.{then-first, then-next, then-both, room-given}
-use Rattle.quotient.specs.Short.{shortHops, mapList}
+use Rattle.representatives.specs.Tables.{Reducible}
+use Rattle.short.specs.Short.{shortHops, mapList}
 use Rattle.quotient.specs.Reduce.{reduceAnswer, reduction, reduceOf, written, mapOutput, shortOutput}
-use Rattle.quotient.specs.Tables.{Reducible, refusal}
+use Rattle.quotient.specs.Refusal.{refusal}
 
 module _ (sh : Shape) (hs : List ℕ) (m k : ℕ) where
   -- row 6 of both outputs

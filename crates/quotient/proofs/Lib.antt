@@ -1,11 +1,2 @@
-pub mod Resting
-pub mod Numbers
-pub mod Insertion
-pub mod Images
-pub mod Reduces
-pub mod Nexts
-pub mod Gaps
-pub mod Collected
-pub mod Reduced
 pub mod Tabled
 pub mod Answering

@@ -1,4 +1,2 @@
-pub mod Representative
-pub mod Short
 pub mod Reduce
-pub mod Tables
+pub mod Refusal

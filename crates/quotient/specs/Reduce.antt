@@ -9,7 +9,7 @@ use Rattle.graph.specs.Check.{checkOf, andThen, roomFor}
 use Rattle.graph.specs.declared.Shape.{Shape}
 use Rattle.graph.specs.declared.Answer.{Answer}
 use Rattle.silent.specs.Silent.{ringless}
-use Rattle.quotient.specs.Short.{shortHops, shortShape, mapList}
+use Rattle.short.specs.Short.{shortHops, shortShape, mapList}
 use Rattle.quotient.specs.declared.Reduction.{Reduction}
 
 -- rows 1 to 4, 5, then 6: "map, one a state; short hops, three a hop of the input", which is as many as the input has

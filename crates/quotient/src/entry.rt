@@ -1,10 +1,5 @@
 // The entry `reduce`: the map and the short graph of a graph without rings, or the row that refuses it.
 use super::Reduction;
-use super::follow::next_states;
-use super::renumber::fill_map;
-use super::renumber::map_at;
-use super::renumber::new_numbers;
-use super::shorten::shorten;
 use confluence::sweep::mark_all;
 use graph::Answer;
 use graph::OldState;
@@ -12,6 +7,11 @@ use graph::Shape;
 use graph::limits::accept;
 use graph::limits::check;
 use graph::limits::refuse;
+use representatives::follow::next_states;
+use representatives::renumber::fill_map;
+use representatives::renumber::map_at;
+use representatives::renumber::new_numbers;
+use short::shorten::shorten;
 use silent::ring::ring_answer;
 ghost use mathlib.Core.Path.{_≡_};
 ghost use Prim.Native.Nat.{_≤_};
@@ -19,9 +19,10 @@ ghost use lib.ListN.{length};
 ghost use Rattle.graph.specs.Hops.{flat};
 ghost use Rattle.graph.specs.Check.{accepted};
 ghost use Rattle.starts.specs.Starts.{Ready};
-ghost use Rattle.quotient.specs.Short.{shortHops, mapList};
+ghost use Rattle.representatives.specs.Tables.{Reducible, Onward};
+ghost use Rattle.short.specs.Short.{shortHops, mapList};
 ghost use Rattle.quotient.specs.Reduce.{reduceAnswer, reduceOf, mapOutput, shortOutput, reduction, written};
-ghost use Rattle.quotient.specs.Tables.{Reducible, Onward, refusal};
+ghost use Rattle.quotient.specs.Refusal.{refusal};
 
 // The answer, before anything is written: rows 1 to 4, then 5, then 6.
 pub fn reduce_answer(shape: Shape, hops: &[u16], entries: usize, numbers: usize) -> Answer

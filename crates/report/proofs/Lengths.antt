@@ -12,10 +12,10 @@ use Rattle.graph.specs.Check.{Admitted}
 use Rattle.graph.specs.declared.Shape.{Shape}
 use Rattle.graph.specs.declared.Answer.{Answer}
 use Rattle.confluence.specs.Mark.{markOf}
-use Rattle.quotient.specs.Representative.{mapOf}
-use Rattle.quotient.specs.Short.{shortHops, shortShape}
-use Rattle.quotient.specs.Tables.{Reducible}
-use Rattle.quotient.proofs.Reduced.{short-admitted, map-inside}
+use Rattle.representatives.specs.Representative.{mapOf}
+use Rattle.representatives.specs.Tables.{Reducible}
+use Rattle.short.specs.Short.{shortHops, shortShape}
+use Rattle.short.proofs.Reduced.{short-admitted, map-inside}
 use Rattle.report.specs.Text.{digits, decimal, spaced, ending, line, lines, in-word, marked-word, map-word, out-word, hop-word, no-word}
 use Rattle.report.specs.Report.{markedLine, mapLine, hopLine, linesOf, reportOf, refusalOf, most-text}
 

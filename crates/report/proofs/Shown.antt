@@ -19,13 +19,13 @@ use Rattle.graph.proofs.Tests.{length-listed, getD-listed}
 use Rattle.silent.specs.Silent.{ringless}
 use Rattle.confluence.specs.Mark.{markOf, markAnswer, markOutput}
 use Rattle.confluence.proofs.Entry.{then-both, output-marked}
-use Rattle.quotient.specs.Short.{shortHops, shortShape, mapList}
-use Rattle.quotient.specs.Representative.{mapOf}
+use Rattle.representatives.specs.Representative.{mapOf}
+use Rattle.representatives.specs.Tables.{Reducible, Marks}
+use Rattle.representatives.proofs.Tabled.{marks-front}
+use Rattle.short.specs.Short.{shortHops, shortShape, mapList}
+use Rattle.short.proofs.Images.{short-within}
 use Rattle.quotient.specs.Reduce.{reduceAnswer, reduceOf, mapOutput, shortOutput}
-use Rattle.quotient.specs.Tables.{Reducible, Marks}
 use Rattle.quotient.specs.declared.Reduction.{Reduction}
-use Rattle.quotient.proofs.Images.{short-within}
-use Rattle.quotient.proofs.Tabled.{marks-front}
 use Rattle.fields.specs.Format.{hopsIn, shapeIn, hopListIn}
 use Rattle.file.specs.Read.{formatAnswer, readAnswer, readOf, readHops, contentsOf, nothing, onFront}
 use Rattle.file.specs.declared.Contents.{Contents}

@@ -9,8 +9,8 @@ use Rattle.graph.specs.declared.Shape.{Shape}
 use Rattle.graph.specs.declared.Answer.{Answer}
 use Rattle.silent.specs.Silent.{ringless}
 use Rattle.confluence.specs.Mark.{markOf}
-use Rattle.quotient.specs.Representative.{mapOf}
-use Rattle.quotient.specs.Short.{shortHops, shortShape}
+use Rattle.representatives.specs.Representative.{mapOf}
+use Rattle.short.specs.Short.{shortHops, shortShape}
 use Rattle.fields.specs.Format.{shapeIn, hopListIn}
 use Rattle.file.specs.Read.{formatAnswer}
 use Rattle.report.specs.Text.{line, lines, in-word, marked-word, map-word, out-word, hop-word, no-word}

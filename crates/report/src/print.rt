@@ -9,7 +9,7 @@ use quotient::entry::reduce;
 ghost use mathlib.Core.Path.{_≡_};
 ghost use Prim.Native.Nat.{_≤_};
 ghost use lib.ListN.{length};
-ghost use Rattle.quotient.specs.Tables.{Reducible, Marks};
+ghost use Rattle.representatives.specs.Tables.{Reducible, Marks};
 ghost use Rattle.file.specs.Read.{onFront};
 ghost use Rattle.report.specs.Text.{Put};
 ghost use Rattle.report.specs.Report.{most-text, reportOf, printedGraph, printedOf, shownIn};

@@ -8,7 +8,7 @@ use graph::hops::from_at;
 use graph::hops::hop_count;
 use graph::hops::label_at;
 use graph::hops::to_at;
-use quotient::renumber::map_at;
+use representatives::renumber::map_at;
 ghost use Prim.Native.Nat.{ℕ, _<_, _≤_};
 ghost use lib.ListN.{length, getD};
 ghost use Rattle.graph.specs.Hops.{count};

@@ -7,8 +7,8 @@ use Rattle.graph.specs.Check.{checkOf, countsFit, inside, firstOutside, rises, 
 use Rattle.silent.specs.Silent.{leads, silentFrom, onRing, lowestOnRing, ringless}
 use Rattle.confluence.specs.Rounds.{survives, marked, closes, tried, answered, answers, answer, leaves, closing}
 use Rattle.confluence.specs.Mark.{marksOf, markOf, markAnswer}
-use Rattle.quotient.specs.Representative.{markedFrom, resting, onward, followed, repOf, newOf, mapOf}
-use Rattle.quotient.specs.Short.{insert, gathered, shortHops, shortShape, mapList}
+use Rattle.representatives.specs.Representative.{markedFrom, resting, onward, followed, repOf, newOf, mapOf}
+use Rattle.short.specs.Short.{insert, gathered, shortHops, shortShape, mapList}
 use Rattle.bisimulation.specs.Faults.{initialFault, kept, lostFaults, offers, backed, matched, madeUp, madeUpFaults, faultsOf}
 use Rattle.worked.specs.Table.{tableOf, table, outcomeOf, fallsIn}
 

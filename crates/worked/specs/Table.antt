@@ -12,7 +12,7 @@ use Rattle.graph.specs.declared.Shape.{Shape}
 use Rattle.graph.specs.declared.Answer.{Answer}
 use Rattle.confluence.specs.Rounds.{survives}
 use Rattle.confluence.specs.Mark.{marksOf, markAnswer}
-use Rattle.quotient.specs.Short.{mapList, shortHops, shortShape}
+use Rattle.short.specs.Short.{mapList, shortHops, shortShape}
 use Rattle.bisimulation.specs.Faults.{faultsOf}
 
 -- a hop as document 01 writes it, and a shape with initial state 0

@@ -1,9 +1,10 @@
 -- `quotient::entry::accepted_reduction` meets its contract: the tables hold what the definitions say. Assumes nothing.
 use native.Mathlib.Omega.{arith}
 use Rattle.starts.proofs.Firsts.{admitted-ready}
-use Rattle.quotient.proofs.Tabled.{tabled-closed, reduced-map, reduced-short, reduced-returns}
+use Rattle.representatives.proofs.Tabled.{tabled-closed}
+use Rattle.quotient.proofs.Tabled.{reduced-map, reduced-short, reduced-returns}
 use Rattle.graph.proofs.Tests.{tally-within}
-use Rattle.quotient.specs.Tables.{stays}
+use Rattle.representatives.specs.Tables.{stays}
 use borrow.Author.Needs.{needs}
 use Rattle.quotient.proofs.entry.accepted_reduction.Statement.{statement}
 use Rattle.quotient.proofs.entry.accepted_reduction.Tie as tie

@@ -1,5 +1,5 @@
 -- `quotient::entry::marked_next` meets its contract. Assumes nothing.
-use Rattle.quotient.proofs.Tabled.{marks-front}
+use Rattle.representatives.proofs.Tabled.{marks-front}
 use borrow.Author.Needs.{needs}
 use Rattle.quotient.proofs.entry.marked_next.Statement.{statement}
 use Rattle.quotient.proofs.entry.marked_next.Tie as tie

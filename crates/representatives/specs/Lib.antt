@@ -1,0 +1,2 @@
+pub mod Representative
+pub mod Tables
