@@ -3,15 +3,15 @@ use super::answer::put_answer;
 use super::answer::put_figure;
 use super::answer::shape_of;
 use super::answer::short_number;
-use confluence::mark::mark;
-use confluence::mark::mark_answer;
 use graph::limits::check;
+use marks::mark::mark;
+use marks::mark::mark_answer;
 use rounds::question::round_question;
 ghost use mathlib.Core.Path.{_≡_};
 ghost use mathlib.Core.List.{[]};
 ghost use lib.ListN.{length};
 ghost use Rattle.graph.specs.Check.{checkOf};
-ghost use Rattle.confluence.specs.Mark.{markAnswer, markOutput};
+ghost use Rattle.marks.specs.Mark.{markAnswer, markOutput};
 ghost use Rattle.rounds.specs.Question.{questionAnswer, questionOf};
 ghost use Rattle.capi.specs.Interface.{shapeOf, numbersOf, roundNumbers, returned, told, unlessShort};
 

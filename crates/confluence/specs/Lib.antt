@@ -1,3 +1,2 @@
 pub mod Rounds
-pub mod Mark
-pub mod Sweep
+pub mod Held

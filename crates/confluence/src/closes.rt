@@ -18,7 +18,7 @@ ghost use Rattle.graph.specs.Hops.{count, from, label, to};
 ghost use Rattle.graph.specs.Order.{Ascending};
 ghost use Rattle.confluence.specs.Rounds.{closing, answer, answered, closes};
 ghost use Rattle.starts.specs.Starts.{Table, Ready};
-ghost use Rattle.confluence.specs.Sweep.{heldBy, Row, Skipped};
+ghost use Rattle.confluence.specs.Held.{heldBy, Row, Skipped};
 
 // The hops of a state from place `at` on; `past` is the place past its last.
 pub struct Rest {

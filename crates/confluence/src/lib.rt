@@ -1,4 +1,2 @@
-// Marking: which silent hops belong to some strongly confluent set.
+// Confluent sets: whether a silent hop closes with the set that marks are. The definitions and theorems of marking stand here too.
 pub mod closes; // closes.rt: whether a marked hop closes
-pub mod sweep; // sweep.rt: marking by sweeps in place
-pub mod mark; // mark.rt: the entry `mark`

@@ -15,7 +15,7 @@ use Rattle.graph.specs.declared.Answer.{Answer}
 use Rattle.graph.proofs.Bools.{clash, or-yes, lt-or-le}
 use Rattle.graph.proofs.Checked.{check-admitted}
 use Rattle.silent.specs.Silent.{ringless}
-use Rattle.confluence.proofs.Entry.{then-first, then-next, then-both, room-given}
+use Rattle.marks.proofs.Entry.{then-first, then-next, then-both, room-given}
 use Rattle.representatives.specs.Tables.{Reducible}
 use Rattle.short.specs.Short.{shortHops, mapList}
 use Rattle.quotient.specs.Reduce.{reduceAnswer, reduction, reduceOf, written, mapOutput, shortOutput}

@@ -1,12 +1,12 @@
 // The entry `reduce`: the map and the short graph of a graph without rings, or the row that refuses it.
 use super::Reduction;
-use confluence::sweep::mark_all;
 use graph::Answer;
 use graph::OldState;
 use graph::Shape;
 use graph::limits::accept;
 use graph::limits::check;
 use graph::limits::refuse;
+use marks::sweep::mark_all;
 use representatives::follow::next_states;
 use representatives::renumber::fill_map;
 use representatives::renumber::map_at;

@@ -19,7 +19,7 @@ use Rattle.graph.proofs.Bools.{not-no, and-no-left, and-no-right}
 use Rattle.graph.proofs.Checked.{check-counts}
 use Rattle.graph.proofs.Fronts.{length-front, over-front, put-over, length-over, front-over, over-over}
 use Rattle.graph.proofs.Places.{length-flat, count-flat}
-use Rattle.confluence.specs.Mark.{markAnswer, markOutput}
+use Rattle.marks.specs.Mark.{markAnswer, markOutput}
 use Rattle.records.specs.Records.{unlessOver}
 
 abbrev pub done : List Hop → List ℕ → ℕ → List ℕ

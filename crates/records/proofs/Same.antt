@@ -13,7 +13,7 @@ use Rattle.graph.specs.declared.Hop.{Hop}
 use Rattle.graph.specs.declared.Shape.{Shape}
 use Rattle.graph.proofs.Fronts.{length-front, getD-front, over-front}
 use Rattle.graph.proofs.Places.{length-flat, count-flat, flat-at}
-use Rattle.confluence.specs.Mark.{markAnswer, markOutput}
+use Rattle.marks.specs.Mark.{markAnswer, markOutput}
 use Rattle.records.specs.Records.{Holds}
 
 -- the flat list of the records holds them

@@ -1,5 +1,4 @@
 // The entries `check` and `mark` over a lent slice of records, with the answers that their flat list is given.
-use confluence::mark::mark;
 use graph::Answer;
 use graph::Hop;
 use graph::Shape;
@@ -7,12 +6,13 @@ use graph::hops::part;
 use graph::hops::put_hop;
 use graph::limits::check;
 use graph::limits::refuse;
+use marks::mark::mark;
 ghost use mathlib.Core.Path.{_≡_};
 ghost use Prim.Native.Nat.{_≤_};
 ghost use lib.ListN.{length};
 ghost use Rattle.graph.specs.Hops.{count, between, flat, over};
 ghost use Rattle.graph.specs.Check.{most-hops, refused, checkOf};
-ghost use Rattle.confluence.specs.Mark.{markAnswer, markOutput};
+ghost use Rattle.marks.specs.Mark.{markAnswer, markOutput};
 ghost use Rattle.records.specs.Records.{unlessOver};
 
 const MOST_HOPS: usize = 4096;

@@ -11,7 +11,7 @@ use Rattle.graph.specs.Hops.{count, from, label, to, flat}
 use Rattle.graph.specs.Check.{Admitted}
 use Rattle.graph.specs.declared.Shape.{Shape}
 use Rattle.graph.specs.declared.Answer.{Answer}
-use Rattle.confluence.specs.Mark.{markOf}
+use Rattle.marks.specs.Mark.{markOf}
 use Rattle.representatives.specs.Representative.{mapOf}
 use Rattle.representatives.specs.Tables.{Reducible}
 use Rattle.short.specs.Short.{shortHops, shortShape}

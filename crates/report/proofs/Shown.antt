@@ -17,8 +17,8 @@ use Rattle.graph.proofs.Checked.{check-admitted, admitted-check}
 use Rattle.graph.proofs.Places.{length-flat}
 use Rattle.graph.proofs.Tests.{length-listed, getD-listed}
 use Rattle.silent.specs.Silent.{ringless}
-use Rattle.confluence.specs.Mark.{markOf, markAnswer, markOutput}
-use Rattle.confluence.proofs.Entry.{then-both, output-marked}
+use Rattle.marks.specs.Mark.{markOf, markAnswer, markOutput}
+use Rattle.marks.proofs.Entry.{then-both, output-marked}
 use Rattle.representatives.specs.Representative.{mapOf}
 use Rattle.representatives.specs.Tables.{Reducible, Marks}
 use Rattle.representatives.proofs.Tabled.{marks-front}

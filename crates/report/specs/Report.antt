@@ -8,7 +8,7 @@ use Rattle.graph.specs.Check.{checkOf}
 use Rattle.graph.specs.declared.Shape.{Shape}
 use Rattle.graph.specs.declared.Answer.{Answer}
 use Rattle.silent.specs.Silent.{ringless}
-use Rattle.confluence.specs.Mark.{markOf}
+use Rattle.marks.specs.Mark.{markOf}
 use Rattle.representatives.specs.Representative.{mapOf}
 use Rattle.short.specs.Short.{shortHops, shortShape}
 use Rattle.fields.specs.Format.{shapeIn, hopListIn}

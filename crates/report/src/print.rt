@@ -1,10 +1,10 @@
 // What the program prints of a file.
 use super::rows::put_refusal;
 use super::rows::put_report;
-use confluence::mark::mark;
 use file::reading::read;
 use graph::Shape;
 use graph::hops::part;
+use marks::mark::mark;
 use quotient::entry::reduce;
 ghost use mathlib.Core.Path.{_≡_};
 ghost use Prim.Native.Nat.{_≤_};

@@ -15,7 +15,7 @@ use Rattle.graph.specs.Hops.{count, from, label, to}
 use Rattle.graph.proofs.Bools.{eq-or-not, not-yes, not-no, and-yes, and-no-left, and-no-right}
 use Rattle.graph.proofs.Tests.{any-no, any-found, least-is}
 use Rattle.confluence.specs.Rounds.{marked}
-use Rattle.confluence.specs.Mark.{markOf}
+use Rattle.marks.specs.Mark.{markOf}
 use Rattle.representatives.specs.Representative.{markedFrom, resting, onward}
 use Rattle.representatives.specs.Tables.{Closed, noted, stepped}
 use Rattle.representatives.proofs.Resting.{rests-onward, moves-onward}

@@ -10,7 +10,7 @@ use Rattle.graph.specs.Hops.{count}
 use Rattle.graph.specs.Check.{most-states}
 use Rattle.graph.specs.declared.Shape.{Shape}
 use Rattle.graph.proofs.Tests.{tally-same, length-listed, getD-listed}
-use Rattle.confluence.specs.Mark.{markOf, marksOf}
+use Rattle.marks.specs.Mark.{markOf, marksOf}
 use Rattle.representatives.specs.Representative.{resting, onward, followed, newOf, repOf, mapOf}
 use Rattle.representatives.specs.Tables.{Reducible, Marks, Onward, Closed, stays, stepped, numbered}
 use Rattle.representatives.proofs.Resting.{onward-in, followed-in}

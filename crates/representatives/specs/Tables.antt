@@ -9,7 +9,7 @@ use Rattle.graph.specs.Hops.{count, from, to}
 use Rattle.graph.specs.Check.{most-states, Admitted}
 use Rattle.graph.specs.declared.Shape.{Shape}
 use Rattle.silent.specs.Silent.{ringless}
-use Rattle.confluence.specs.Mark.{markOf}
+use Rattle.marks.specs.Mark.{markOf}
 use Rattle.representatives.specs.Representative.{onward}
 
 -- a graph that rows 1 to 5 let pass

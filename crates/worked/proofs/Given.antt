@@ -6,7 +6,7 @@ use Rattle.graph.specs.Order.{before}
 use Rattle.graph.specs.Check.{checkOf, countsFit, inside, firstOutside, rises, firstFalling}
 use Rattle.silent.specs.Silent.{leads, silentFrom, onRing, lowestOnRing, ringless}
 use Rattle.confluence.specs.Rounds.{survives, marked, closes, tried, answered, answers, answer, leaves, closing}
-use Rattle.confluence.specs.Mark.{marksOf, markOf, markAnswer}
+use Rattle.marks.specs.Mark.{marksOf, markOf, markAnswer}
 use Rattle.representatives.specs.Representative.{markedFrom, resting, onward, followed, repOf, newOf, mapOf}
 use Rattle.short.specs.Short.{insert, gathered, shortHops, shortShape, mapList}
 use Rattle.bisimulation.specs.Faults.{initialFault, kept, lostFaults, offers, backed, matched, madeUp, madeUpFaults, faultsOf}

@@ -11,7 +11,7 @@ use Rattle.graph.specs.declared.Hop.{Hop}
 use Rattle.graph.specs.declared.Shape.{Shape}
 use Rattle.graph.specs.declared.Answer.{Answer}
 use Rattle.confluence.specs.Rounds.{survives}
-use Rattle.confluence.specs.Mark.{marksOf, markAnswer}
+use Rattle.marks.specs.Mark.{marksOf, markAnswer}
 use Rattle.short.specs.Short.{mapList, shortHops, shortShape}
 use Rattle.bisimulation.specs.Faults.{faultsOf}
 

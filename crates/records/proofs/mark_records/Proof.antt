@@ -47,7 +47,7 @@ use Rattle.graph.proofs.Answer.Laws as R′
 use Rattle.graph.proofs.Shape as S
 use Rattle.graph.proofs.Shape.Laws as S′
 use Rattle.graph.proofs.Hop as T
-use Rattle.confluence.specs.Mark.{markAnswer, markOutput}
+use Rattle.marks.specs.Mark.{markAnswer, markOutput}
 use Rattle.records.specs.Records.{unlessOver}
 use Rattle.records.proofs.Flats.{unless-over, mark-over, output-over}
 use Rattle.records.proofs.Flattening.{records, records-val, Records, Flattened, FlatOf, to-flat-of, goes-flat-of, said-flat-of}

@@ -10,7 +10,7 @@ use borrow.Author.Tests.{not-true, not-false}
 use Rattle.graph.specs.Hops.{from, label, to}
 use Rattle.graph.specs.Check.{most-states}
 use Rattle.confluence.specs.Rounds.{tried}
-use Rattle.confluence.specs.Sweep.{heldBy, Skipped}
+use Rattle.confluence.specs.Held.{heldBy, Skipped}
 use Rattle.confluence.proofs.Closing.{tried-own}
 use Rattle.starts.proofs.Firsts.{start-is}
 use Rattle.confluence.proofs.Rows.{Walk, walk-start, walk-in, walk-from, walk-past, walk-row, walk-next, tried-before, tried-done, tried-fails}

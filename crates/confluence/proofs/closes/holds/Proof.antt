@@ -2,7 +2,7 @@
 use borrow.Author.Needs.{needs}
 use mathlib.Core.Path.{sym, _∙_}
 use native.Mathlib.Omega.{arith}
-use Rattle.confluence.specs.Sweep.{isMarked}
+use Rattle.confluence.specs.Held.{isMarked}
 use Rattle.confluence.proofs.Held.{held-found, held-missing}
 use Rattle.confluence.proofs.closes.holds.Statement.{statement}
 use Rattle.confluence.proofs.closes.holds.Tie as tie

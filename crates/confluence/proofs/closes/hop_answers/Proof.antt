@@ -6,7 +6,7 @@ use native.Mathlib.Omega.{arith}
 use borrow.Author.Needs.{needs}
 use Rattle.graph.specs.Hops.{to}
 use Rattle.confluence.specs.Rounds.{closing}
-use Rattle.confluence.specs.Sweep.{heldBy}
+use Rattle.confluence.specs.Held.{heldBy}
 use Rattle.starts.proofs.Firsts.{range-more}
 use Rattle.confluence.proofs.Rows.{row-answers, row-ends}
 use Rattle.confluence.proofs.closes.hop_answers.Statement.{statement}

@@ -6,7 +6,7 @@ use native.Mathlib.Omega.{arith}
 use lib.ListN.{length, getD, drop}
 use Rattle.graph.specs.Tests.{listed}
 use Rattle.representatives.specs.Tables.{numbered}
-use Rattle.confluence.proofs.Writing.{listed-more, length-so-far}
+use Rattle.marks.proofs.Writing.{listed-more, length-so-far}
 use Rattle.representatives.proofs.Nexts.{stepped-in}
 use borrow.Author.Needs.{needs}
 use Rattle.representatives.proofs.renumber.fill_map.Statement.{statement}

@@ -1,10 +1,10 @@
--- `confluence::sweep::test_at` meets its contract: a mark that goes takes no hop of the marked set. Assumes nothing.
+-- `marks::sweep::test_at` meets its contract: a mark that goes takes no hop of the marked set. Assumes nothing.
 use mathlib.Core.Path.{sym, _∙_}
 use native.Mathlib.Omega.{arith}
 use borrow.Author.Needs.{needs}
-use Rattle.confluence.proofs.Held.{tested-off, tested-closes, tested-lost}
-use Rattle.confluence.proofs.sweep.test_at.Statement.{statement}
-use Rattle.confluence.proofs.sweep.test_at.Tie as tie
+use Rattle.marks.proofs.Sweeping.{tested-off, tested-closes, tested-lost}
+use Rattle.marks.proofs.sweep.test_at.Statement.{statement}
+use Rattle.marks.proofs.sweep.test_at.Tie as tie
 
 slice-read-if1 : tie.Need-slice-read-if1
 slice-read-if1 c = omega (arith, c .before .before .before .pre .1 .1 .0 .room)

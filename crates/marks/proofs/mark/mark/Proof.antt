@@ -1,10 +1,10 @@
--- `confluence::mark::mark` meets its contract: acceptance gives what marking needs. Assumes nothing.
+-- `marks::mark::mark` meets its contract: acceptance gives what marking needs. Assumes nothing.
 use mathlib.Core.Path.{_∙_}
 use borrow.Author.Needs.{needs}
 use Rattle.starts.proofs.Firsts.{admitted-ready}
-use Rattle.confluence.proofs.Entry.{mark-admitted, mark-room, output-marked, output-same}
-use Rattle.confluence.proofs.mark.mark.Statement.{statement}
-use Rattle.confluence.proofs.mark.mark.Tie as tie
+use Rattle.marks.proofs.Entry.{mark-admitted, mark-room, output-marked, output-same}
+use Rattle.marks.proofs.mark.mark.Statement.{statement}
+use Rattle.marks.proofs.mark.mark.Tie as tie
 
 mark-answer-requires : tie.Need-mark-answer-requires
 mark-answer-requires c κs = search needs

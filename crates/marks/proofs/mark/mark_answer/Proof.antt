@@ -1,11 +1,11 @@
--- `confluence::mark::mark_answer` meets its contract, row by row. Assumes nothing.
+-- `marks::mark::mark_answer` meets its contract, row by row. Assumes nothing.
 use mathlib.Core.Path.{_∙_}
 use native.Mathlib.Omega.{arith}
 use borrow.Author.Needs.{needs}
 use Rattle.graph.proofs.Checked.{check-admitted}
-use Rattle.confluence.proofs.Entry.{mark-refused, mark-ringed, mark-narrow, mark-accepts}
-use Rattle.confluence.proofs.mark.mark_answer.Statement.{statement}
-use Rattle.confluence.proofs.mark.mark_answer.Tie as tie
+use Rattle.marks.proofs.Entry.{mark-refused, mark-ringed, mark-narrow, mark-accepts}
+use Rattle.marks.proofs.mark.mark_answer.Statement.{statement}
+use Rattle.marks.proofs.mark.mark_answer.Tie as tie
 
 check-requires : tie.Need-check-requires
 check-requires c κs = search needs

@@ -1,7 +1,7 @@
 // Marking by sweeps in place. The marks start at 1 for every silent hop; a sweep goes over the places in list order, and a marked hop that
 // no longer closes loses its mark at once; sweeps go on until one takes nothing. The marks hold the marked set throughout, and are a
 // confluent set when they rest.
-use super::closes::closes_at;
+use confluence::closes::closes_at;
 use graph::hops::hop_count;
 use graph::hops::label_at;
 use starts::starts_of;
@@ -11,8 +11,8 @@ ghost use Prim.Native.Nat.{_<_, _≤_};
 ghost use lib.ListN.{length, drop};
 ghost use Rattle.graph.specs.Tests.{listed};
 ghost use Rattle.graph.specs.Hops.{count};
-ghost use Rattle.confluence.specs.Mark.{marksOf};
-ghost use Rattle.confluence.specs.Sweep.{Marking, Tested, Swept, firstMark};
+ghost use Rattle.marks.specs.Mark.{marksOf};
+ghost use Rattle.marks.specs.Sweep.{Marking, Tested, Swept, firstMark};
 ghost use Rattle.starts.specs.Starts.{Table, Ready};
 
 // 1 for each silent hop, 0 for each visible one.

@@ -13,7 +13,7 @@ use Rattle.graph.specs.declared.Shape.{Shape}
 use Rattle.graph.specs.declared.Answer.{Answer}
 use Rattle.graph.proofs.Checked.{check-admitted}
 use Rattle.silent.specs.Silent.{ringless}
-use Rattle.confluence.specs.Mark.{marksOf, markAnswer, markOutput}
+use Rattle.marks.specs.Mark.{marksOf, markAnswer, markOutput}
 
 -- the first answer speaks, or the second
 pub then-first : (a b : Answer) → (a .number ≡ 0 → ⊥) → andThen a b ≡ a

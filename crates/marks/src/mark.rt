@@ -8,7 +8,7 @@ use graph::limits::check;
 use graph::limits::refuse;
 use silent::ring::ring_answer;
 ghost use mathlib.Core.Path.{_≡_};
-ghost use Rattle.confluence.specs.Mark.{markAnswer, markOutput};
+ghost use Rattle.marks.specs.Mark.{markAnswer, markOutput};
 
 // The answer, before anything is written: rows 1 to 4, then 5, then 6.
 pub fn mark_answer(shape: Shape, hops: &[u16], marks: &[u8]) -> Answer

@@ -1,4 +1,4 @@
--- `confluence::sweep::start_marks` meets its contract: the places passed hold their first marks, the others what they held. Assumes nothing.
+-- `marks::sweep::start_marks` meets its contract: the places passed hold their first marks, the others what they held. Assumes nothing.
 use Prim.Native.Nat.{_-_, _≤_}
 use mathlib.Core.Path.{_≡_, refl, sym, _∙_}
 use mathlib.Core.Logic.{⊎-elim}
@@ -8,11 +8,11 @@ use borrow.Author.Needs.{needs}
 use lib.ListN.{length, drop}
 use Rattle.graph.specs.Tests.{listed}
 use Rattle.graph.specs.Hops.{count}
-use Rattle.confluence.specs.Sweep.{firstMark}
-use Rattle.confluence.proofs.Held.{first-silent, first-visible}
-use Rattle.confluence.proofs.Writing.{listed-more, length-so-far}
-use Rattle.confluence.proofs.sweep.start_marks.Statement.{statement}
-use Rattle.confluence.proofs.sweep.start_marks.Tie as tie
+use Rattle.marks.specs.Sweep.{firstMark}
+use Rattle.marks.proofs.Sweeping.{first-silent, first-visible}
+use Rattle.marks.proofs.Writing.{listed-more, length-so-far}
+use Rattle.marks.proofs.sweep.start_marks.Statement.{statement}
+use Rattle.marks.proofs.sweep.start_marks.Tie as tie
 
 abbrev Inv-loop : tie.InvT-loop
 Inv-loop hops marks₀ past i₀ marks i =

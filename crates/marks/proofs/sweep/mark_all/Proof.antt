@@ -1,12 +1,12 @@
--- `confluence::sweep::mark_all` meets its contract: the marks that sweeps begin with hold the marked set. Assumes nothing.
+-- `marks::sweep::mark_all` meets its contract: the marks that sweeps begin with hold the marked set. Assumes nothing.
 use mathlib.Core.Path.{ap, _∙_}
 use mathlib.Core.List.{List, _++_}
 use Prim.Native.Nat.{ℕ}
 use borrow.Author.Needs.{needs}
-use Rattle.confluence.specs.Mark.{marksOf}
-use Rattle.confluence.proofs.Held.{first-marking, first-beyond}
-use Rattle.confluence.proofs.sweep.mark_all.Statement.{statement}
-use Rattle.confluence.proofs.sweep.mark_all.Tie as tie
+use Rattle.marks.specs.Mark.{marksOf}
+use Rattle.marks.proofs.Sweeping.{first-marking, first-beyond}
+use Rattle.marks.proofs.sweep.mark_all.Statement.{statement}
+use Rattle.marks.proofs.sweep.mark_all.Tie as tie
 
 starts-of-requires : tie.Need-starts-of-requires
 starts-of-requires c κs = search needs

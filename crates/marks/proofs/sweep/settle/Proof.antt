@@ -1,14 +1,14 @@
--- `confluence::sweep::settle` meets its contract: the marks hold the marked set, and a sweep that takes nothing leaves a confluent set.
+-- `marks::sweep::settle` meets its contract: the marks hold the marked set, and a sweep that takes nothing leaves a confluent set.
 -- Assumes nothing.
 use Prim.Native.Nat.{ℕ, _+_, _<_}
 use mathlib.Core.Path.{_≡_, refl, _∙_}
 use native.Mathlib.Omega.{arith}
 use lib.ListN.{length, drop}
 use Rattle.graph.specs.Hops.{count}
-use Rattle.confluence.specs.Sweep.{markCount, Marking, Stands}
-use Rattle.confluence.proofs.Held.{swept-rests, settled-marks}
-use Rattle.confluence.proofs.sweep.settle.Statement.{statement}
-use Rattle.confluence.proofs.sweep.settle.Tie as tie
+use Rattle.marks.specs.Sweep.{markCount, Marking, Stands}
+use Rattle.marks.proofs.Sweeping.{swept-rests, settled-marks}
+use Rattle.marks.proofs.sweep.settle.Statement.{statement}
+use Rattle.marks.proofs.sweep.settle.Tie as tie
 
 abbrev Inv-loop : tie.InvT-loop
 Inv-loop hops starts marks₀ lost₀ marks lost =

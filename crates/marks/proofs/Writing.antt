@@ -2,13 +2,11 @@
 use Prim.Native.Nat.{ℕ, suc, _+_, _<_, _≤_}
 use mathlib.Core.Path.{_≡_, sym, ap, _∙_}
 use mathlib.Core.List.{List, [], _∷_, _++_, append-assoc}
-use mathlib.Core.Logic.{_⊎_, inl, inr}
 use native.Mathlib.Numerals.{add-one}
 use native.Mathlib.Omega.{arith}
 use lib.ListN.{length, getD, set, drop, length-append, length-drop}
-use lib.Seq.{drop-cons, set-at, getD-set-same, getD-set-other}
+use lib.Seq.{drop-cons, set-at}
 use Rattle.graph.specs.Tests.{listed}
-use Rattle.graph.proofs.Bools.{lt-or-le}
 use Rattle.graph.proofs.Tests.{length-listed}
 
 -- one element more of a list that is written from the front

@@ -1,14 +1,14 @@
--- `confluence::sweep::sweep` meets its contract, test by test. Assumes nothing.
+-- `marks::sweep::sweep` meets its contract, test by test. Assumes nothing.
 use Prim.Native.Nat.{_-_, _≤_}
 use mathlib.Core.Path.{_≡_, refl, _∙_}
 use native.Mathlib.Omega.{arith}
 use borrow.Author.Needs.{needs}
 use lib.ListN.{length}
 use Rattle.graph.specs.Hops.{count}
-use Rattle.confluence.specs.Sweep.{Swept}
-use Rattle.confluence.proofs.Held.{count-within, swept-none, swept-more}
-use Rattle.confluence.proofs.sweep.sweep.Statement.{statement}
-use Rattle.confluence.proofs.sweep.sweep.Tie as tie
+use Rattle.marks.specs.Sweep.{Swept}
+use Rattle.marks.proofs.Sweeping.{count-within, swept-none, swept-more}
+use Rattle.marks.proofs.sweep.sweep.Statement.{statement}
+use Rattle.marks.proofs.sweep.sweep.Tie as tie
 
 abbrev Inv-loop : tie.InvT-loop
 Inv-loop hops starts marks₀ n lost₀ i₀ marks lost i =
