@@ -25,7 +25,7 @@ marks-front hs ms rest e = record {
 }
 
 module _ {sh : Shape} {hs : List ℕ} (red : Reducible sh hs) (next : List ℕ) (on : Onward hs next) where
-  states-fit : sh .states ≤ most-states
+  pub states-fit : sh .states ≤ most-states
   states-fit = red .admitted .states-most
 
   at-next : (s : ℕ) → s < sh .states → getD next s 0 ≡ onward hs s

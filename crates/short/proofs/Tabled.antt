@@ -13,7 +13,7 @@ use Rattle.graph.specs.declared.Shape.{Shape}
 use Rattle.representatives.specs.Representative.{resting, mapOf}
 use Rattle.representatives.specs.Tables.{Reducible, Onward, stays, numbered}
 use Rattle.representatives.proofs.Represented.{map-rests}
-use Rattle.representatives.proofs.Tabled.{tabled-stays, tabled-map}
+use Rattle.representatives.proofs.Tabled.{states-fit, tabled-stays, tabled-map}
 use Rattle.short.specs.Short.{image, insert, gathered, mapList}
 use Rattle.short.specs.Tables.{imaged, collected, shortBy}
 
@@ -23,9 +23,6 @@ listed-same f g zero h = refl
 listed-same f g (suc n) h = rw (h n (omega arith), listed-same f g n (λ i l. h i (omega arith)))
 
 module _ {sh : Shape} {hs : List ℕ} (red : Reducible sh hs) (next : List ℕ) (on : Onward hs next) where
-  states-fit : sh .states ≤ most-states
-  states-fit = red .admitted .states-most
-
   module _ (news : List ℕ) (fill : (s : ℕ) → s ≤ most-states → getD news s 0 ≡ tally s (stays next)) where
     pub tabled-list : listed (sh .states) (numbered next news (sh .states)) ≡ mapList sh hs
     unfolding mapList
@@ -43,7 +40,7 @@ module _ {sh : Shape} {hs : List ℕ} (red : Reducible sh hs) (next : List ℕ) 
     unfolding shortBy collected gathered
     tabled-short zero l = refl
     tabled-short (suc n) l =
-        rw (tabled-stays red next on (from hs n) (omega (arith, red .admitted .range .from-in n l, states-fit)), tabled-short n (omega arith)) (go (resting hs (from hs n)) refl) where
+        rw (tabled-stays red next on (from hs n) (omega (arith, red .admitted .range .from-in n l, states-fit red next on)), tabled-short n (omega arith)) (go (resting hs (from hs n)) refl) where
           go : (x : Bool) → resting hs (from hs n) ≡ x → cond x (insert (imaged hs map n) (gathered sh hs n)) (gathered sh hs n) ≡ cond x (insert (image sh hs n) (gathered sh hs n)) (gathered sh hs n)
           go true e = ap (λ (h : Hop). insert h (gathered sh hs n)) (tabled-image n l e)
           go false e = refl
