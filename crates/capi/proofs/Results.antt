@@ -9,12 +9,12 @@ use Rattle.graph.specs.declared.Shape.{Shape}
 use Rattle.graph.specs.declared.Answer.{Answer}
 use Rattle.quotient.specs.declared.Reduction.{Reduction}
 use Rattle.quotient.specs.Reduce.{reduceAnswer, reduceOf}
-use Rattle.file.specs.declared.Contents.{Contents}
-use Rattle.file.specs.declared.Written.{Written}
-use Rattle.file.specs.Read.{readAnswer, readOf}
-use Rattle.file.specs.Write.{writeAnswer, writeOf}
-use Rattle.file.proofs.Entry.{read-accepts}
-use Rattle.file.proofs.Given.{write-accepts}
+use Rattle.reader.specs.declared.Contents.{Contents}
+use Rattle.writer.specs.declared.Written.{Written}
+use Rattle.reader.specs.Read.{readAnswer, readOf}
+use Rattle.writer.specs.Write.{writeAnswer, writeOf}
+use Rattle.reader.proofs.Entry.{read-accepts}
+use Rattle.writer.proofs.Given.{write-accepts}
 
 -- of two results, of which the first is taken by a test
 either : {A : Type 0} (f : A → Answer) (x : Bool) (r q : A) {a : Answer} → (x ≡ true → f r ≡ a) → f q ≡ a → f (cond x r q) ≡ a

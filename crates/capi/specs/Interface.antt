@@ -11,8 +11,8 @@ use Rattle.rounds.specs.declared.RoundAnswer.{RoundAnswer}
 use Rattle.outgoing.specs.declared.Span.{Span}
 use Rattle.quotient.specs.declared.Reduction.{Reduction}
 use Rattle.bisimulation.specs.declared.Audit.{Audit}
-use Rattle.file.specs.declared.Contents.{Contents}
-use Rattle.file.specs.declared.Written.{Written}
+use Rattle.reader.specs.declared.Contents.{Contents}
+use Rattle.writer.specs.declared.Written.{Written}
 
 -- a shape from three numbers, which pass through unchanged
 abbrev pub shapeOf : ℕ → ℕ → ℕ → Shape

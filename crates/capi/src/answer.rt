@@ -1,9 +1,9 @@
 // What an entry tells its caller: numbers at the front of the answer slice, and the number that is returned.
-use file::Contents;
 use graph::Answer;
 use graph::Shape;
 use outgoing::Span;
 use quotient::Reduction;
+use reader::Contents;
 ghost use mathlib.Core.Path.{_≡_};
 ghost use mathlib.Core.List.{[], _∷_, _++_};
 ghost use Prim.Native.Nat.{_<_, _≤_};

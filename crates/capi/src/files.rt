@@ -3,14 +3,14 @@ use super::answer::put_contents;
 use super::answer::put_figure;
 use super::answer::shape_of;
 use super::answer::short_number;
-use file::reading::read;
-use file::reading::read_answer;
-use file::writing::write;
-use file::writing::write_answer;
+use reader::reading::read;
+use reader::reading::read_answer;
+use writer::writing::write;
+use writer::writing::write_answer;
 ghost use mathlib.Core.Path.{_≡_};
 ghost use lib.ListN.{length};
-ghost use Rattle.file.specs.Read.{readAnswer, readOf, readHops};
-ghost use Rattle.file.specs.Write.{writeAnswer, writeOf, writeBytes};
+ghost use Rattle.reader.specs.Read.{readAnswer, readOf, readHops};
+ghost use Rattle.writer.specs.Write.{writeAnswer, writeOf, writeBytes};
 ghost use Rattle.capi.specs.Interface.{shapeOf, contentsNumbers, writtenNumbers, returned, told, unlessShort};
 
 // Where the answer slice is too short, only the answer is found, and no hops are written.

@@ -18,12 +18,12 @@ use Rattle.graph.proofs.Bools.{decided}
 use Rattle.names.specs.Block.{nameAt}
 use Rattle.names.proofs.Blocks.{name-first, name-later}
 use Rattle.fields.specs.Format.{numberAt, bitMap, hasInitial, hasHops, hasNames, statesIn, labelsIn, initialIn, hopsPlace, hopsIn, namesPlace, namesIn, restOf, need, shapeIn, hopListIn, blockIn}
-use Rattle.file.specs.Read.{readAnswer}
-use Rattle.file.specs.Encode.{number, numbers, bitsOf, initialBytes, hopBytes, headBytes, encode}
-use Rattle.file.proofs.Encoded.{numbers-append, initial-none, initial-some, hops-none, hops-some}
+use Rattle.reader.specs.Read.{readAnswer}
+use Rattle.writer.specs.Encode.{number, numbers, bitsOf, initialBytes, hopBytes, headBytes, encode}
+use Rattle.writer.proofs.Encoded.{numbers-append, initial-none, initial-some, hops-none, hops-some}
 use Rattle.fields.proofs.Laws.{names-place-least, hops-before-names, initial-on, initial-off, hops-on, hops-off, names-on, names-off}
-use Rattle.file.proofs.Entry.{count-hop-list}
-use Rattle.file.proofs.Sound.{Sound, accepted-sound, initial-there, hops-there, names-there}
+use Rattle.reader.proofs.Entry.{count-hop-list}
+use Rattle.reader.proofs.Sound.{Sound, accepted-sound, initial-there, hops-there, names-there}
 
 -- the bytes of a file are below 256
 abbrev pub Bytes : List ℕ → Type 0

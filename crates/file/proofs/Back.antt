@@ -18,19 +18,19 @@ use Rattle.graph.specs.declared.Answer.{Answer}
 use Rattle.graph.proofs.Bools.{eq-or-not, lt-or-le, or-no}
 use Rattle.graph.proofs.Tests.{getD-listed}
 use Rattle.graph.proofs.Checked.{check-admitted, admitted-check}
+use Rattle.graph.proofs.Accepts.{both-accept}
 use Rattle.names.specs.Block.{nameAt, firstBad}
 use Rattle.names.proofs.Blocks.{name-first, name-short}
 use Rattle.fields.specs.Format.{numberAt, bitMap, hasInitial, hasHops, hasNames, statesIn, labelsIn, initialIn, hopsPlace, hopsIn, namesPlace, namesIn, restOf, need, shapeIn, hopListIn, blockPlace, blockLength, blockIn, idleBit}
-use Rattle.file.specs.Read.{most-bytes, formatAnswer, readAnswer, contentsOf}
-use Rattle.file.specs.Encode.{number, numbers, bitsOf, initialBytes, hopBytes, headBytes, encode}
-use Rattle.file.specs.Write.{blockAnswer, namesGiven, graphAnswer}
+use Rattle.reader.specs.Read.{most-bytes, formatAnswer, readAnswer, contentsOf}
+use Rattle.writer.specs.Encode.{number, numbers, bitsOf, initialBytes, hopBytes, headBytes, encode}
+use Rattle.writer.specs.Write.{blockAnswer, namesGiven, graphAnswer}
 use Rattle.file.specs.RoundTrip.{blockStart, sameGraph}
-use Rattle.file.proofs.Encoded.{initial-none, initial-some, initial-most, hops-none, hops-some, length-hops-some, hop-bytes-most, length-head, length-encode}
+use Rattle.writer.proofs.Encoded.{initial-none, initial-some, initial-most, hops-none, hops-some, length-hops-some, hop-bytes-most, length-head, length-encode}
 use Rattle.fields.proofs.Laws.{initial-on, initial-off, hops-on, hops-off, names-on, names-off}
-use Rattle.file.proofs.Answers.{names-good}
-use Rattle.file.proofs.Entry.{length-hop-list, none-speaks}
-use Rattle.file.proofs.Given.{both-accept}
-use Rattle.file.proofs.Sound.{past}
+use Rattle.reader.proofs.Answers.{names-good}
+use Rattle.reader.proofs.Entry.{length-hop-list, none-speaks}
+use Rattle.reader.proofs.Sound.{past}
 
 -- a bit is set over each field that is there, and no higher bit
 three-bits : (t u v : Bool) →

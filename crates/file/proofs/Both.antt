@@ -15,20 +15,24 @@ use Rattle.graph.specs.declared.Shape.{Shape}
 use Rattle.graph.specs.declared.Answer.{Answer}
 use Rattle.graph.proofs.Bools.{decided}
 use Rattle.graph.proofs.Checked.{check-admitted, admitted-check}
+use Rattle.graph.proofs.Accepts.{both-accept}
 use Rattle.names.proofs.Blocks.{name-later}
 use Rattle.fields.specs.Format.{hasNames, labelsIn, hopsIn, namesPlace, namesIn, restOf, need, shapeIn, hopListIn, blockPlace, blockLength, blockIn}
-use Rattle.file.specs.Read.{formatAnswer, readAnswer, nothing, contentsOf, readOf, readHops}
-use Rattle.file.specs.Encode.{encode}
-use Rattle.file.specs.Write.{blockAnswer, namesGiven, graphAnswer, writeAnswer, nothingWritten, writeOf, writeBytes}
+use Rattle.reader.specs.Read.{formatAnswer, readAnswer, nothing, contentsOf, readOf, readHops}
+use Rattle.writer.specs.Encode.{encode}
+use Rattle.writer.specs.Write.{blockAnswer, namesGiven, graphAnswer, writeAnswer, nothingWritten, writeOf, writeBytes}
 use Rattle.file.specs.RoundTrip.{most-numbers, copyAnswer, copyOf, copyBytes, backAnswer, backOf, backBytes, backHops}
-use Rattle.file.specs.declared.Contents.{Contents}
-use Rattle.file.specs.declared.Written.{Written}
+use Rattle.reader.specs.declared.Contents.{Contents}
+use Rattle.writer.specs.declared.Written.{Written}
 use Rattle.fields.proofs.Laws.{names-on, names-off}
-use Rattle.file.proofs.Entry.{count-hop-list, length-hop-list}
-use Rattle.file.proofs.Given.{both-accept, block-good}
-use Rattle.file.proofs.Sound.{Sound, accepted-sound}
+use Rattle.reader.proofs.Entry.{count-hop-list, length-hop-list}
+use Rattle.writer.proofs.Given.{block-good}
+use Rattle.reader.proofs.Sound.{Sound, accepted-sound}
 use Rattle.file.proofs.Again.{Bytes, names-within, block-again, block-some, block-none, decode-encode}
 use Rattle.file.proofs.Back.{ReadBack, encode-decode}
+
+pub six-refuses : {a : Answer} → a ≡ refused 6 0 → a .number ≡ 0 → ⊥
+six-refuses {a} e z = let d : a .number ≡ 6 = ap (λ (x : Answer). x .number) e in omega arith
 
 -- what the entries' results say of their answers
 module _ (b : List ℕ) (room : ℕ) {c : Contents} (e : c ≡ readOf b room) where

@@ -9,8 +9,8 @@ use Rattle.graph.specs.Check.{accepted, refused, countsFit, inside, firstOutsid
 use Rattle.graph.specs.declared.Shape.{Shape}
 use Rattle.names.specs.Block.{nameAt, sameByte, sameName, repeated, lengthFits, bad, firstBad}
 use Rattle.fields.specs.Format.{hasInitial, hasHops, hasNames, initialIn, hopsPlace, hopsIn, namesPlace, namesIn, restOf, need, shapeIn, hopListIn, idleBit}
-use Rattle.file.specs.Read.{namesAnswer, formatAnswer, readAnswer}
-use Rattle.file.specs.Encode.{numbers, bitsOf, initialBytes, hopBytes, headBytes, encode}
+use Rattle.reader.specs.Read.{namesAnswer, formatAnswer, readAnswer}
+use Rattle.writer.specs.Encode.{numbers, bitsOf, initialBytes, hopBytes, headBytes, encode}
 
 abbrev shape : Shape
 shape = record { states = 4; labels = 2; initial = 0 }

@@ -1,12 +1,5 @@
-pub mod Answers
-pub mod Front
-pub mod Entry
-pub mod Encoded
-pub mod Given
-pub mod Sound
 pub mod Again
 pub mod Back
 pub mod Both
 pub mod Longest
-pub mod Cut
 pub mod Example

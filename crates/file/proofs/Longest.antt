@@ -19,10 +19,10 @@ use Rattle.graph.proofs.Bools.{and-right, or-right, lt-or-le, no-test}
 use Rattle.graph.proofs.Tests.{length-listed, getD-listed, all-at, any-no, least-is}
 use Rattle.graph.proofs.Checked.{admitted-check}
 use Rattle.names.specs.Block.{nameAt, sameByte, sameName, repeated, lengthFits, bad, firstBad}
-use Rattle.file.specs.Encode.{encode}
-use Rattle.file.specs.Read.{most-bytes}
-use Rattle.file.specs.Write.{blockAnswer, namesGiven, graphAnswer}
-use Rattle.file.proofs.Given.{block-good}
+use Rattle.writer.specs.Encode.{encode}
+use Rattle.reader.specs.Read.{most-bytes}
+use Rattle.writer.specs.Write.{blockAnswer, namesGiven, graphAnswer}
+use Rattle.writer.proofs.Given.{block-good}
 use Rattle.file.proofs.Back.{longest-at-limits}
 
 hopNumber : ℕ → ℕ

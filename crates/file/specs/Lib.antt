@@ -1,4 +1,1 @@
-pub mod Encode
-pub mod Read
-pub mod Write
 pub mod RoundTrip

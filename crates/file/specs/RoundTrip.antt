@@ -8,11 +8,12 @@ use Rattle.graph.specs.Hops.{count}
 use Rattle.graph.specs.Check.{accepted, andThen, roomFor}
 use Rattle.graph.specs.declared.Shape.{Shape}
 use Rattle.graph.specs.declared.Answer.{Answer}
-use Rattle.file.specs.Encode.{encode}
-use Rattle.file.specs.Read.{readAnswer, nothing, onFront}
-use Rattle.file.specs.Write.{graphAnswer, nothingWritten}
-use Rattle.file.specs.declared.Contents.{Contents}
-use Rattle.file.specs.declared.Written.{Written}
+use Rattle.fields.specs.Front.{onFront}
+use Rattle.reader.specs.Read.{readAnswer, nothing}
+use Rattle.reader.specs.declared.Contents.{Contents}
+use Rattle.writer.specs.Encode.{encode}
+use Rattle.writer.specs.Write.{graphAnswer, nothingWritten}
+use Rattle.writer.specs.declared.Written.{Written}
 
 -- room for the hops of every graph
 abbrev pub most-numbers : ℕ

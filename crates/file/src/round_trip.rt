@@ -1,13 +1,13 @@
 // The two round trips over the entries: a file read and written again, and a graph written and read again.
-use super::Contents;
-use super::Written;
-use super::reading::read;
-use super::reading::refusal;
-use super::writing::graph_answer;
-use super::writing::unwritten;
-use super::writing::write;
 use graph::Shape;
 use graph::limits::refuse;
+use reader::Contents;
+use reader::reading::read;
+use reader::reading::refusal;
+use writer::Written;
+use writer::writing::graph_answer;
+use writer::writing::unwritten;
+use writer::writing::write;
 ghost use mathlib.Core.Path.{_≡_};
 ghost use lib.ListN.{length};
 ghost use Rattle.file.specs.RoundTrip.{copyOf, copyBytes, backOf, backBytes, backHops};

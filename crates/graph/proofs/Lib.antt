@@ -6,3 +6,4 @@ pub mod Ordered
 pub mod Lookup
 pub mod Checked
 pub mod Fronts
+pub mod Accepts

@@ -9,8 +9,8 @@ use native.Mathlib.Omega.{arith}
 use borrow.Author.Tests.{lt-ltb, le-ltb}
 use lib.ListN.{length, set, length-append, length-drop}
 use lib.Seq.{set-split, length-take-le}
-use Rattle.file.specs.Read.{over}
-use Rattle.file.proofs.Front.{over-none, over-then}
+use Rattle.fields.specs.Front.{over}
+use Rattle.fields.proofs.Front.{over-none, over-then}
 use Rattle.report.specs.Text.{digits, decimal, spaced, ending, line, lines, Room, Put}
 
 length-over : (at : ℕ) (text old : List ℕ) → at + length text ≤ length old → length (over at text old) ≡ length old

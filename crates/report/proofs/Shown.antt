@@ -27,9 +27,10 @@ use Rattle.short.proofs.Images.{short-within}
 use Rattle.quotient.specs.Reduce.{reduceAnswer, reduceOf, mapOutput, shortOutput}
 use Rattle.quotient.specs.declared.Reduction.{Reduction}
 use Rattle.fields.specs.Format.{hopsIn, shapeIn, hopListIn}
-use Rattle.file.specs.Read.{formatAnswer, readAnswer, readOf, readHops, contentsOf, nothing, onFront}
-use Rattle.file.specs.declared.Contents.{Contents}
-use Rattle.file.proofs.Entry.{length-hop-list, count-hop-list}
+use Rattle.fields.specs.Front.{onFront}
+use Rattle.reader.specs.Read.{formatAnswer, readAnswer, readOf, readHops, contentsOf, nothing}
+use Rattle.reader.specs.declared.Contents.{Contents}
+use Rattle.reader.proofs.Entry.{length-hop-list, count-hop-list}
 use Rattle.report.specs.Report.{linesOf, reportOf, refusalOf, unlessRefused, printedGraph, printedOf, most-text, shownIn}
 use Rattle.report.specs.Text.{Room, Put}
 use Rattle.report.proofs.Parts.{report-same}

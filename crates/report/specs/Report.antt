@@ -12,7 +12,7 @@ use Rattle.marks.specs.Mark.{markOf}
 use Rattle.representatives.specs.Representative.{mapOf}
 use Rattle.short.specs.Short.{shortHops, shortShape}
 use Rattle.fields.specs.Format.{shapeIn, hopListIn}
-use Rattle.file.specs.Read.{formatAnswer}
+use Rattle.reader.specs.Read.{formatAnswer}
 use Rattle.report.specs.Text.{line, lines, in-word, marked-word, map-word, out-word, hop-word, no-word}
 
 -- "`marked`: from, to, in list order": the line of the hop at place i, if it is marked

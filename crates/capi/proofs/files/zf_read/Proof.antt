@@ -1,7 +1,7 @@
 -- `capi::files::zf_read` meets its contract: where the answer slice is too short, only the answer is found. Assumes nothing.
 use borrow.Author.Needs.{needs}
 use mathlib.Core.Path.{ap, _∙_}
-use Rattle.file.specs.declared.Contents.{Contents}
+use Rattle.reader.specs.declared.Contents.{Contents}
 use Rattle.capi.specs.Interface.{contentsNumbers}
 use Rattle.capi.proofs.Answers.{returned-of, told-of, long-returns, short-told, long-told, short-kept, long-left}
 use Rattle.capi.proofs.Results.{found-answer}

@@ -1,8 +1,7 @@
 -- `file::round_trip::graph_back` meets its contract: what was written is read, and it is the graph that was given. Assumes nothing.
 use mathlib.Core.Path.{_∙_}
 use native.Mathlib.Omega.{arith}
-use Rattle.file.proofs.Entry.{six-refuses}
-use Rattle.file.proofs.Both.{put-accepted, back-refused, back-graph, back-room, back-unwritten, written-room, back-gives}
+use Rattle.file.proofs.Both.{six-refuses, put-accepted, back-refused, back-graph, back-room, back-unwritten, written-room, back-gives}
 use borrow.Author.Needs.{needs}
 use Rattle.file.proofs.round_trip.graph_back.Statement.{statement}
 use Rattle.file.proofs.round_trip.graph_back.Tie as tie

@@ -1,0 +1,70 @@
+-- Laws of a list written over the front or a part of an older one, one element at a time or part after part. Assumes nothing.
+use Prim.Native.Nat.{ℕ, suc, _+_, _<_, _≤_}
+use mathlib.Core.Path.{_≡_, refl, sym, ap, _∙_}
+use mathlib.Core.List.{List, [], _∷_, _++_, append-assoc}
+use native.Mathlib.Numerals.{add-one}
+use native.Mathlib.Omega.{arith}
+use lib.ListN.{length, take, drop, set, getD, length-append, take-append-drop}
+use lib.Seq.{length-take-le, set-at, drop-cons, take-at, take-append-seam, drop-append-add, drop-drop}
+use Rattle.graph.specs.Tests.{listed}
+use Rattle.graph.proofs.Tests.{length-listed}
+use Rattle.fields.specs.Front.{onFront, over}
+
+-- one element more
+pub over-more : (at : ℕ) (s old : List ℕ) (v : ℕ) → at + length s < length old → set (over at s old) (at + length s) v ≡ over at (s ++ (v ∷ [])) old
+over-more at s old v l =
+    rw (drop-cons old (at + length s) 0 l, ← append-assoc (take at old) s, set-at (take at old ++ s) (getD old (at + length s) 0) (drop (suc (at + length s)) old) v (at + length s) head)
+    (rw (append-assoc (take at old) s, append-assoc s (v ∷ []), length-append s (v ∷ []), past)) where
+      head : length (take at old ++ s) ≡ at + length s
+      head = rw (length-append, length-take-le at old (omega arith))
+
+      past : at + (length s + 1) ≡ suc (at + length s)
+      past = omega arith
+
+pub over-none : (at : ℕ) (old : List ℕ) → old ≡ over at [] old
+over-none at old = rw (zero-right) (sym (take-append-drop at old)) where
+  zero-right : at + 0 ≡ at
+  zero-right = omega arith
+
+-- a part more, behind the one before
+pub over-then : (at : ℕ) (s t old : List ℕ) {k : ℕ} → k ≡ at + length s → k ≤ length old → over k t (over at s old) ≡ over at (s ++ t) old
+over-then at s t old {k} e l =
+    rw (e, ← append-assoc (take at old) s, take-at (take at old ++ s) (drop (at + length s) old) (at + length s) head, tail)
+    (rw (append-assoc (take at old) s, append-assoc s t, length-append s t, ← plus-assoc)) where
+      head : length (take at old ++ s) ≡ at + length s
+      head = rw (length-append, length-take-le at old (omega arith))
+
+      tail : drop (at + length s + length t) ((take at old ++ s) ++ drop (at + length s) old) ≡ drop (at + length s + length t) old
+      tail = ap (λ (n : ℕ). drop (n + length t) ((take at old ++ s) ++ drop (at + length s) old)) (sym head) ∙ drop-append-add (take at old ++ s) (drop (at + length s) old) (length t) ∙ drop-drop (length t) (at + length s) old
+
+      plus-assoc : at + length s + length t ≡ at + (length s + length t)
+      plus-assoc = omega arith
+
+-- one element more on the front
+pub front-more : (s old : List ℕ) (v : ℕ) → length s < length old → set (onFront s old) (length s) v ≡ onFront (s ++ (v ∷ [])) old
+front-more s old v l =
+    rw (drop-cons old (length s) 0 l, set-at s (getD old (length s) 0) (drop (suc (length s)) old) v (length s) refl)
+    (rw (append-assoc s (v ∷ []), length-append s (v ∷ []), add-one))
+
+-- a part more, behind the front
+pub front-then : (s t old : List ℕ) → over (length s) t (onFront s old) ≡ onFront (s ++ t) old
+front-then s t old =
+    rw (take-append-seam s, drop-append-add s, drop-drop, length-append, append-assoc)
+
+pub front-next : (old s t : List ℕ) {out out' : List ℕ} {k : ℕ} → out ≡ onFront s old → out' ≡ over k t out → length s ≡ k → out' ≡ onFront (s ++ t) old
+front-next old s t {k = k} e d l = d ∙ ap (over k t) e ∙ ap (λ (n : ℕ). over n t (onFront s old)) (sym l) ∙ front-then s t old
+
+-- the numbers of a list, one after the other
+module _ (f : ℕ → ℕ) (old : List ℕ) where
+  pub listed-none : old ≡ onFront (listed 0 f) old
+  unfolding listed
+  listed-none = refl
+
+  pub listed-more : {out : List ℕ} {i v : ℕ} → out ≡ onFront (listed i f) old → v ≡ f i → i < length old → set out i v ≡ onFront (listed (i + 1) f) old
+  unfolding listed
+  listed-more {i = i} e d l =
+      rw (e, d, add-one)
+      (ap (λ (k : ℕ). set (onFront (listed i f) old) k (f i)) (sym (length-listed f i)) ∙ front-more (listed i f) old (f i) (rw (length-listed f i) l))
+
+  pub listed-done : {out : List ℕ} {i n : ℕ} → out ≡ onFront (listed i f) old → i ≤ n → n ≤ i → out ≡ onFront (listed n f) old
+  listed-done {i = i} {n = n} e l m = let q : n ≡ i = omega arith in rw q e

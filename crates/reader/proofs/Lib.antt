@@ -1,0 +1,4 @@
+pub mod Answers
+pub mod Entry
+pub mod Sound
+pub mod Cut

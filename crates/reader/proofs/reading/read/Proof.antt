@@ -1,0 +1,67 @@
+-- `reader::reading::read` meets its contract: a refusal writes nothing, and acceptance says that there is room. Assumes nothing.
+use borrow.Author.Needs.{needs}
+use mathlib.Core.Path.{sym, _∙_}
+use native.Mathlib.Omega.{arith}
+use Rattle.fields.proofs.Laws.{hops-place-most}
+use Rattle.reader.proofs.Entry.{read-accepts, refused-gives, accepted-gives, front-copied}
+use Rattle.reader.proofs.reading.read.Statement.{statement}
+use Rattle.reader.proofs.reading.read.Tie as tie
+
+read-answer-requires : tie.Need-read-answer-requires
+read-answer-requires c κs = search needs
+
+refusal-requires : tie.Need-refusal-requires
+refusal-requires c κs = search needs
+
+returns : tie.Need-returns
+returns c = let g = refused-gives _ _ (c .before .before .before .read-answer .ensures) (c .before .if1 .taken) in
+    (c .refusal .ensures ∙ g .0, g .1)
+
+hops-in-requires : tie.Need-hops-in-requires
+hops-in-requires c κs = search needs
+
+cast-n : tie.Need-cast-n
+cast-n c = search needs
+
+mul-n : tie.Need-mul-n
+mul-n c = search needs
+
+hops-place-requires : tie.Need-hops-place-requires
+hops-place-requires c κs = search needs
+
+add-at : tie.Need-add-at
+add-at c = omega (arith, hops-place-most (c .before .before .before .before .before .before .before .args .file .now))
+
+copy-numbers-requires : tie.Need-copy-numbers-requires
+copy-numbers-requires c κs =
+    let z = rw (c .before .before .before .before .before .read-answer .ensures) at (c .before .before .before .if1 .left) in
+    (omega (arith, hops-place-most (c .before .before .before .before .before .before .before .before .args .file .now)), (omega arith, omega (arith, read-accepts _ _ z .1, c .before .before .hops-in .ensures)))
+
+contents-requires : tie.Need-contents-requires
+contents-requires c κs = search needs
+
+same-length : tie.Need-same-length
+same-length c = search needs
+
+returns-2 : tie.Need-returns-2
+returns-2 c =
+    let z = rw (c .before .before .before .before .before .before .before .before .before .read-answer .ensures) at (c .before .before .before .before .before .before .before .if1 .left) in
+    let g = accepted-gives _ _ (sym (read-accepts _ _ z .0)) in
+    (c .contents .ensures ∙ g .0, front-copied _ (c .before .before .before .before .before .hops-place .ensures) (c .before .before .before .before .before .before .hops-in .ensures) _ _ (c .before .before .before .copy-numbers .ensures) ∙ g .1)
+
+pub read-spec : {M : Type 1} → statement M
+read-spec =
+    tie.close
+    (tie.spec
+    read-answer-requires
+    refusal-requires
+    returns
+    hops-in-requires
+    cast-n
+    mul-n
+    hops-place-requires
+    add-at
+    copy-numbers-requires
+    contents-requires
+    same-length
+    returns-2)

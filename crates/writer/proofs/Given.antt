@@ -1,0 +1,117 @@
+-- The ways out of writing, in the order of the checks. Assumes nothing.
+use Prim.Native.Nat.{ℕ, _-_, _<_, _≤_}
+use mathlib.Core.Path.{_≡_, sym, ap, _∙_}
+use mathlib.Core.List.{List}
+use mathlib.Core.Logic.{inl}
+use native.Mathlib.Omega.{arith}
+use borrow.Author.Tests.{lt-ltb, le-ltb, lt-leb, le-leb, eq-eqb, ne-eqb}
+use lib.ListN.{length}
+use Rattle.graph.specs.Check.{accepted, refused, roomFor, checkOf, Admitted}
+use Rattle.graph.specs.declared.Shape.{Shape}
+use Rattle.graph.specs.declared.Answer.{Answer}
+use Rattle.graph.proofs.Checked.{check-admitted, admitted-check}
+use Rattle.graph.proofs.Accepts.{both-accept, second-accepts, room-accepts}
+use Rattle.names.specs.Block.{nameAt, firstBad, Searchable}
+use Rattle.names.proofs.Blocks.{name-less, name-least}
+use Rattle.fields.specs.Front.{onFront}
+use Rattle.writer.specs.Encode.{encode}
+use Rattle.writer.specs.Write.{blockAnswer, namesGiven, graphAnswer, writeAnswer, nothingWritten, writeOf, writeBytes, Writable}
+use Rattle.writer.specs.declared.Written.{Written}
+
+-- row 14
+module _ (ns : List ℕ) (n : ℕ) {end : ℕ} (e : end ≡ nameAt ns n) where
+  pub block-early : length ns < end → refused 14 (length ns) ≡ blockAnswer ns n
+  unfolding blockAnswer
+  block-early l = rw (← e, lt-ltb _ _ l)
+
+  module _ (l : end ≤ length ns) where
+    pub block-left : end < length ns → refused 14 end ≡ blockAnswer ns n
+    unfolding blockAnswer
+    block-left m = rw (← e, le-ltb _ _ l, lt-ltb _ _ m)
+
+    pub block-searchable : n ≤ 1023 → Searchable ns n
+    block-searchable f = record { few = omega arith; whole = rw (← e) l; room = inl (omega arith) }
+
+    module _ (m : length ns ≤ end) {bad : ℕ} (d : bad ≡ nameAt ns (firstBad ns n)) where
+      pub block-bad : bad < end → refused 14 bad ≡ blockAnswer ns n
+      unfolding blockAnswer
+      block-bad o = rw (← e, le-ltb _ _ l, le-ltb _ _ m, lt-ltb _ _ (name-less ns (firstBad ns n) n (rw (← d, ← e) o)), ← d)
+
+      pub block-good : end ≤ bad → accepted ≡ blockAnswer ns n
+      unfolding blockAnswer
+      block-good o = rw (← e, le-ltb _ _ l, le-ltb _ _ m, le-ltb _ _ (name-least ns n (firstBad ns n) (rw (← d, ← e) o)))
+
+module _ (sh : Shape) (hs ns : List ℕ) where
+  -- rows 1 to 4, then 14
+  module _ {a : Answer} (e : a ≡ checkOf sh hs) where
+    pub graph-refused : (a .number ≡ 0 → ⊥) → a ≡ graphAnswer sh hs ns
+    unfolding graphAnswer
+    graph-refused n = rw (← e, ne-eqb _ _ n)
+
+    module _ (z : a .number ≡ 0) where
+      admitted : Admitted sh hs
+      admitted = check-admitted sh hs (ap (λ (x : Answer). x .number) (sym e) ∙ z)
+
+      pub graph-labels : (1 ≤ sh .labels) × (sh .labels ≤ 1024)
+      graph-labels = (admitted .labels-some, admitted .labels-most)
+
+      pub graph-bare : length ns ≡ 0 → a ≡ graphAnswer sh hs ns
+      unfolding graphAnswer namesGiven
+      graph-bare d = rw (← e, eq-eqb _ _ z, eq-eqb _ _ d) (e ∙ admitted-check sh hs admitted)
+
+      pub graph-named : (length ns ≡ 0 → ⊥) → {r : Answer} → r ≡ blockAnswer ns (sh .labels - 1) → r ≡ graphAnswer sh hs ns
+      unfolding graphAnswer namesGiven
+      graph-named n d = rw (← e, eq-eqb _ _ z, ne-eqb _ _ n) d
+
+  -- then 6
+  module _ (room : ℕ) {a : Answer} (e : a ≡ graphAnswer sh hs ns) where
+    pub graph-speaks : (a .number ≡ 0 → ⊥) → a ≡ writeAnswer sh hs ns room
+    unfolding writeAnswer
+    graph-speaks n = rw (← e, ne-eqb _ _ n)
+
+    module _ (z : a .number ≡ 0) where
+      pub graph-admitted : Admitted sh hs
+      unfolding graphAnswer
+      graph-admitted = check-admitted sh hs (both-accept (checkOf sh hs) (namesGiven sh ns) (ap (λ (x : Answer). x .number) (sym e) ∙ z) .0)
+
+      pub hops-most-numbers : length hs ≤ 12288
+      hops-most-numbers = omega (arith, graph-admitted .hops-most, graph-admitted .three-a-hop)
+
+      module _ {n : ℕ} (d : n ≡ length (encode sh hs ns)) where
+        pub room-speaks : room < n → refused 6 0 ≡ writeAnswer sh hs ns room
+        unfolding writeAnswer
+        room-speaks l = rw (← e, eq-eqb _ _ z, ← d, lt-leb _ _ l)
+
+        pub none-speaks : n ≤ room → accepted ≡ writeAnswer sh hs ns room
+        unfolding writeAnswer
+        none-speaks l = rw (← e, eq-eqb _ _ z, ← d, le-leb _ _ l)
+
+        pub writable : n ≤ room → Writable sh hs ns room
+        writable l = record {
+          states-fit = omega (arith, graph-admitted .states-most);
+          labels-fit = omega (arith, graph-admitted .labels-most);
+          initial-fits = omega (arith, graph-admitted .states-most, graph-admitted .initial-in);
+          hops-fit = hops-most-numbers;
+          fits = rw (← d) l;
+        }
+
+  -- what acceptance says
+  pub write-accepts : (room : ℕ) → writeAnswer sh hs ns room .number ≡ 0 →
+      (writeAnswer sh hs ns room ≡ accepted) × (graphAnswer sh hs ns .number ≡ 0) × (length (encode sh hs ns) ≤ room)
+  unfolding writeAnswer
+  write-accepts room z =
+      let (g, r) = both-accept (graphAnswer sh hs ns) (roomFor (length (encode sh hs ns)) room) z in
+      let (a, l) = room-accepts (length (encode sh hs ns)) room r in
+      (second-accepts (graphAnswer sh hs ns) _ z ∙ a, g, l)
+
+  -- what a refusal and an acceptance give and write
+  module _ (old : List ℕ) where
+    pub refused-writes : {a : Answer} → a ≡ writeAnswer sh hs ns (length old) → (a .number ≡ 0 → ⊥) →
+        (nothingWritten a ≡ writeOf sh hs ns (length old)) × (old ≡ writeBytes sh hs ns old)
+    unfolding writeOf writeBytes
+    refused-writes e n = (rw (← e, ne-eqb _ _ n), rw (← e, ne-eqb _ _ n))
+
+    pub accepted-writes : {a : Answer} {n : ℕ} → a ≡ accepted → n ≡ length (encode sh hs ns) → accepted ≡ writeAnswer sh hs ns (length old) →
+        (_≡_ {A = Written} (record { answer = a; length = n }) (writeOf sh hs ns (length old))) × (onFront (encode sh hs ns) old ≡ writeBytes sh hs ns old)
+    unfolding writeOf writeBytes
+    accepted-writes x y e = (rw (x, y, ← e), rw (← e))
