@@ -16,8 +16,9 @@ use Rattle.quotient.specs.Representative.{mapOf}
 use Rattle.quotient.specs.Short.{shortHops, shortShape}
 use Rattle.quotient.specs.Tables.{Reducible}
 use Rattle.quotient.proofs.Reduced.{short-admitted, map-inside}
-use Rattle.report.specs.Text.{digits, decimal, spaced, ending, line, lines, in-word, marked-word, map-word, out-word, hop-word, no-word}
-use Rattle.report.specs.Report.{markedLine, mapLine, hopLine, linesOf, reportOf, refusalOf, most-text}
+use Rattle.text.specs.Text.{digits, decimal, spaced, ending, line, lines, in-word, marked-word, map-word, out-word, hop-word, no-word}
+use Rattle.rows.specs.Rows.{markedLine, mapLine, hopLine, linesOf, refusalOf}
+use Rattle.report.specs.Report.{reportOf, most-text}
 
 digits-most : (k n : ℕ) → length (digits k n) ≤ k
 unfolding digits
