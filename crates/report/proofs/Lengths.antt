@@ -13,11 +13,12 @@ use Rattle.graph.specs.declared.Shape.{Shape}
 use Rattle.graph.specs.declared.Answer.{Answer}
 use Rattle.marks.specs.Mark.{markOf}
 use Rattle.representatives.specs.Representative.{mapOf}
-use Rattle.representatives.specs.Tables.{Reducible}
 use Rattle.short.specs.Short.{shortHops, shortShape}
+use Rattle.representatives.specs.Tables.{Reducible}
 use Rattle.short.proofs.Reduced.{short-admitted, map-inside}
-use Rattle.report.specs.Text.{digits, decimal, spaced, ending, line, lines, in-word, marked-word, map-word, out-word, hop-word, no-word}
-use Rattle.report.specs.Report.{markedLine, mapLine, hopLine, linesOf, reportOf, refusalOf, most-text}
+use Rattle.text.specs.Text.{digits, decimal, spaced, ending, line, lines, in-word, marked-word, map-word, out-word, hop-word, no-word}
+use Rattle.rows.specs.Rows.{markedLine, mapLine, hopLine, linesOf, refusalOf}
+use Rattle.report.specs.Report.{reportOf, most-text}
 
 digits-most : (k n : ℕ) → length (digits k n) ≤ k
 unfolding digits

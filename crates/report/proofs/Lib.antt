@@ -1,5 +1,2 @@
-pub mod Decimal
-pub mod Puts
-pub mod Parts
 pub mod Lengths
 pub mod Shown

@@ -31,9 +31,10 @@ use Rattle.fields.specs.Front.{onFront}
 use Rattle.reader.specs.Read.{formatAnswer, readAnswer, readOf, readHops, contentsOf, nothing}
 use Rattle.reader.specs.declared.Contents.{Contents}
 use Rattle.reader.proofs.Entry.{length-hop-list, count-hop-list}
-use Rattle.report.specs.Report.{linesOf, reportOf, refusalOf, unlessRefused, printedGraph, printedOf, most-text, shownIn}
-use Rattle.report.specs.Text.{Room, Put}
-use Rattle.report.proofs.Parts.{report-same}
+use Rattle.text.specs.Text.{Room, Put}
+use Rattle.rows.specs.Rows.{linesOf, refusalOf}
+use Rattle.rows.proofs.Parts.{report-same}
+use Rattle.report.specs.Report.{reportOf, unlessRefused, printedGraph, printedOf, most-text, shownIn}
 
 pub refused-text : (a : Answer) (t : List ℕ) → (a .number ≡ 0 → ⊥) → unlessRefused a t ≡ refusalOf a
 unfolding unlessRefused

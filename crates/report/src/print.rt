@@ -1,17 +1,17 @@
 // What the program prints of a file.
-use super::rows::put_refusal;
-use super::rows::put_report;
 use graph::Shape;
 use graph::hops::part;
 use marks::mark::mark;
 use quotient::entry::reduce;
 use reader::reading::read;
+use rows::put_refusal;
+use rows::put_report;
 ghost use mathlib.Core.Path.{_≡_};
 ghost use Prim.Native.Nat.{_≤_};
 ghost use lib.ListN.{length};
 ghost use Rattle.representatives.specs.Tables.{Reducible, Marks};
 ghost use Rattle.fields.specs.Front.{onFront};
-ghost use Rattle.report.specs.Text.{Put};
+ghost use Rattle.text.specs.Text.{Put};
 ghost use Rattle.report.specs.Report.{most-text, reportOf, printedGraph, printedOf, shownIn};
 
 const MOST_TEXT: usize = 196608;

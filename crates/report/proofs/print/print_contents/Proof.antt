@@ -2,7 +2,7 @@
 use Prim.Native.Nat.{ℕ, _≤_}
 use native.Mathlib.Omega.{arith}
 use lib.ListN.{length, replicate, length-replicate}
-use Rattle.report.proofs.Puts.{put-same}
+use Rattle.text.proofs.Puts.{put-same}
 use Rattle.report.proofs.Lengths.{refusal-most}
 use Rattle.report.proofs.Shown.{file-refused, file-most, file-printed, text-room}
 use borrow.Author.Needs.{needs}

@@ -2,7 +2,7 @@
 use Prim.Native.Nat.{ℕ}
 use mathlib.Core.Path.{_≡_, sym}
 use lib.ListN.{length, replicate, length-replicate}
-use Rattle.report.proofs.Puts.{put-same}
+use Rattle.text.proofs.Puts.{put-same}
 use Rattle.report.proofs.Lengths.{refusal-most}
 use Rattle.report.proofs.Shown.{graph-refused, graph-reducible, graph-accepted, graph-marks, text-room}
 use borrow.Author.Needs.{needs}

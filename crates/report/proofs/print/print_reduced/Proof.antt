@@ -3,7 +3,7 @@ use Prim.Native.Nat.{ℕ, _≤_}
 use native.Mathlib.Omega.{arith}
 use mathlib.Core.Path.{sym}
 use lib.ListN.{length, replicate, length-replicate}
-use Rattle.report.proofs.Puts.{put-same, room-same}
+use Rattle.text.proofs.Puts.{put-same, room-same}
 use Rattle.report.proofs.Lengths.{report-most}
 use Rattle.report.proofs.Shown.{reduced-shape, reduced-most, reduced-short, reduced-map, reduced-lines, text-room}
 use borrow.Author.Needs.{needs}

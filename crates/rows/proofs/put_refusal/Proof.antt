@@ -1,0 +1,32 @@
+-- `rows::put_refusal` meets its contract. Assumes nothing.
+use Rattle.rows.specs.Rows.{refusalOf}
+use borrow.Author.Needs.{needs}
+use Rattle.rows.proofs.put_refusal.Statement.{statement}
+use Rattle.rows.proofs.put_refusal.Tie as tie
+
+cast-number : tie.Need-cast-number
+cast-number c = search needs
+
+slice-aggregate-put-line2 : tie.Need-slice-aggregate-put-line2
+slice-aggregate-put-line2 c = search needs
+
+put-line2-requires : tie.Need-put-line2-requires
+unfolding refusalOf
+put-line2-requires c κs = c .before .before .before .before .pre
+
+same-length : tie.Need-same-length
+same-length c = search needs
+
+returns : tie.Need-returns
+unfolding refusalOf
+returns c = c .before .before .put-line2 .ensures
+
+pub put-refusal-spec : {M : Type 1} → statement M
+put-refusal-spec =
+    tie.close
+    (tie.spec
+    cast-number
+    slice-aggregate-put-line2
+    put-line2-requires
+    same-length
+    returns)
