@@ -17,10 +17,10 @@ use Rattle.graph.specs.declared.Answer.{Answer}
 use Rattle.graph.proofs.Bools.{not-yes}
 use Rattle.graph.proofs.Tests.{least-is, least-before}
 use Rattle.graph.proofs.Checked.{check-admitted, admitted-check}
-use Rattle.bisimulation.specs.Faults.{mapped, faultsOf}
+use Rattle.faults.specs.Faults.{mapped, faultsOf}
 use Rattle.bisimulation.specs.Bisimulation.{AdmittedMap}
 use Rattle.bisimulation.specs.Auditing.{firstHigh, mapFits, auditAnswer, auditOf}
-use Rattle.bisimulation.specs.Ticks.{Auditable}
+use Rattle.faults.specs.Ticks.{Auditable}
 use Rattle.bisimulation.specs.declared.Audit.{Audit}
 
 -- row 8

@@ -1,7 +1,7 @@
 -- `bisimulation::auditing::fault_count` meets its contract: the three sums, which fit. Assumes nothing.
 use borrow.Author.Needs.{needs}
 use native.Mathlib.Omega.{arith}
-use Rattle.bisimulation.specs.Faults.{faultsOf}
+use Rattle.faults.specs.Faults.{faultsOf}
 use Rattle.bisimulation.proofs.Bound.{initial-most, lost-most, made-up-few}
 use Rattle.bisimulation.proofs.auditing.fault_count.Statement.{statement}
 use Rattle.bisimulation.proofs.auditing.fault_count.Tie as tie
