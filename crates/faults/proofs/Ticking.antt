@@ -29,7 +29,7 @@ use Rattle.graph.proofs.Lookup.{at-place, gap-has}
 use Rattle.silent.specs.Silent.{leads}
 use Rattle.silent.specs.Reach.{noted, reached}
 use Rattle.faults.specs.Faults.{mapped, offers, backed, matched, madeUp, madeUpFaults}
-use Rattle.faults.specs.Ticks.{leaves, mappedHop, ticks, stampAt, tickedBy, TickedBy, unticked, Fresh, madeUpOf}
+use Rattle.faults.specs.Ticks.{leaves, mappedHop, ticks, stampAt, TickedBy, unticked, Fresh, madeUpOf}
 
 -- the hop at a place where `is` passes
 is-hop : (hs : List ℕ) (h : Hop) (j : ℕ) → is hs (h .from) (h .label) (h .to) j ≡ true → hopAt hs j ≡ h
@@ -60,45 +60,28 @@ module _ (h2 : List ℕ) (up : Ascending h2) (h : Hop) (k : ℕ) (stamps : List 
   pub stamp-at : getD (stampAt stamps k (placed h2 h)) j 0 ≡ cond (is-h j) k (getD stamps j 0)
   stamp-at = stamp-found (placed h2 h) refl
 
+-- the stamp of a hop that was read and mapped
+pub stamped-hop : (h1 h2 m stamps : List ℕ) (r k i : ℕ) {a t q : ℕ} {after : List ℕ} → a ≡ label h1 i → t ≡ to h1 i → q ≡ mapped m t →
+    after ≡ stampAt stamps k (placed h2 (record { from = r; label = a; to = q })) → after ≡ stampAt stamps k (placed h2 (mappedHop h1 m r i))
+stamped-hop h1 h2 m stamps r k i ea et eq d = rw (← ea, ← et, ← eq) d
+
 module _ (h1 h2 m seen : List ℕ) (r k : ℕ) where
-  -- the ways out of one tick
-  module _ (i : ℕ) {u v : ℕ} (eu : u ≡ from h1 i) (ev : v ≡ mapped m u) (stamps : List ℕ) where
-    pub tick-yes : (eqb (getD seen u 0) 1 && eqb v r) ≡ true → {a t q : ℕ} {after : List ℕ} → a ≡ label h1 i → t ≡ to h1 i → q ≡ mapped m t →
-        after ≡ stampAt stamps k (placed h2 (record { from = r; label = a; to = q })) → after ≡ tickedBy h1 h2 m seen r k i stamps
-    unfolding tickedBy leaves noted
-    tick-yes e ea et eq d = rw (← eu, ← ev, e, ← ea, ← et, ← eq) d
-
-    pub tick-no : (eqb (getD seen u 0) 1 && eqb v r) ≡ false → stamps ≡ tickedBy h1 h2 m seen r k i stamps
-    unfolding tickedBy leaves noted
-    tick-no e = rw (← eu, ← ev, e)
-
-  -- where the ticking begins, a turn, and what it leaves
+  -- where the ticking begins
   pub ticked-none : (stamps : List ℕ) → TickedBy h1 h2 m seen r k 0 stamps stamps
   unfolding TickedBy any
   ticked-none stamps j l = refl
 
-  ticked-one : Ascending h2 → (stamps : List ℕ) → count h2 ≤ length stamps → (i j : ℕ) → j < count h2 →
-      getD (tickedBy h1 h2 m seen r k i stamps) j 0 ≡ cond (ticks h1 h2 m seen r j i) k (getD stamps j 0)
-  unfolding tickedBy ticks
-  ticked-one up stamps room i j l = go (leaves h1 m seen r i) where
-    go : (x : Bool) →
-        getD (cond x (stampAt stamps k (placed h2 (mappedHop h1 m r i))) stamps) j 0 ≡
-        cond (x && is h2 r (label h1 i) (mapped m (to h1 i)) j) k (getD stamps j 0)
-    go true = stamp-at h2 up (mappedHop h1 m r i) k stamps room j l
-    go false = refl
-
-  pub ticked-more : Ascending h2 → (stamps₀ stamps : List ℕ) → count h2 ≤ length stamps → (i : ℕ) → TickedBy h1 h2 m seen r k i stamps₀ stamps →
-      TickedBy h1 h2 m seen r k (i + 1) stamps₀ (tickedBy h1 h2 m seen r k i stamps)
-  unfolding TickedBy any
-  ticked-more up stamps₀ stamps room i t j l =
-      ticked-one up stamps room i j l ∙ rw (add-one i, t j l) (go (ticks h1 h2 m seen r j i) (any i (ticks h1 h2 m seen r j))) where
-        go : (x y : Bool) → cond x k (cond y k (getD stamps₀ j 0)) ≡ cond (x || y) k (getD stamps₀ j 0)
+  -- .. and one place more, whose hop leaves a state that counts
+  pub ticked-more : Ascending h2 → (stamps : List ℕ) → count h2 ≤ length stamps → (i : ℕ) → leaves h1 m seen r i ≡ true →
+      (first : List ℕ) → TickedBy h1 h2 m seen r k i first stamps →
+      TickedBy h1 h2 m seen r k (i + 1) first (stampAt stamps k (placed h2 (mappedHop h1 m r i)))
+  unfolding TickedBy ticks any
+  ticked-more up stamps room i e first t j l =
+      stamp-at h2 up (mappedHop h1 m r i) k stamps room j l ∙
+      rw (add-one i, t j l, e) (go (is h2 r (label h1 i) (mapped m (to h1 i)) j) (any i (ticks h1 h2 m seen r j))) where
+        go : (x y : Bool) → cond x k (cond y k (getD first j 0)) ≡ cond (x || y) k (getD first j 0)
         go true y = refl
         go false y = refl
-
-  pub ticked-done : (stamps₀ stamps : List ℕ) {i n : ℕ} → i ≤ n → n ≤ i → TickedBy h1 h2 m seen r k i stamps₀ stamps →
-      TickedBy h1 h2 m seen r k n stamps₀ stamps
-  ticked-done stamps₀ stamps {i} {n} h l t = let q : n ≡ i = omega arith in rw q t
 
 -- the bytes that the search leaves
 noted-reached : (h1 : List ℕ) (n s : ℕ) (rest : List ℕ) {u : ℕ} → u < n → noted (reached h1 n s ++ rest) u ≡ leads h1 n s u

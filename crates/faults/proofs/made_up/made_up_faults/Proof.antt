@@ -12,10 +12,10 @@ use Rattle.faults.proofs.made_up.made_up_faults.Statement.{statement}
 use Rattle.faults.proofs.made_up.made_up_faults.Tie as tie
 
 abbrev Inv-loop : tie.InvT-loop
-Inv-loop shape1 hops1 hops2 map seen₀ queue₀ stamps₀ n faults₀ s₀ seen queue stamps faults s = (n ≡ shape1 .states) × (s ≤ n) × (length seen ≡ length seen₀) × (length queue ≡ length queue₀) × (length stamps ≡ length stamps₀) × Fresh hops2 stamps (s + 1) × (faults ≡ total s (madeUpOf shape1 hops1 hops2 map))
+Inv-loop shape1 hops1 starts1 hops2 starts2 map seen₀ queue₀ stamps₀ n faults₀ s₀ seen queue stamps faults s = (n ≡ shape1 .states) × (s ≤ n) × (length seen ≡ length seen₀) × (length queue ≡ length queue₀) × (length stamps ≡ length stamps₀) × Fresh hops2 stamps (s + 1) × (faults ≡ total s (madeUpOf shape1 hops1 hops2 map))
 
 abbrev μ-loop : tie.MeasureT-loop
-μ-loop shape1 hops1 hops2 map seen₀ queue₀ stamps₀ n faults₀ s₀ seen queue stamps faults s = n - s
+μ-loop shape1 hops1 starts1 hops2 starts2 map seen₀ queue₀ stamps₀ n faults₀ s₀ seen queue stamps faults s = n - s
 
 cast-n : tie.Need-cast-n Inv-loop μ-loop
 cast-n c = search needs
@@ -23,11 +23,22 @@ cast-n c = search needs
 loop-holds : tie.Need-loop-holds Inv-loop μ-loop
 loop-holds c = (search needs, search needs, search needs, search needs, search needs, c .before .before .before .before .before .before .before .pre .1 .1 .1, sym (total-none _))
 
-cast-t13 : tie.Need-cast-t13 Inv-loop μ-loop
-cast-t13 c = search needs
+cast-t15 : tie.Need-cast-t15 Inv-loop μ-loop
+cast-t15 c = search needs
 
 made-up-of-requires : tie.Need-made-up-of-requires Inv-loop μ-loop
-made-up-of-requires c κs = let s = c .before .before .before .before .before .before .before .before .before .before .before .before in (s .pre .0, (omega arith, ((omega (arith, s .pre .1 .0 .0), omega (arith, s .pre .1 .0 .1)), (omega (arith, s .pre .1 .1 .0), c .before .before .before .before .loop .inv .5))))
+made-up-of-requires c κs =
+    let s = c .before .before .before .before .before .before .before .before .before .before .before .before in
+    let v = c .before .before .before .before .loop .inv in (
+      s .pre .0,
+      (
+        s .pre .1 .0,
+        (
+          omega arith,
+          ((omega (arith, v .2, s .pre .1 .1 .0 .0), omega (arith, v .3, s .pre .1 .1 .0 .1), omega (arith, v .4, s .pre .1 .1 .0 .2)), v .5),
+        ),
+      ),
+    )
 
 add-faults : tie.Need-add-faults Inv-loop μ-loop
 add-faults c =
@@ -37,7 +48,7 @@ add-faults c =
       arith,
       c .before .before .before .before .before .before .before .before .before .before .before .loop .inv .6,
       c .before .before .before .before .before .before .made-up-of .ensures .0,
-      partial-most (s .args .shape1) (s .args .hops1 .now) (s .args .hops2 .now) (s .args .map .now) (c .before .before .before .before .before .before .before .before .before .before .before .loop .s) few (s .pre .0 .few-hops),
+      partial-most (s .args .shape1) (s .args .hops1 .now) (s .args .hops2 .now) (s .args .map .now) (c .before .before .before .before .before .before .before .before .before .before .before .loop .s) few (s .pre .0 .ready .hops-most),
     )
 
 add-s : tie.Need-add-s Inv-loop μ-loop
@@ -70,7 +81,7 @@ made-up-faults-spec =
     μ-loop
     cast-n
     loop-holds
-    cast-t13
+    cast-t15
     made-up-of-requires
     add-faults
     add-s
