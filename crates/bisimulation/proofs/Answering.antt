@@ -17,10 +17,11 @@ use Rattle.graph.specs.declared.Answer.{Answer}
 use Rattle.graph.proofs.Bools.{not-yes}
 use Rattle.graph.proofs.Tests.{least-is, least-before}
 use Rattle.graph.proofs.Checked.{check-admitted, admitted-check}
-use Rattle.bisimulation.specs.Faults.{mapped, faultsOf}
+use Rattle.starts.proofs.Firsts.{admitted-ready}
+use Rattle.faults.specs.Faults.{mapped, faultsOf}
 use Rattle.bisimulation.specs.Bisimulation.{AdmittedMap}
 use Rattle.bisimulation.specs.Auditing.{firstHigh, mapFits, auditAnswer, auditOf}
-use Rattle.bisimulation.specs.Ticks.{Auditable}
+use Rattle.faults.specs.Ticks.{Auditable}
 use Rattle.bisimulation.specs.declared.Audit.{Audit}
 
 -- row 8
@@ -67,7 +68,13 @@ pub record Audited (sh1 sh2 : Shape) (h1 h2 m : List ℕ) : Type 0 where
   pub map : AdmittedMap sh1 sh2 m
 
 pub auditable : {sh1 sh2 : Shape} {h1 h2 m : List ℕ} → Audited sh1 sh2 h1 h2 m → Auditable sh1 h1 h2 m
-auditable a = record { admitted = a .first; ascending = a .second .ascending; few-hops = a .second .hops-most; one-a-state = a .map .one-a-state }
+auditable a =
+    record {
+      admitted = a .first;
+      ready = admitted-ready (a .second);
+      one-a-state = a .map .one-a-state;
+      entries-in = λ s l. omega (arith, a .map .entries-in s l, a .second .states-most);
+    }
 
 module _ (sh1 sh2 : Shape) (h1 h2 m : List ℕ) where
   -- the ways out, in the order of the code

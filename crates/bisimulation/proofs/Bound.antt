@@ -11,7 +11,7 @@ use Rattle.graph.specs.Hops.{count}
 use Rattle.graph.specs.Check.{most-states, most-hops, Admitted}
 use Rattle.graph.specs.declared.Shape.{Shape}
 use Rattle.graph.proofs.Tests.{tally-within, total-most}
-use Rattle.bisimulation.specs.Faults.{mapped, initialFault, kept, lostFaults, madeUp, madeUpFaults, faultsOf}
+use Rattle.faults.specs.Faults.{mapped, initialFault, kept, lostFaults, madeUp, madeUpFaults, faultsOf}
 
 pub initial-most : (sh1 sh2 : Shape) (m : List ℕ) → initialFault sh1 sh2 m ≤ 1
 unfolding initialFault

@@ -1,7 +1,5 @@
 pub mod Meaning
 pub mod Bound
-pub mod Keeping
-pub mod Ticking
 pub mod Answering
 pub mod Right
 pub mod Fronts

@@ -19,7 +19,7 @@ use Rattle.lts.specs.Star.{stay}
 use Rattle.lts.specs.Reduction.{Back, Reduces}
 use Rattle.silent.specs.Silent.{HopOf, Leads, leads}
 use Rattle.silent.proofs.Leads.{leads-iff}
-use Rattle.bisimulation.specs.Faults.{mapped, initialFault, kept, lostFaults, offers, backed, matched, madeUp, madeUpFaults, faultsOf}
+use Rattle.faults.specs.Faults.{mapped, initialFault, kept, lostFaults, offers, backed, matched, madeUp, madeUpFaults, faultsOf}
 use Rattle.bisimulation.specs.Bisimulation.{BranchingBisimulation, MapRelation, JoinsInitial, AdmittedMap}
 
 -- the map loses no hop of graph 1 and makes no hop of graph 2 up, and leads from the one initial state to the other

@@ -11,7 +11,7 @@ use Rattle.representatives.specs.Representative.{mapOf}
 use Rattle.representatives.specs.Tables.{Reducible}
 use Rattle.short.specs.Short.{shortHops, shortShape, mapList}
 use Rattle.short.proofs.Reduced.{map-inside, short-admitted, short-reduces}
-use Rattle.bisimulation.specs.Faults.{mapped, faultsOf}
+use Rattle.faults.specs.Faults.{mapped, faultsOf}
 use Rattle.bisimulation.specs.Bisimulation.{BranchingBisimulation, MapRelation, JoinsInitial}
 use Rattle.bisimulation.specs.Auditing.{auditOf}
 use Rattle.bisimulation.specs.declared.Audit.{Audit}

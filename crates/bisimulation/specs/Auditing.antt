@@ -8,7 +8,7 @@ use Rattle.graph.specs.Tests.{least}
 use Rattle.graph.specs.Check.{accepted, refused, inTable, andThen, checkOf}
 use Rattle.graph.specs.declared.Shape.{Shape}
 use Rattle.graph.specs.declared.Answer.{Answer}
-use Rattle.bisimulation.specs.Faults.{mapped, faultsOf}
+use Rattle.faults.specs.Faults.{mapped, faultsOf}
 use Rattle.bisimulation.specs.declared.Audit.{Audit}
 
 -- row 7: "label counts of graphs 1 and 2 differ"

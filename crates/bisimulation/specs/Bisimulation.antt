@@ -6,7 +6,7 @@ use mathlib.Core.List.{List}
 use lib.ListN.{length}
 use Rattle.graph.specs.declared.Shape.{Shape}
 use Rattle.silent.specs.Silent.{HopOf, Leads}
-use Rattle.bisimulation.specs.Faults.{mapped}
+use Rattle.faults.specs.Faults.{mapped}
 
 -- "Let B be any set of pairs, each a state of graph 1 with a state of graph 2. B is a branching bisimulation when for each pair s, r in B .."
 pub record BranchingBisimulation (h1 h2 : List ℕ) (B : ℕ → ℕ → Type 0) : Type 0 where

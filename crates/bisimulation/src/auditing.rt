@@ -1,16 +1,16 @@
 // Rows 7 and 8, and the entry `audit`.
 use super::Audit;
-use super::lost::initial_fault;
-use super::lost::lost_faults;
-use super::made_up::all_made_up;
+use faults::lost::initial_fault;
+use faults::lost::lost_faults;
+use faults::made_up::all_made_up;
 use graph::Answer;
 use graph::Shape;
 use graph::limits::accept;
 use graph::limits::check;
 use graph::limits::refuse;
 ghost use mathlib.Core.Path.{_≡_};
-ghost use Rattle.bisimulation.specs.Faults.{faultsOf};
-ghost use Rattle.bisimulation.specs.Ticks.{Auditable};
+ghost use Rattle.faults.specs.Faults.{faultsOf};
+ghost use Rattle.faults.specs.Ticks.{Auditable};
 ghost use Rattle.bisimulation.specs.Auditing.{firstHigh, mapFits, auditAnswer, auditOf};
 
 // Row 8: the first entry not below state count 2, or the map's length.

@@ -1,6 +1,4 @@
-// Auditing: the fault count of a map between two graphs, and the entry `audit`.
-pub mod lost; // lost.rt: the first two sums, by the hops of graph 1
-pub mod made_up; // made_up.rt: the third sum, by the states of graph 1
+// Auditing: the entry `audit`, and what a fault count of 0 means.
 pub mod auditing; // auditing.rt: rows 7 and 8, and the entry `audit`
 pub mod together; // together.rt: reducing, and the audit of what that left
 

@@ -9,7 +9,7 @@ use Rattle.confluence.specs.Rounds.{survives, marked, closes, tried, answered, 
 use Rattle.marks.specs.Mark.{marksOf, markOf, markAnswer}
 use Rattle.representatives.specs.Representative.{markedFrom, resting, onward, followed, repOf, newOf, mapOf}
 use Rattle.short.specs.Short.{insert, gathered, shortHops, shortShape, mapList}
-use Rattle.bisimulation.specs.Faults.{initialFault, kept, lostFaults, offers, backed, matched, madeUp, madeUpFaults, faultsOf}
+use Rattle.faults.specs.Faults.{initialFault, kept, lostFaults, offers, backed, matched, madeUp, madeUpFaults, faultsOf}
 use Rattle.worked.specs.Table.{tableOf, table, outcomeOf, fallsIn}
 
 pub given : tableOf table ≡ table

@@ -13,7 +13,7 @@ use Rattle.graph.specs.declared.Answer.{Answer}
 use Rattle.confluence.specs.Rounds.{survives}
 use Rattle.marks.specs.Mark.{marksOf, markAnswer}
 use Rattle.short.specs.Short.{mapList, shortHops, shortShape}
-use Rattle.bisimulation.specs.Faults.{faultsOf}
+use Rattle.faults.specs.Faults.{faultsOf}
 
 -- a hop as document 01 writes it, and a shape with initial state 0
 abbrev pub hop : ℕ → ℕ → ℕ → Hop

@@ -1,7 +1,7 @@
 -- `bisimulation::auditing::fault_count` meets its contract: the three sums, which fit. Assumes nothing.
 use borrow.Author.Needs.{needs}
 use native.Mathlib.Omega.{arith}
-use Rattle.bisimulation.specs.Faults.{faultsOf}
+use Rattle.faults.specs.Faults.{faultsOf}
 use Rattle.bisimulation.proofs.Bound.{initial-most, lost-most, made-up-few}
 use Rattle.bisimulation.proofs.auditing.fault_count.Statement.{statement}
 use Rattle.bisimulation.proofs.auditing.fault_count.Tie as tie
@@ -38,7 +38,7 @@ add-result-2 c =
       initial-most (s .args .shape1) (s .args .shape2) (s .args .map .now),
       lost-most (s .args .hops1 .now) (s .args .hops2 .now) (s .args .map .now),
       s .pre .admitted .hops-most,
-      made-up-few (s .args .shape1) (s .args .hops1 .now) (s .args .hops2 .now) (s .args .map .now) (s .pre .admitted .states-most) (s .pre .few-hops),
+      made-up-few (s .args .shape1) (s .args .hops1 .now) (s .args .hops2 .now) (s .args .map .now) (s .pre .admitted .states-most) (s .pre .ready .hops-most),
     )
 
 returns : tie.Need-returns

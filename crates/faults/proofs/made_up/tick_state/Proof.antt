@@ -1,0 +1,125 @@
+-- `faults::made_up::tick_state` meets its contract: the stamps are those of the hops passed so far; those of another state tick nothing.
+-- Assumes nothing.
+use borrow.Author.Needs.{needs}
+use Prim.Native.Nat.{_+_, _≤_, _-_}
+use mathlib.Core.Path.{_≡_, refl, sym, ap, _∙_}
+use native.Mathlib.Omega.{arith}
+use lib.ListN.{length}
+use Rattle.graph.specs.Hops.{count}
+use Rattle.graph.specs.Search.{firstOf}
+use Rattle.graph.proofs.Lookup.{first-within}
+use Rattle.starts.proofs.Firsts.{first-next, start-is}
+use Rattle.faults.specs.Faults.{mapped}
+use Rattle.faults.specs.Ticks.{TickedOn}
+use Rattle.faults.proofs.Rows.{on-none, on-done, state-skipped, state-more}
+use Rattle.faults.proofs.made_up.tick_state.Statement.{statement}
+use Rattle.faults.proofs.made_up.tick_state.Tie as tie
+
+abbrev Inv-loop : tie.InvT-loop
+Inv-loop shape1 hops1 starts1 hops2 map seen stamps₀ r k at past i₀ stamps i =
+    (past ≡ firstOf hops1 (at + 1)) × (past ≤ count hops1) × (firstOf hops1 at ≤ i) × (i ≤ past) × (length stamps ≡ length stamps₀) ×
+    TickedOn hops1 hops2 map seen (r .0) k (firstOf hops1 at) i stamps₀ stamps
+
+abbrev μ-loop : tie.MeasureT-loop
+μ-loop shape1 hops1 starts1 hops2 map seen stamps₀ r k at past i₀ stamps i = past - i
+
+map-at-requires : tie.Need-map-at-requires Inv-loop μ-loop
+map-at-requires c κs = search needs
+
+wide-requires : tie.Need-wide-requires Inv-loop μ-loop
+wide-requires c κs = search needs
+
+shared-slice-read-if1 : tie.Need-shared-slice-read-if1 Inv-loop μ-loop
+shared-slice-read-if1 c = search needs
+
+add-start-of : tie.Need-add-start-of Inv-loop μ-loop
+add-start-of c = search needs
+
+start-of-requires : tie.Need-start-of-requires Inv-loop μ-loop
+start-of-requires c κs = omega arith
+
+start-of-requires-2 : tie.Need-start-of-requires-2 Inv-loop μ-loop
+start-of-requires-2 c κs = omega arith
+
+-- the map of u, by its index
+map-of : (c : tie.After-wide Inv-loop μ-loop) → c .before .map-at .result .0 ≡ mapped (c .before .before .before .before .before .before .before .args .map .now) (c .wide .result)
+map-of c = c .before .map-at .ensures ∙ ap (mapped (c .before .before .before .before .before .before .before .args .map .now)) (sym (c .wide .ensures))
+
+loop-holds : tie.Need-loop-holds Inv-loop μ-loop
+loop-holds c =
+    let s = c .before .before .before .before .before .before .before .before .before .before .before .before .before in
+    let hs = s .args .hops1 .now in
+    let up = s .pre .0 .admitted .ascending in
+    let at = c .before .before .before .before .before .before .wide .result in
+    let in-table : at + 1 ≤ 1024 = omega (arith, c .before .before .before .before .before .before .wide .ensures, s .pre .1 .1 .1 .1, s .pre .0 .admitted .states-most) in
+    let p : c .before .start-of .result ≡ firstOf hs (at + 1) = start-is hs (s .args .starts1 .now) (s .pre .1 .0) _ refl in-table (c .before .start-of .ensures) in
+    let f : c .start-of2 .result ≡ firstOf hs at = start-is hs (s .args .starts1 .now) (s .pre .1 .0) _ refl (omega arith) (c .start-of2 .ensures) in (
+      p,
+      omega (arith, first-within hs up (at + 1)),
+      omega arith,
+      omega (arith, first-next hs up at),
+      refl,
+      rw f (on-none hs (s .args .hops2 .now) (s .args .map .now) (s .args .seen .now) (s .args .r .0) (s .args .k) (firstOf hs at) (s .args .stamps .now)),
+    )
+
+tick-requires : tie.Need-tick-requires Inv-loop μ-loop
+tick-requires c κs =
+    let s = c .before .before .before .before .before .before .before .before .before .before .before .before .before .before .before .before in
+    (s .pre .0, (omega (arith, c .before .before .loop .inv, s .pre .1 .1 .1 .0), omega (arith, c .before .before .loop .inv, c .before .loop-test)))
+
+add-i : tie.Need-add-i Inv-loop μ-loop
+add-i c = search needs
+
+loop-less : tie.Need-loop-less Inv-loop μ-loop
+loop-less c = search needs
+
+loop-again : tie.Need-loop-again Inv-loop μ-loop
+loop-again c =
+    let s = c .before .before .before .before .before .before .before .before .before .before .before .before .before .before .before .before .before .before .before in
+    let v = c .before .before .before .before .before .loop .inv in (
+      v .0,
+      v .1,
+      omega arith,
+      omega arith,
+      omega arith,
+      state-more (s .args .hops1 .now) (s .args .hops2 .now) (s .args .map .now) (s .args .seen .now) (s .args .r .0) (s .args .k) (s .pre .0 .admitted .ascending)
+          (c .before .before .before .before .before .before .before .before .before .before .before .before .wide .result) (map-of (c .before .before .before .before .before .before .before .before .before .before .before .before)) (s .pre .0 .ready .ascending) (c .before .before .before .before .before .before .before .before .if1 .taken) (s .args .stamps .now) (c .before .before .before .before .before .loop .stamps) (omega arith) (v .2) (omega arith)
+          (c .before .before .tick .ensures) (v .5),
+    )
+
+same-length : tie.Need-same-length Inv-loop μ-loop
+same-length c = omega arith
+
+returns : tie.Need-returns Inv-loop μ-loop
+returns c =
+    let s = c .before .before .before .before .before .before .before .before .before .before .before .before .before .before .before in
+    let v = c .before .loop .inv in
+    rw (← c .before .before .before .before .before .before .before .before .wide .ensures)
+    (on-done (s .args .hops1 .now) (s .args .hops2 .now) (s .args .map .now) (s .args .seen .now) (s .args .r .0) (s .args .k) _ _ _ (omega arith) (omega arith) (v .5))
+
+returns-2 : tie.Need-returns-2 Inv-loop μ-loop
+returns-2 c =
+    let s = c .before .before .before .before .before .before .before .before .before .before .before in
+    state-skipped (s .args .hops1 .now) (s .args .hops2 .now) (s .args .map .now) (s .args .seen .now) (s .args .r .0) (s .args .k) (s .pre .0 .admitted .ascending) (s .args .u .0)
+    (c .before .before .before .before .before .map-at .ensures) (rw (c .before .before .before .before .wide .ensures) at (c .if1 .left)) _
+
+pub tick-state-spec : {M : Type 1} → statement M
+tick-state-spec =
+    tie.close
+    (tie.spec
+    Inv-loop
+    μ-loop
+    map-at-requires
+    wide-requires
+    shared-slice-read-if1
+    add-start-of
+    start-of-requires
+    start-of-requires-2
+    loop-holds
+    tick-requires
+    add-i
+    loop-less
+    loop-again
+    same-length
+    returns
+    returns-2)

@@ -1,0 +1,64 @@
+-- How the third sum is counted, by states of graph 1: from a state, the hops of the states that it leads to tick hops of graph 2 by a stamp,
+-- and what is not ticked is a fault. Assumes nothing: these are definitions.
+use Prim.Native.Nat.{ℕ, _<_}
+use mathlib.Core.Path.{_≡_}
+use mathlib.Core.Bool.{Bool, cond, not, _&&_, _||_}
+use mathlib.Core.List.{List}
+use lib.ListN.{length, getD, set}
+use lib.Dec.{eqb}
+use Rattle.graph.specs.Tests.{any, tally}
+use Rattle.graph.specs.Hops.{count, from, label, to, is}
+use Rattle.graph.specs.Check.{most-states, Admitted}
+use Rattle.graph.specs.declared.Hop.{Hop}
+use Rattle.graph.specs.declared.Shape.{Shape}
+use Rattle.graph.specs.declared.Found.{Found}
+use Rattle.graph.specs.declared.Found.the-variants.{At, Gap}
+use Rattle.starts.specs.Starts.{Ready}
+use Rattle.silent.specs.Reach.{noted}
+use Rattle.faults.specs.Faults.{mapped, madeUp}
+
+-- what the count asks of the two hop lists and the map, once the audit has admitted them
+pub record Auditable (sh1 : Shape) (h1 h2 m : List ℕ) : Type 0 where
+  pub admitted : Admitted sh1 h1
+  pub ready : Ready h2
+  pub one-a-state : length m ≡ sh1 .states
+  pub entries-in : (s : ℕ) → s < sh1 .states → mapped m s < most-states
+
+-- the hop at place i of graph 1 leaves a state that is noted in `seen` and whose map is r
+unfoldable pub leaves : List ℕ → List ℕ → List ℕ → ℕ → ℕ → Bool
+leaves h1 m seen r i = noted seen (from h1 i) && eqb (mapped m (from h1 i)) r
+
+-- what it is in graph 2
+abbrev pub mappedHop : List ℕ → List ℕ → ℕ → ℕ → Hop
+mappedHop h1 m r i = record { from = r; label = label h1 i; to = mapped m (to h1 i) }
+
+-- .. and it is the hop at place j there
+unfoldable pub ticks : List ℕ → List ℕ → List ℕ → List ℕ → ℕ → ℕ → ℕ → Bool
+ticks h1 h2 m seen r j i = leaves h1 m seen r i && is h2 r (label h1 i) (mapped m (to h1 i)) j
+
+-- the stamp k at the place of a hop that was found
+abbrev pub stampAt : List ℕ → ℕ → Found → List ℕ
+stampAt stamps k (At p) = set stamps p k
+stampAt stamps k (Gap p) = stamps
+
+-- after the first n hops of graph 1 the stamp k stands at the places that they tick, and every other stamp is as it was
+unfoldable pub TickedBy : List ℕ → List ℕ → List ℕ → List ℕ → ℕ → ℕ → ℕ → List ℕ → List ℕ → Type 0
+TickedBy h1 h2 m seen r k n before after =
+    (j : ℕ) → j < count h2 → getD after j 0 ≡ cond (any n (ticks h1 h2 m seen r j)) k (getD before j 0)
+
+-- what the hops of graph 1 from place lo up to hi do: stamps that those before lo have ticked are then those that all before hi have
+unfoldable pub TickedOn : List ℕ → List ℕ → List ℕ → List ℕ → ℕ → ℕ → ℕ → ℕ → List ℕ → List ℕ → Type 0
+TickedOn h1 h2 m seen r k lo hi before after =
+    (first : List ℕ) → TickedBy h1 h2 m seen r k lo first before → TickedBy h1 h2 m seen r k hi first after
+
+-- the hop at place j of graph 2 leaves r, is no silent hop from r to itself, and has not the stamp k
+unfoldable pub unticked : List ℕ → List ℕ → ℕ → ℕ → ℕ → Bool
+unticked h2 stamps r k j = eqb r (from h2 j) && not ((eqb (label h2 j) 0 && eqb (from h2 j) (to h2 j)) || eqb (getD stamps j 0) k)
+
+-- no hop of graph 2 has the stamp k or a later one
+unfoldable pub Fresh : List ℕ → List ℕ → ℕ → Type 0
+Fresh h2 stamps k = (j : ℕ) → j < count h2 → getD stamps j 0 < k
+
+-- the faults of the pairs of a hop of graph 2 and the state s: the third sum is the sum of these
+unfoldable pub madeUpOf : Shape → List ℕ → List ℕ → List ℕ → ℕ → ℕ
+madeUpOf sh1 h1 h2 m s = tally (count h2) (λ (j : ℕ). madeUp sh1 h1 h2 m j s)

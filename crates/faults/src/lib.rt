@@ -1,0 +1,3 @@
+// The fault count of a map between two graphs, by its three sums.
+pub mod lost; // lost.rt: the first two sums, by the hops of graph 1
+pub mod made_up; // made_up.rt: the third sum, by the states of graph 1
