@@ -1,56 +1,26 @@
 -- The entries for C and Rust: "answer: number, table, place, then the entry's figures; the return value is the number. An answer too short: 6, and
 -- nothing is written." It speaks last, as row 6 does. Assumes nothing: these are definitions.
 use Prim.Native.Nat.{ℕ}
-use mathlib.Core.Bool.{Bool, cond}
+use mathlib.Core.Bool.{cond}
 use mathlib.Core.List.{List, [], _∷_, _++_}
 use lib.ListN.{length, drop}
-use lib.Dec.{eqb, leb}
-use Rattle.graph.specs.declared.Shape.{Shape}
-use Rattle.graph.specs.declared.Answer.{Answer}
+use lib.Dec.{leb}
 use Rattle.rounds.specs.declared.RoundAnswer.{RoundAnswer}
-use Rattle.outgoing.specs.declared.Span.{Span}
-use Rattle.quotient.specs.declared.Reduction.{Reduction}
 use Rattle.bisimulation.specs.declared.Audit.{Audit}
-use Rattle.reader.specs.declared.Contents.{Contents}
 use Rattle.writer.specs.declared.Written.{Written}
-
--- a shape from three numbers, which pass through unchanged
-abbrev pub shapeOf : ℕ → ℕ → ℕ → Shape
-shapeOf s l i = record { states = s; labels = l; initial = i }
-
--- the answer's numbers, and the entry's figures after them
-abbrev pub numbersOf : Answer → List ℕ → List ℕ
-numbersOf a figures = a .number ∷ a .table ∷ a .place ∷ figures
+use Rattle.answers.specs.Numbers.{numbersOf}
 
 -- "4: + 1 or 0"
 abbrev pub roundNumbers : RoundAnswer → List ℕ
 roundNumbers r = numbersOf (r .answer) (r .survives ∷ [])
 
--- "2: start and length in numbers of that table"
-abbrev pub spanNumbers : Span → List ℕ
-spanNumbers p = p .start ∷ p .length ∷ []
-
--- "7: + states, labels, hops, initial"
-abbrev pub reductionNumbers : Reduction → List ℕ
-reductionNumbers r = numbersOf (r .answer) (r .shape .states ∷ r .shape .labels ∷ r .hops ∷ r .shape .initial ∷ [])
-
 -- "4: + faults"
 abbrev pub auditNumbers : Audit → List ℕ
 auditNumbers a = numbersOf (a .answer) (a .faults ∷ [])
 
--- "9: + states, labels, initial, hops, name block's place and length"
-abbrev pub contentsNumbers : Contents → List ℕ
-contentsNumbers c =
-    numbersOf (c .answer)
-    (c .shape .states ∷ c .shape .labels ∷ c .shape .initial ∷ c .hops ∷ c .«names_place» ∷ c .«names_len» ∷ [])
-
 -- "4: + length"
 abbrev pub writtenNumbers : Written → List ℕ
 writtenNumbers w = numbersOf (w .answer) (w .length ∷ [])
-
--- what is returned: the entry's number if it refuses, else 0, or 6 for an answer slice too short for n numbers
-unfoldable pub returned : Answer → ℕ → ℕ → ℕ
-returned a n room = cond (eqb (a .number) 0) (cond (leb n room) 0 6) (a .number)
 
 -- the answer slice afterwards
 unfoldable pub told : ℕ → List ℕ → List ℕ → List ℕ

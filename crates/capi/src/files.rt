@@ -1,8 +1,8 @@
 // Read and write.
-use super::answer::put_contents;
-use super::answer::put_figure;
-use super::answer::shape_of;
-use super::answer::short_number;
+use answers::put_contents;
+use answers::put_figure;
+use answers::shape_of;
+use answers::short_number;
 use reader::reading::read;
 use reader::reading::read_answer;
 use writer::writing::write;
@@ -11,7 +11,8 @@ ghost use mathlib.Core.Path.{_≡_};
 ghost use lib.ListN.{length};
 ghost use Rattle.reader.specs.Read.{readAnswer, readOf, readHops};
 ghost use Rattle.writer.specs.Write.{writeAnswer, writeOf, writeBytes};
-ghost use Rattle.capi.specs.Interface.{shapeOf, contentsNumbers, writtenNumbers, returned, told, unlessShort};
+ghost use Rattle.answers.specs.Numbers.{shapeOf, contentsNumbers, returned};
+ghost use Rattle.capi.specs.Interface.{writtenNumbers, told, unlessShort};
 
 // Where the answer slice is too short, only the answer is found, and no hops are written.
 #[no_mangle]

@@ -1,5 +1,4 @@
 // The entries for C and Rust: exported functions over numbers and slices, each with its entry's contract.
-pub mod answer; // answer.rt: what an entry tells its caller
 pub mod marking; // marking.rt: check, mark and the round question
 pub mod span; // span.rt: hops of a state
 pub mod reducing; // reducing.rt: reduce and audit

@@ -1,8 +1,8 @@
 // Check, mark and the round question.
-use super::answer::put_answer;
-use super::answer::put_figure;
-use super::answer::shape_of;
-use super::answer::short_number;
+use answers::put_answer;
+use answers::put_figure;
+use answers::shape_of;
+use answers::short_number;
 use graph::limits::check;
 use marks::mark::mark;
 use marks::mark::mark_answer;
@@ -13,7 +13,8 @@ ghost use lib.ListN.{length};
 ghost use Rattle.graph.specs.Check.{checkOf};
 ghost use Rattle.marks.specs.Mark.{markAnswer, markOutput};
 ghost use Rattle.rounds.specs.Question.{questionAnswer, questionOf};
-ghost use Rattle.capi.specs.Interface.{shapeOf, numbersOf, roundNumbers, returned, told, unlessShort};
+ghost use Rattle.answers.specs.Numbers.{shapeOf, numbersOf, returned};
+ghost use Rattle.capi.specs.Interface.{roundNumbers, told, unlessShort};
 
 #[no_mangle]
 pub extern "C" fn zf_check(

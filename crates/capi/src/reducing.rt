@@ -1,8 +1,8 @@
 // Reduce and audit.
-use super::answer::put_figure;
-use super::answer::put_reduction;
-use super::answer::shape_of;
-use super::answer::short_number;
+use answers::put_figure;
+use answers::put_reduction;
+use answers::shape_of;
+use answers::short_number;
 use bisimulation::auditing::audit;
 use quotient::entry::reduce;
 use quotient::entry::reduce_answer;
@@ -10,7 +10,8 @@ ghost use mathlib.Core.Path.{_≡_};
 ghost use lib.ListN.{length};
 ghost use Rattle.quotient.specs.Reduce.{reduceAnswer, reduceOf, mapOutput, shortOutput};
 ghost use Rattle.bisimulation.specs.Auditing.{auditAnswer, auditOf};
-ghost use Rattle.capi.specs.Interface.{shapeOf, reductionNumbers, auditNumbers, returned, told, unlessShort};
+ghost use Rattle.answers.specs.Numbers.{shapeOf, reductionNumbers, returned};
+ghost use Rattle.capi.specs.Interface.{auditNumbers, told, unlessShort};
 
 // Where the answer slice is too short, only the answer is found, and nothing is reduced.
 #[no_mangle]

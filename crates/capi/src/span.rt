@@ -1,12 +1,13 @@
 // Hops of a state, by start and length.
-use super::answer::put_span;
-use super::answer::shape_of;
+use answers::put_span;
+use answers::shape_of;
 use outgoing::span_of;
 ghost use mathlib.Core.Path.{_≡_};
 ghost use lib.ListN.{length};
 ghost use Rattle.graph.specs.Check.{accepted};
 ghost use Rattle.outgoing.specs.Outgoing.{chosen, spanOf};
-ghost use Rattle.capi.specs.Interface.{shapeOf, spanNumbers, returned, told};
+ghost use Rattle.answers.specs.Numbers.{shapeOf, spanNumbers, returned};
+ghost use Rattle.capi.specs.Interface.{told};
 
 #[no_mangle]
 pub extern "C" fn zf_hops_of(

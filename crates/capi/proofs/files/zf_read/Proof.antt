@@ -2,8 +2,9 @@
 use borrow.Author.Needs.{needs}
 use mathlib.Core.Path.{ap, _∙_}
 use Rattle.reader.specs.declared.Contents.{Contents}
-use Rattle.capi.specs.Interface.{contentsNumbers}
-use Rattle.capi.proofs.Answers.{returned-of, told-of, long-returns, short-told, long-told, short-kept, long-left}
+use Rattle.answers.specs.Numbers.{contentsNumbers}
+use Rattle.answers.proofs.Answers.{returned-of, long-returns}
+use Rattle.capi.proofs.Told.{told-of, short-told, long-told, short-kept, long-left}
 use Rattle.capi.proofs.Results.{found-answer}
 use Rattle.capi.proofs.files.zf_read.Statement.{statement}
 use Rattle.capi.proofs.files.zf_read.Tie as tie

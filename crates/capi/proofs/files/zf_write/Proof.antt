@@ -3,7 +3,8 @@ use borrow.Author.Needs.{needs}
 use mathlib.Core.Path.{ap, _∙_}
 use Rattle.writer.specs.declared.Written.{Written}
 use Rattle.capi.specs.Interface.{writtenNumbers}
-use Rattle.capi.proofs.Answers.{returned-of, told-of, long-returns, short-told, long-told, short-kept, long-left}
+use Rattle.answers.proofs.Answers.{returned-of, long-returns}
+use Rattle.capi.proofs.Told.{told-of, short-told, long-told, short-kept, long-left}
 use Rattle.capi.proofs.Results.{written-answer}
 use Rattle.capi.proofs.files.zf_write.Statement.{statement}
 use Rattle.capi.proofs.files.zf_write.Tie as tie

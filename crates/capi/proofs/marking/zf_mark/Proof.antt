@@ -3,8 +3,9 @@ use borrow.Author.Needs.{needs}
 use mathlib.Core.Path.{ap, _∙_}
 use mathlib.Core.List.{[]}
 use Rattle.graph.specs.declared.Answer.{Answer}
-use Rattle.capi.specs.Interface.{numbersOf}
-use Rattle.capi.proofs.Answers.{returned-of, told-of, long-returns, short-told, long-told, short-kept, long-left}
+use Rattle.answers.specs.Numbers.{numbersOf}
+use Rattle.answers.proofs.Answers.{returned-of, long-returns}
+use Rattle.capi.proofs.Told.{told-of, short-told, long-told, short-kept, long-left}
 use Rattle.capi.proofs.marking.zf_mark.Statement.{statement}
 use Rattle.capi.proofs.marking.zf_mark.Tie as tie
 

@@ -4,7 +4,8 @@ use mathlib.Core.Path.{ap, _∙_}
 use Rattle.rounds.specs.declared.RoundAnswer.{RoundAnswer}
 use Rattle.rounds.specs.Question.{questionOf}
 use Rattle.capi.specs.Interface.{roundNumbers}
-use Rattle.capi.proofs.Answers.{returned-of, told-of, long-returns, short-told, long-told}
+use Rattle.answers.proofs.Answers.{returned-of, long-returns}
+use Rattle.capi.proofs.Told.{told-of, short-told, long-told}
 use Rattle.capi.proofs.marking.zf_round.Statement.{statement}
 use Rattle.capi.proofs.marking.zf_round.Tie as tie
 

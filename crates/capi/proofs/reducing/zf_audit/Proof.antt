@@ -4,7 +4,8 @@ use mathlib.Core.Path.{ap, _∙_}
 use Rattle.bisimulation.specs.declared.Audit.{Audit}
 use Rattle.bisimulation.specs.Auditing.{auditOf}
 use Rattle.capi.specs.Interface.{auditNumbers}
-use Rattle.capi.proofs.Answers.{returned-of, told-of, long-returns, short-told, long-told}
+use Rattle.answers.proofs.Answers.{returned-of, long-returns}
+use Rattle.capi.proofs.Told.{told-of, short-told, long-told}
 use Rattle.capi.proofs.reducing.zf_audit.Statement.{statement}
 use Rattle.capi.proofs.reducing.zf_audit.Tie as tie
 

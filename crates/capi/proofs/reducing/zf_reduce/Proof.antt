@@ -2,8 +2,9 @@
 use borrow.Author.Needs.{needs}
 use mathlib.Core.Path.{ap, _∙_}
 use Rattle.quotient.specs.declared.Reduction.{Reduction}
-use Rattle.capi.specs.Interface.{reductionNumbers}
-use Rattle.capi.proofs.Answers.{returned-of, told-of, long-returns, short-told, long-told, short-kept, long-left}
+use Rattle.answers.specs.Numbers.{reductionNumbers}
+use Rattle.answers.proofs.Answers.{returned-of, long-returns}
+use Rattle.capi.proofs.Told.{told-of, short-told, long-told, short-kept, long-left}
 use Rattle.capi.proofs.Results.{reduced-answer}
 use Rattle.capi.proofs.reducing.zf_reduce.Statement.{statement}
 use Rattle.capi.proofs.reducing.zf_reduce.Tie as tie

@@ -2,8 +2,9 @@
 use borrow.Author.Needs.{needs}
 use mathlib.Core.Path.{refl, ap, _∙_}
 use Rattle.graph.specs.Check.{accepted}
-use Rattle.capi.specs.Interface.{spanNumbers}
-use Rattle.capi.proofs.Answers.{told-of, short-six, long-returns, short-told, long-told}
+use Rattle.answers.specs.Numbers.{spanNumbers}
+use Rattle.answers.proofs.Answers.{short-six, long-returns}
+use Rattle.capi.proofs.Told.{told-of, short-told, long-told}
 use Rattle.capi.proofs.span.zf_hops_of.Statement.{statement}
 use Rattle.capi.proofs.span.zf_hops_of.Tie as tie
 

@@ -2,14 +2,14 @@
 use Prim.Native.Nat.{ℕ, _+_, _<_, _≤_}
 use mathlib.Core.Path.{_≡_, refl, ap, _∙_}
 use mathlib.Core.Bool.{Bool, true, false, cond}
-use mathlib.Core.List.{List, [], _∷_, _++_}
+use mathlib.Core.List.{List, _++_}
 use native.Mathlib.Omega.{arith}
 use borrow.Author.Tests.{le-leb, lt-leb, eq-eqb, ne-eqb, eqb-true}
 use lib.ListN.{length, drop}
 use lib.Seq.{sets, sets-eq}
 use lib.Dec.{eqb, leb}
 use Rattle.graph.specs.declared.Answer.{Answer}
-use Rattle.capi.specs.Interface.{returned, told, unlessShort}
+use Rattle.answers.specs.Numbers.{returned}
 
 -- numbers stored one after another from the front
 pub stored : (vs out : List ℕ) → length vs ≤ length out → sets out 0 vs ≡ vs ++ drop (length vs) out
@@ -34,27 +34,6 @@ module _ (a : Answer) (n room : ℕ) where
     go true e = eqb-true _ _ e ∙ rw (le-leb n room l)
     go false e = refl
 
--- what is said of an answer, or of its numbers, is said of an equal one
+-- what is said of an answer is said of an equal one
 pub returned-of : (n room : ℕ) {a b : Answer} {r : ℕ} → a ≡ b → r ≡ returned a n room → r ≡ returned b n room
 returned-of n room e h = h ∙ ap (λ (x : Answer). returned x n room) e
-
-pub told-of : (n : ℕ) (old : List ℕ) {xs ys new : List ℕ} → xs ≡ ys → new ≡ told n xs old → new ≡ told n ys old
-told-of n old e h = h ∙ ap (λ (xs : List ℕ). told n xs old) e
-
-module _ (n : ℕ) (new old : List ℕ) where
-  pub short-told : length old < n → old ≡ told n new old
-  unfolding told
-  short-told l = rw (lt-leb n (length old) l)
-
-  pub long-told : n ≤ length old → new ++ drop n old ≡ told n new old
-  unfolding told
-  long-told l = rw (le-leb n (length old) l)
-
-module _ (n : ℕ) (answer new old : List ℕ) where
-  pub short-kept : length answer < n → old ≡ unlessShort n answer new old
-  unfolding unlessShort
-  short-kept l = rw (lt-leb n (length answer) l)
-
-  pub long-left : n ≤ length answer → new ≡ unlessShort n answer new old
-  unfolding unlessShort
-  long-left l = rw (le-leb n (length answer) l)

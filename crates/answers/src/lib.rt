@@ -8,9 +8,9 @@ ghost use mathlib.Core.Path.{_≡_};
 ghost use mathlib.Core.List.{[], _∷_, _++_};
 ghost use Prim.Native.Nat.{_<_, _≤_};
 ghost use lib.ListN.{length, drop};
-ghost use Rattle.capi.specs.Interface.{shapeOf, numbersOf, spanNumbers, reductionNumbers, contentsNumbers, returned};
+ghost use Rattle.answers.specs.Numbers.{shapeOf, numbersOf, spanNumbers, reductionNumbers, contentsNumbers, returned};
 
-pub(crate) fn shape_of(states: u32, labels: u32, initial: u32) -> Shape
+pub fn shape_of(states: u32, labels: u32, initial: u32) -> Shape
     ensures { λ r. ⌜ r ≡ shapeOf states labels initial ⌝ }
 {
     Shape {
@@ -21,7 +21,7 @@ pub(crate) fn shape_of(states: u32, labels: u32, initial: u32) -> Shape
 }
 
 // The number where the answer slice is too short: a refusal's own, else 6.
-pub(crate) fn short_number(a: Answer, room: usize, n: usize) -> u32
+pub fn short_number(a: Answer, room: usize, n: usize) -> u32
     requires { ⌜ room < n ⌝ }
     ensures { λ r. ⌜ r ≡ returned a n room ⌝ }
 {
@@ -33,7 +33,7 @@ pub(crate) fn short_number(a: Answer, room: usize, n: usize) -> u32
 }
 
 // An answer of three numbers.
-pub(crate) fn put_answer(out: &mut [u64], a: Answer)
+pub fn put_answer(out: &mut [u64], a: Answer)
     requires { ⌜ 3 ≤ length (now out) ⌝ }
     ensures { λ r. ⌜ now (out .exit) ≡ numbersOf a [] ++ drop 3 (now (out .entry)) ⌝ }
 {
@@ -43,7 +43,7 @@ pub(crate) fn put_answer(out: &mut [u64], a: Answer)
 }
 
 // An answer and one figure.
-pub(crate) fn put_figure(out: &mut [u64], a: Answer, figure: u64)
+pub fn put_figure(out: &mut [u64], a: Answer, figure: u64)
     requires { ⌜ 4 ≤ length (now out) ⌝ }
     ensures { λ r. ⌜ now (out .exit) ≡ numbersOf a (figure ∷ []) ++ drop 4 (now (out .entry)) ⌝ }
 {
@@ -54,7 +54,7 @@ pub(crate) fn put_figure(out: &mut [u64], a: Answer, figure: u64)
 }
 
 // Start and length of a part.
-pub(crate) fn put_span(out: &mut [u64], span: Span)
+pub fn put_span(out: &mut [u64], span: Span)
     requires { ⌜ 2 ≤ length (now out) ⌝ }
     ensures { λ r. ⌜ now (out .exit) ≡ spanNumbers span ++ drop 2 (now (out .entry)) ⌝ }
 {
@@ -63,7 +63,7 @@ pub(crate) fn put_span(out: &mut [u64], span: Span)
 }
 
 // An answer, and the short graph's counts and initial state.
-pub(crate) fn put_reduction(out: &mut [u64], reduction: Reduction)
+pub fn put_reduction(out: &mut [u64], reduction: Reduction)
     requires { ⌜ 7 ≤ length (now out) ⌝ }
     ensures { λ r. ⌜ now (out .exit) ≡ reductionNumbers reduction ++ drop 7 (now (out .entry)) ⌝ }
 {
@@ -79,7 +79,7 @@ pub(crate) fn put_reduction(out: &mut [u64], reduction: Reduction)
 }
 
 // An answer, the graph's counts and initial state, and where its name block stands.
-pub(crate) fn put_contents(out: &mut [u64], contents: Contents)
+pub fn put_contents(out: &mut [u64], contents: Contents)
     requires { ⌜ 9 ≤ length (now out) ⌝ }
     ensures { λ r. ⌜ now (out .exit) ≡ contentsNumbers contents ++ drop 9 (now (out .entry)) ⌝ }
 {

@@ -1,10 +1,10 @@
--- `capi::answer::put_span` meets its contract: the stores are the two numbers. Assumes nothing.
+-- `answers::put_span` meets its contract: the stores are the two numbers. Assumes nothing.
 use native.Mathlib.Omega.{arith}
 use lib.ListN.{length-set}
-use Rattle.capi.specs.Interface.{spanNumbers}
-use Rattle.capi.proofs.Answers.{stored}
-use Rattle.capi.proofs.answer.put_span.Statement.{statement}
-use Rattle.capi.proofs.answer.put_span.Tie as tie
+use Rattle.answers.specs.Numbers.{spanNumbers}
+use Rattle.answers.proofs.Answers.{stored}
+use Rattle.answers.proofs.put_span.Statement.{statement}
+use Rattle.answers.proofs.put_span.Tie as tie
 
 slice-write-out : tie.Need-slice-write-out
 slice-write-out c = omega arith

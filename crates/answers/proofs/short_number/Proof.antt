@@ -1,8 +1,8 @@
--- `capi::answer::short_number` meets its contract. Assumes nothing.
+-- `answers::short_number` meets its contract. Assumes nothing.
 use borrow.Author.Needs.{needs}
-use Rattle.capi.proofs.Answers.{short-six, refusal-returns}
-use Rattle.capi.proofs.answer.short_number.Statement.{statement}
-use Rattle.capi.proofs.answer.short_number.Tie as tie
+use Rattle.answers.proofs.Answers.{short-six, refusal-returns}
+use Rattle.answers.proofs.short_number.Statement.{statement}
+use Rattle.answers.proofs.short_number.Tie as tie
 
 returns : tie.Need-returns
 returns c = short-six _ _ _ (c .before .pre) (c .if1 .taken)
