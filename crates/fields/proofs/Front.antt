@@ -5,9 +5,9 @@ use mathlib.Core.List.{List, [], _∷_, _++_, append-assoc}
 use native.Mathlib.Numerals.{add-one}
 use native.Mathlib.Omega.{arith}
 use lib.ListN.{length, take, drop, set, getD, length-append, take-append-drop}
-use lib.Seq.{length-take-le, set-at, drop-cons, take-at, take-append-seam, drop-append-add, drop-drop}
+use lib.Seq.{length-take-le, set-at, drop-cons, take-at, take-append-seam, drop-append-add, drop-drop, ext-getD}
 use Rattle.graph.specs.Tests.{listed}
-use Rattle.graph.proofs.Tests.{length-listed}
+use Rattle.graph.proofs.Tests.{length-listed, getD-listed}
 use Rattle.fields.specs.Front.{onFront, over}
 
 -- one element more
@@ -68,3 +68,9 @@ module _ (f : ℕ → ℕ) (old : List ℕ) where
 
   pub listed-done : {out : List ℕ} {i n : ℕ} → out ≡ onFront (listed i f) old → i ≤ n → n ≤ i → out ≡ onFront (listed n f) old
   listed-done {i = i} {n = n} e l m = let q : n ≡ i = omega arith in rw q e
+
+-- a list is its own numbers, one after the other
+pub listed-self : (xs : List ℕ) → listed (length xs) (λ (i : ℕ). getD xs i 0) ≡ xs
+listed-self xs =
+    ext-getD 0 _ xs (length-listed (λ (i : ℕ). getD xs i 0) (length xs))
+    (λ i l. getD-listed (λ (j : ℕ). getD xs j 0) (length xs) (rw (length-listed (λ (j : ℕ). getD xs j 0) (length xs)) at l))

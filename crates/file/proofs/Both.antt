@@ -10,29 +10,27 @@ use borrow.Author.Tests.{eq-eqb, ne-eqb, eqb-true, eqb-false, le-leb, lt-leb, le
 use lib.ListN.{length, take, drop, length-drop}
 use lib.Seq.{take-at}
 use lib.Dec.{eqb, leb}
-use Rattle.graph.specs.Check.{accepted, refused, andThen, roomFor, checkOf, Admitted}
+use Rattle.graph.specs.Check.{accepted, refused, roomFor, Admitted}
 use Rattle.graph.specs.declared.Shape.{Shape}
 use Rattle.graph.specs.declared.Answer.{Answer}
 use Rattle.graph.proofs.Bools.{decided}
 use Rattle.graph.proofs.Checked.{check-admitted, admitted-check}
 use Rattle.graph.proofs.Accepts.{both-accept}
 use Rattle.names.proofs.Blocks.{name-later}
+use Rattle.fields.specs.Front.{onFront}
 use Rattle.fields.specs.Format.{hasNames, labelsIn, hopsIn, namesPlace, namesIn, restOf, need, shapeIn, hopListIn, blockPlace, blockLength, blockIn}
-use Rattle.reader.specs.Read.{formatAnswer, readAnswer, nothing, contentsOf, readOf, readHops}
+use Rattle.reader.specs.Read.{readAnswer, nothing, contentsOf, readOf, readHops}
 use Rattle.writer.specs.Encode.{encode}
 use Rattle.writer.specs.Write.{blockAnswer, namesGiven, graphAnswer, writeAnswer, nothingWritten, writeOf, writeBytes}
 use Rattle.file.specs.RoundTrip.{most-numbers, copyAnswer, copyOf, copyBytes, backAnswer, backOf, backBytes, backHops}
 use Rattle.reader.specs.declared.Contents.{Contents}
 use Rattle.writer.specs.declared.Written.{Written}
 use Rattle.fields.proofs.Laws.{names-on, names-off}
-use Rattle.reader.proofs.Entry.{count-hop-list, length-hop-list}
+use Rattle.reader.proofs.Entry.{hops-part, graph-accepts, hops-most}
 use Rattle.writer.proofs.Given.{block-good}
 use Rattle.reader.proofs.Sound.{Sound, accepted-sound}
 use Rattle.file.proofs.Again.{Bytes, names-within, block-again, block-some, block-none, decode-encode}
 use Rattle.file.proofs.Back.{ReadBack, encode-decode}
-
-pub six-refuses : {a : Answer} → a ≡ refused 6 0 → a .number ≡ 0 → ⊥
-six-refuses {a} e z = let d : a .number ≡ 6 = ap (λ (x : Answer). x .number) e in omega arith
 
 -- what the entries' results say of their answers
 module _ (b : List ℕ) (room : ℕ) {c : Contents} (e : c ≡ readOf b room) where
@@ -70,17 +68,11 @@ module _ (b : List ℕ) (room : ℕ) (small : Bytes b) (z : readAnswer b room .n
   sound : Sound b
   sound = accepted-sound b room z
 
-  graph-number : checkOf (shapeIn b) (hopListIn b) .number ≡ 0
-  unfolding readAnswer
-  graph-number =
-      both-accept (checkOf (shapeIn b) (hopListIn b)) (roomFor (3 * hopsIn b) room)
-      (both-accept (formatAnswer b) (andThen (checkOf (shapeIn b) (hopListIn b)) (roomFor (3 * hopsIn b) room)) z .1) .0
-
   admitted-again : Admitted (shapeIn b) (hopListIn b)
-  admitted-again = check-admitted (shapeIn b) (hopListIn b) graph-number
+  admitted-again = check-admitted (shapeIn b) (hopListIn b) (graph-accepts b room z)
 
   pub hops-again-most : 3 * hopsIn b ≤ most-numbers
-  hops-again-most = omega (arith, admitted-again .hops-most, count-hop-list b)
+  hops-again-most = omega (arith, hops-most b room z)
 
   pub block-within : blockPlace b + blockLength b ≤ length b
   block-within =
@@ -144,12 +136,9 @@ module _ (b before : List ℕ) (small : Bytes b) (l : length before ≡ most-num
     found-block =
         omega (arith, block-within b most-numbers small (found .0), ap (λ (x : Contents). x .«names_place») (found .1), ap (λ (x : Contents). x .«names_len») (found .1))
 
-    hops-part : {hops : List ℕ} → hops ≡ readHops b before → take (3 * c .hops - 0) (drop 0 hops) ≡ hopListIn b
+    hops-there : {hops : List ℕ} → hops ≡ readHops b before → hops ≡ onFront (hopListIn b) before
     unfolding readHops
-    hops-part h =
-        rw (h, eq-eqb (readAnswer b (length before) .number) 0 (ap (λ (n : ℕ). readAnswer b n .number) l ∙ found .0))
-        (take-at (hopListIn b) (drop (length (hopListIn b)) before) (3 * c .hops - 0)
-        (omega (arith, length-hop-list b, ap (λ (x : Contents). x .hops) (found .1))))
+    hops-there h = h ∙ rw (eq-eqb (readAnswer b (length before) .number) 0 (ap (λ (n : ℕ). readAnswer b n .number) l ∙ found .0))
 
     block-part : take (c .«names_place» + c .«names_len» - c .«names_place») (drop (c .«names_place») b) ≡ blockIn b
     unfolding blockIn
@@ -157,17 +146,17 @@ module _ (b before : List ℕ) (small : Bytes b) (l : length before ≡ most-num
       size : c .«names_place» + c .«names_len» - c .«names_place» ≡ blockLength b
       size = omega (arith, ap (λ (x : Contents). x .«names_len») (found .1))
 
-    pub copy-gives : {hops : List ℕ} (old : List ℕ) {r : Written} {out : List ℕ} → hops ≡ readHops b before →
-        r ≡ writeOf (c .shape) (take (3 * c .hops - 0) (drop 0 hops)) (take (c .«names_place» + c .«names_len» - c .«names_place») (drop (c .«names_place») b)) (length old) →
-        out ≡ writeBytes (c .shape) (take (3 * c .hops - 0) (drop 0 hops)) (take (c .«names_place» + c .«names_len» - c .«names_place») (drop (c .«names_place») b)) old →
+    pub copy-gives : {hops : List ℕ} (old : List ℕ) {r : Written} {out : List ℕ} {n : ℕ} → hops ≡ readHops b before → n ≡ 3 * c .hops →
+        r ≡ writeOf (c .shape) (take (n - 0) (drop 0 hops)) (take (c .«names_place» + c .«names_len» - c .«names_place») (drop (c .«names_place») b)) (length old) →
+        out ≡ writeBytes (c .shape) (take (n - 0) (drop 0 hops)) (take (c .«names_place» + c .«names_len» - c .«names_place») (drop (c .«names_place») b)) old →
         (r ≡ copyOf b (length old)) × (out ≡ copyBytes b old)
-    copy-gives old h p q =
+    copy-gives old {n = n} h m p q =
         let g = copy-accepted b old small (found .0) in
         (p ∙ same-three (λ (s : Shape) (hs ns : List ℕ). writeOf s hs ns (length old)) h ∙ g .0, q ∙ same-three (λ (s : Shape) (hs ns : List ℕ). writeBytes s hs ns old) h ∙ g .1) where
           same-three : {A : Type 0} (f : Shape → List ℕ → List ℕ → A) {hops : List ℕ} → hops ≡ readHops b before →
-              f (c .shape) (take (3 * c .hops - 0) (drop 0 hops)) (take (c .«names_place» + c .«names_len» - c .«names_place») (drop (c .«names_place») b)) ≡
+              f (c .shape) (take (n - 0) (drop 0 hops)) (take (c .«names_place» + c .«names_len» - c .«names_place») (drop (c .«names_place») b)) ≡
               f (shapeIn b) (hopListIn b) (blockIn b)
-          same-three f h = rw (hops-part h, block-part) (ap (λ (x : Contents). f (x .shape) (hopListIn b) (blockIn b)) (found .1))
+          same-three f {hops} h = rw (hops-part b hops before (hops-there h) (m ∙ ap (λ (x : Contents). 3 * x .hops) (found .1)), block-part) (ap (λ (x : Contents). f (x .shape) (hopListIn b) (blockIn b)) (found .1))
 
 -- the ways out of writing and reading again
 module _ (sh : Shape) (hs ns file again : List ℕ) where

@@ -1,5 +1,6 @@
 // The two round trips over the entries: a file read and written again, and a graph written and read again.
 use graph::Shape;
+use graph::hops::number_place;
 use graph::limits::refuse;
 use reader::Contents;
 use reader::reading::read;
@@ -24,7 +25,7 @@ pub fn copy_file(file: &[u8], out: &mut [u8]) -> Written
         return unwritten(answer);
     }
     let shape = found.shape;
-    let n = 3 * found.hops;
+    let n = number_place(found.hops);
     let start = found.names_place;
     let end = start + found.names_len;
     write(shape, &hops[0..n], &file[start..end], out)

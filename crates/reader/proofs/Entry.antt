@@ -1,6 +1,6 @@
 -- The ways out of the entry `read`: the format speaks, then the graph, then the room; else all that the file holds is given. Assumes nothing.
 use Prim.Native.Nat.{ℕ, _+_, _-_, _*_, _<_, _≤_}
-use mathlib.Core.Path.{_≡_, refl, ap, _∙_}
+use mathlib.Core.Path.{_≡_, refl, sym, ap, _∙_}
 use mathlib.Core.Bool.{false, _&&_}
 use mathlib.Core.List.{List}
 use native.Mathlib.Omega.{arith}
@@ -15,7 +15,7 @@ use Rattle.graph.specs.declared.Shape.{Shape}
 use Rattle.graph.specs.declared.Answer.{Answer}
 use Rattle.graph.proofs.Bools.{and-no-left, and-no-right, not-no}
 use Rattle.graph.proofs.Tests.{length-listed}
-use Rattle.graph.proofs.Checked.{check-counts}
+use Rattle.graph.proofs.Checked.{check-counts, check-admitted}
 use Rattle.graph.proofs.Accepts.{both-accept, second-accepts, room-accepts}
 use Rattle.fields.specs.Format.{numberAt, hopsPlace, hopsIn, shapeIn, hopListIn}
 use Rattle.fields.specs.Front.{onFront}
@@ -27,6 +27,10 @@ unfolding countsFit
 unfit sh hs l =
     and-no-left (whole hs)
     (and-no-right (leb 1 (sh .states) && leb (sh .states) most-states && leb 1 (sh .labels) && leb (sh .labels) most-labels) (lt-leb _ _ l))
+
+-- a row that speaks does not accept
+pub row-refuses : {a : Answer} {n p : ℕ} → a ≡ refused n p → 1 ≤ n → a .number ≡ 0 → ⊥
+row-refuses {a} {n} e l z = let d : a .number ≡ n = ap (λ (x : Answer). x .number) e in omega arith
 
 module _ (b : List ℕ) where
   pub length-hop-list : length (hopListIn b) ≡ 3 * hopsIn b
@@ -40,17 +44,23 @@ module _ (b : List ℕ) where
   pub graph-many : {n : ℕ} → n ≡ hopsIn b → most-hops < n → refused 1 0 ≡ checkOf (shapeIn b) (hopListIn b)
   graph-many e l = check-counts (shapeIn b) (hopListIn b) refl (not-no (unfit (shapeIn b) (hopListIn b) (omega (arith, count-hop-list))))
 
-  copied : {p n : ℕ} → p ≡ hopsPlace b → n ≡ hopsIn b → listed (3 * n) (λ (i : ℕ). numberAt b (p + 2 + 2 * i)) ≡ hopListIn b
+  pub graph-few : {g : Answer} → g ≡ checkOf (shapeIn b) (hopListIn b) → g .number ≡ 0 → hopsIn b ≤ most-hops
+  graph-few e z = rw (← count-hop-list) (check-admitted (shapeIn b) (hopListIn b) (ap (λ (x : Answer). x .number) (sym e) ∙ z) .hops-most)
+
+  copied : {p n : ℕ} → p ≡ hopsPlace b → n ≡ 3 * hopsIn b → listed n (λ (i : ℕ). numberAt b (p + 2 + 2 * i)) ≡ hopListIn b
   unfolding hopListIn
-  copied {p} {n} e d = ap (λ (k : ℕ). listed (3 * n) (λ (i : ℕ). numberAt b (k + 2 + 2 * i))) e ∙ ap (λ (k : ℕ). listed (3 * k) (λ (i : ℕ). numberAt b (hopsPlace b + 2 + 2 * i))) d
+  copied {p} {n} e d = ap (λ (k : ℕ). listed n (λ (i : ℕ). numberAt b (k + 2 + 2 * i))) e ∙ ap (λ (k : ℕ). listed k (λ (i : ℕ). numberAt b (hopsPlace b + 2 + 2 * i))) d
 
-  module _ {p n : ℕ} (e : p ≡ hopsPlace b) (d : n ≡ hopsIn b) where
-    pub graph-copied : (copy old : List ℕ) {sh : Shape} → copy ≡ onFront (listed (3 * n) (λ (i : ℕ). numberAt b (p + 2 + 2 * i))) old → sh ≡ shapeIn b →
-        checkOf sh (take (3 * n - 0) (drop 0 copy)) ≡ checkOf (shapeIn b) (hopListIn b)
-    graph-copied copy old h s = rw (h, copied e d, s) (ap (checkOf (shapeIn b)) (take-at (hopListIn b) (drop (length (hopListIn b)) old) (3 * n - 0) (omega (arith, length-hop-list))))
+  -- a list with the hops in front, and its part that has just them
+  pub hops-part : (copy old : List ℕ) {n : ℕ} → copy ≡ onFront (hopListIn b) old → n ≡ 3 * hopsIn b → take (n - 0) (drop 0 copy) ≡ hopListIn b
+  hops-part copy old {n} h d = rw h (take-at (hopListIn b) (drop (length (hopListIn b)) old) (n - 0) (omega (arith, length-hop-list)))
 
-    pub front-copied : (out old : List ℕ) → out ≡ onFront (listed (3 * n) (λ (i : ℕ). numberAt b (p + 2 + 2 * i))) old → out ≡ onFront (hopListIn b) old
-    front-copied out old h = rw (copied e d) at h
+  module _ {p n : ℕ} (e : p ≡ hopsPlace b) (d : n ≡ 3 * hopsIn b) (copy old : List ℕ) (h : copy ≡ onFront (listed n (λ (i : ℕ). numberAt b (p + 2 + 2 * i))) old) where
+    pub front-copied : copy ≡ onFront (hopListIn b) old
+    front-copied = rw (copied e d) at h
+
+    pub graph-copied : {sh : Shape} → sh ≡ shapeIn b → checkOf sh (take (n - 0) (drop 0 copy)) ≡ checkOf (shapeIn b) (hopListIn b)
+    graph-copied s = rw s (ap (checkOf (shapeIn b)) (hops-part copy old front-copied d))
 
   module _ (room : ℕ) {a : Answer} (f : a ≡ formatAnswer b) where
     pub format-speaks : (a .number ≡ 0 → ⊥) → a ≡ readAnswer b room
@@ -62,12 +72,12 @@ module _ (b : List ℕ) where
       unfolding readAnswer
       graph-speaks n = rw (← f, eq-eqb _ _ z, ← e, ne-eqb _ _ n)
 
-      module _ (y : g .number ≡ 0) {n : ℕ} (d : n ≡ hopsIn b) where
-        pub room-speaks : room < 3 * n → refused 6 0 ≡ readAnswer b room
+      module _ (y : g .number ≡ 0) {n : ℕ} (d : n ≡ 3 * hopsIn b) where
+        pub room-speaks : room < n → refused 6 0 ≡ readAnswer b room
         unfolding readAnswer
         room-speaks l = rw (← f, eq-eqb _ _ z, ← e, eq-eqb _ _ y, ← d, lt-leb _ _ l)
 
-        pub none-speaks : 3 * n ≤ room → accepted ≡ readAnswer b room
+        pub none-speaks : n ≤ room → accepted ≡ readAnswer b room
         unfolding readAnswer
         none-speaks l = rw (← f, eq-eqb _ _ z, ← e, eq-eqb _ _ y, ← d, le-leb _ _ l)
 
@@ -79,6 +89,15 @@ module _ (b : List ℕ) where
       let (h, r) = both-accept (checkOf (shapeIn b) (hopListIn b)) (roomFor (3 * hopsIn b) room) g in
       let (a, l) = room-accepts (3 * hopsIn b) room r in
       (second-accepts (formatAnswer b) _ z ∙ second-accepts (checkOf (shapeIn b) (hopListIn b)) _ g ∙ a, l)
+
+  pub graph-accepts : (room : ℕ) → readAnswer b room .number ≡ 0 → checkOf (shapeIn b) (hopListIn b) .number ≡ 0
+  unfolding readAnswer
+  graph-accepts room z =
+      both-accept (checkOf (shapeIn b) (hopListIn b)) (roomFor (3 * hopsIn b) room)
+      (both-accept (formatAnswer b) (andThen (checkOf (shapeIn b) (hopListIn b)) (roomFor (3 * hopsIn b) room)) z .1) .0
+
+  pub hops-most : (room : ℕ) → readAnswer b room .number ≡ 0 → hopsIn b ≤ most-hops
+  hops-most room z = graph-few refl (graph-accepts room z)
 
   -- what a refusal and an acceptance give and write
   module _ (old : List ℕ) where

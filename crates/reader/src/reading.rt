@@ -11,6 +11,7 @@ use fields::number_at;
 use fields::shape_in;
 use graph::Answer;
 use graph::Shape;
+use graph::hops::number_place;
 use graph::limits::accept;
 use graph::limits::check;
 use graph::limits::refuse;
@@ -84,18 +85,31 @@ fn copy_numbers(file: &[u8], at: usize, n: usize, out: &mut [u16])
     }
 }
 
-// 1 to 4, asked of a copy of the hops: a refusal must not have written any.
-fn graph_answer(file: &[u8]) -> Answer
-    ensures { λ r. ⌜ r ≡ checkOf (shapeIn (now (file .entry))) (hopListIn (now (file .entry))) ⌝ }
+// The numbers of one list, to the front of another.
+fn put_front(numbers: &[u16], out: &mut [u16])
+    requires { ⌜ length (now numbers) ≤ length (now out) ⌝ }
+    ensures { λ _. ⌜ now (out .exit) ≡ onFront (now (numbers .entry)) (now (out .entry)) ⌝ }
+{
+    let mut i: usize = 0;
+    while i < numbers.len() {
+        out[i] = numbers[i];
+        i += 1;
+    }
+}
+
+// 1 to 4, asked of a copy of the hops: a refusal must not have written any. Where they pass, the copy holds them all.
+fn graph_answer(file: &[u8], copy: &mut [u16]) -> Answer
+    requires { ⌜ length (now copy) ≡ 12288 ⌝ }
+    ensures answers { λ r. ⌜ r ≡ checkOf (shapeIn (now (file .entry))) (hopListIn (now (file .entry))) ⌝ }
+    ensures copies { λ r. ⌜ (r .number ≡ 0 → now (copy .exit) ≡ onFront (hopListIn (now (file .entry))) (now (copy .entry))) ⌝ }
 {
     let count = hops_in(file) as usize;
     if MOST_HOPS < count {
         return refuse(1, 0);
     }
-    let n = 3 * count;
+    let n = number_place(count);
     let at = hops_place(file) + 2;
-    let mut copy = [0u16; 12288];
-    copy_numbers(file, at, n, &mut copy);
+    copy_numbers(file, at, n, copy);
     check(shape_in(file), &copy[0..n])
 }
 
@@ -133,22 +147,32 @@ fn contents(file: &[u8]) -> Contents
     }
 }
 
-// The answer, before anything is written: the format, then 1 to 4, then 6.
-pub fn read_answer(file: &[u8], room: usize) -> Answer
-    ensures { λ r. ⌜ r ≡ readAnswer (now (file .entry)) room ⌝ }
+// The answer, before anything is written: the format, then 1 to 4, then 6. With acceptance the copy holds the hops.
+fn decode(file: &[u8], room: usize, copy: &mut [u16]) -> Answer
+    requires { ⌜ length (now copy) ≡ 12288 ⌝ }
+    ensures answers { λ r. ⌜ r ≡ readAnswer (now (file .entry)) room ⌝ }
+    ensures copies { λ r. ⌜ (r .number ≡ 0 → now (copy .exit) ≡ onFront (hopListIn (now (file .entry))) (now (copy .entry))) ⌝ }
 {
     let format = format_answer(file);
     if format.number != 0 {
         return format;
     }
-    let graph = graph_answer(file);
+    let graph = graph_answer(file, copy);
     if graph.number != 0 {
         return graph;
     }
-    if room < 3 * (hops_in(file) as usize) {
+    if room < number_place(hops_in(file) as usize) {
         return refuse(6, 0);
     }
     accept()
+}
+
+// The answer alone.
+pub fn read_answer(file: &[u8], room: usize) -> Answer
+    ensures { λ r. ⌜ r ≡ readAnswer (now (file .entry)) room ⌝ }
+{
+    let mut copy = [0u16; 12288];
+    decode(file, room, &mut copy)
 }
 
 // The entry. Nothing is written before the last check, 6, has passed.
@@ -156,12 +180,12 @@ pub fn read(file: &[u8], hops: &mut [u16]) -> Contents
     ensures answers { λ r. ⌜ r ≡ readOf (now (file .entry)) (length (now (hops .entry))) ⌝ }
     ensures writes { λ _. ⌜ now (hops .exit) ≡ readHops (now (file .entry)) (now (hops .entry)) ⌝ }
 {
-    let answer = read_answer(file, hops.len());
+    let mut copy = [0u16; 12288];
+    let answer = decode(file, hops.len(), &mut copy);
     if answer.number != 0 {
         return refusal(answer);
     }
-    let n = 3 * (hops_in(file) as usize);
-    let at = hops_place(file) + 2;
-    copy_numbers(file, at, n, hops);
+    let n = number_place(hops_in(file) as usize);
+    put_front(&copy[0..n], hops);
     contents(file)
 }

@@ -29,8 +29,8 @@ unwritten-requires c κs = search needs
 returns : tie.Need-returns
 returns c = let g = copy-unread (c .before .before .before .before .before .before .before .before .before .args .file .now) local (λ i. c .before .before .before .before .before .before .before .before .shared-slice-known .given i .fits) local-length (c .before .before .before .before .before .read .ensures .0) (c .before .before .before .before .before .before .before .before .before .args .out .now) (c .before .if1 .taken) in (c .unwritten .ensures ∙ g .0, g .1)
 
-mul-n : tie.Need-mul-n
-mul-n c = omega (arith, found-hops (c .before .before .before .before .before .before .before .before .before .before .args .file .now) local (λ i. c .before .before .before .before .before .before .before .before .before .shared-slice-known .given i .fits) local-length (c .before .before .before .before .before .before .read .ensures .0) (c .before .before .if1 .left))
+number-place-requires : tie.Need-number-place-requires
+number-place-requires c κs = omega (arith, found-hops (c .before .before .before .before .before .before .before .before .before .args .file .now) local (λ i. c .before .before .before .before .before .before .before .before .shared-slice-known .given i .fits) local-length (c .before .before .before .before .before .read .ensures .0) (c .before .if1 .left))
 
 add-end : tie.Need-add-end
 add-end c = omega (arith, found-block (c .before .before .before .before .before .before .before .before .before .before .before .args .file .now) local (λ i. c .before .before .before .before .before .before .before .before .before .before .shared-slice-known .given i .fits) local-length (c .before .before .before .before .before .before .before .read .ensures .0) (c .before .before .before .if1 .left))
@@ -42,7 +42,7 @@ part-write-start : tie.Need-part-write-start
 part-write-start c = search needs
 
 part-write-end : tie.Need-part-write-end
-part-write-end c = omega (arith, found-hops (c .before .before .before .before .before .before .before .before .before .before .before .before .args .file .now) local (λ i. c .before .before .before .before .before .before .before .before .before .before .before .shared-slice-known .given i .fits) local-length (c .before .before .before .before .before .before .before .before .read .ensures .0) (c .before .before .before .before .if1 .left))
+part-write-end c = omega (arith, found-hops (c .before .before .before .before .before .before .before .before .before .before .before .before .args .file .now) local (λ i. c .before .before .before .before .before .before .before .before .before .before .before .shared-slice-known .given i .fits) local-length (c .before .before .before .before .before .before .before .before .read .ensures .0) (c .before .before .before .before .if1 .left), c .before .before .number-place .ensures)
 
 sub-write-2 : tie.Need-sub-write-2
 sub-write-2 c = search needs
@@ -60,7 +60,7 @@ same-length : tie.Need-same-length
 same-length c = search needs
 
 returns-2 : tie.Need-returns-2
-returns-2 c = copy-gives (c .before .before .before .before .before .before .before .before .before .before .before .before .before .before .before .before .before .before .args .file .now) local (λ i. c .before .before .before .before .before .before .before .before .before .before .before .before .before .before .before .before .before .shared-slice-known .given i .fits) local-length (c .before .before .before .before .before .before .before .before .before .before .before .before .before .before .read .ensures .0) (c .before .before .before .before .before .before .before .before .before .before .if1 .left) (c .before .before .before .before .before .before .before .before .before .before .before .before .before .before .before .before .before .before .args .out .now) (c .before .before .before .before .before .before .before .before .before .before .before .before .before .before .read .ensures .1) (c .before .before .write .ensures .0) (c .before .before .write .ensures .1)
+returns-2 c = copy-gives (c .before .before .before .before .before .before .before .before .before .before .before .before .before .before .before .before .before .before .args .file .now) local (λ i. c .before .before .before .before .before .before .before .before .before .before .before .before .before .before .before .before .before .shared-slice-known .given i .fits) local-length (c .before .before .before .before .before .before .before .before .before .before .before .before .before .before .read .ensures .0) (c .before .before .before .before .before .before .before .before .before .before .if1 .left) (c .before .before .before .before .before .before .before .before .before .before .before .before .before .before .before .before .before .before .args .out .now) (c .before .before .before .before .before .before .before .before .before .before .before .before .before .before .read .ensures .1) (c .before .before .before .before .before .before .before .before .number-place .ensures) (c .before .before .write .ensures .0) (c .before .before .write .ensures .1)
 
 pub copy-file-spec : {M : Type 1} → statement M
 copy-file-spec =
@@ -70,7 +70,7 @@ copy-file-spec =
     read-requires
     unwritten-requires
     returns
-    mul-n
+    number-place-requires
     add-end
     sub-write
     part-write-start

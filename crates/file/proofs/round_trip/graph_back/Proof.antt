@@ -1,7 +1,8 @@
 -- `file::round_trip::graph_back` meets its contract: what was written is read, and it is the graph that was given. Assumes nothing.
 use mathlib.Core.Path.{_∙_}
 use native.Mathlib.Omega.{arith}
-use Rattle.file.proofs.Both.{six-refuses, put-accepted, back-refused, back-graph, back-room, back-unwritten, written-room, back-gives}
+use Rattle.reader.proofs.Entry.{row-refuses}
+use Rattle.file.proofs.Both.{put-accepted, back-refused, back-graph, back-room, back-unwritten, written-room, back-gives}
 use borrow.Author.Needs.{needs}
 use Rattle.file.proofs.round_trip.graph_back.Statement.{statement}
 use Rattle.file.proofs.round_trip.graph_back.Tie as tie
@@ -23,7 +24,7 @@ refusal-requires-2 : tie.Need-refusal-requires-2
 refusal-requires-2 c κs = search needs
 
 returns-2 : tie.Need-returns-2
-returns-2 c = let g = back-refused (c .before .before .before .before .before .before .before .before .before .before .args .shape) (c .before .before .before .before .before .before .before .before .before .before .args .hops .now) (c .before .before .before .before .before .before .before .before .before .before .args .names .now) (c .before .before .before .before .before .before .before .before .before .before .args .file .now) (c .before .before .before .before .before .before .before .before .before .before .args .again .now) (c .before .refuse .ensures ∙ back-room (c .before .before .before .before .before .before .before .before .before .before .args .shape) (c .before .before .before .before .before .before .before .before .before .before .args .hops .now) (c .before .before .before .before .before .before .before .before .before .before .args .names .now) (c .before .before .before .before .before .before .before .before .before .before .args .file .now) (c .before .before .before .before .before .before .before .before .before .before .args .again .now) (c .before .before .before .before .before .graph-answer .ensures) (c .before .before .before .if1 .left) (c .before .before .if2 .taken)) (six-refuses (c .before .refuse .ensures)) in
+returns-2 c = let g = back-refused (c .before .before .before .before .before .before .before .before .before .before .args .shape) (c .before .before .before .before .before .before .before .before .before .before .args .hops .now) (c .before .before .before .before .before .before .before .before .before .before .args .names .now) (c .before .before .before .before .before .before .before .before .before .before .args .file .now) (c .before .before .before .before .before .before .before .before .before .before .args .again .now) (c .before .refuse .ensures ∙ back-room (c .before .before .before .before .before .before .before .before .before .before .args .shape) (c .before .before .before .before .before .before .before .before .before .before .args .hops .now) (c .before .before .before .before .before .before .before .before .before .before .args .names .now) (c .before .before .before .before .before .before .before .before .before .before .args .file .now) (c .before .before .before .before .before .before .before .before .before .before .args .again .now) (c .before .before .before .before .before .graph-answer .ensures) (c .before .before .before .if1 .left) (c .before .before .if2 .taken)) (row-refuses (c .before .refuse .ensures) (omega arith)) in
     (c .refusal2 .ensures ∙ g .0, g .1)
 
 write-requires : tie.Need-write-requires
