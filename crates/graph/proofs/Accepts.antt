@@ -1,25 +1,30 @@
--- What it means that answers one after the other accept. Assumes nothing.
+-- Answers one after the other: which one speaks, and what it means that all accept. Assumes nothing.
 use Prim.Native.Nat.{ℕ, _≤_}
 use mathlib.Core.Path.{_≡_, refl}
 use mathlib.Core.Bool.{Bool, true, false, cond}
 use native.Mathlib.Omega.{arith}
-use borrow.Author.Tests.{eq-eqb, eqb-true, eqb-false, leb-true}
+use borrow.Author.Tests.{eq-eqb, ne-eqb, eqb-true, eqb-false, leb-true}
 use lib.Dec.{eqb, leb}
 use Rattle.graph.specs.Check.{accepted, refused, andThen, roomFor}
 use Rattle.graph.specs.declared.Answer.{Answer}
+
+-- the first answer speaks, or the second
+pub then-first : (a b : Answer) → (a .number ≡ 0 → ⊥) → andThen a b ≡ a
+then-first a b n = rw (ne-eqb (a .number) 0 n)
+
+pub then-next : (a b : Answer) → a .number ≡ 0 → andThen a b ≡ b
+then-next a b e = rw (eq-eqb (a .number) 0 e)
 
 -- two answers one after the other accept where both do
 pub both-accept : (a b : Answer) → andThen a b .number ≡ 0 → (a .number ≡ 0) × (b .number ≡ 0)
 both-accept a b e = go (eqb (a .number) 0) refl e where
   go : (t : Bool) → eqb (a .number) 0 ≡ t → (cond t b a) .number ≡ 0 → (a .number ≡ 0) × (b .number ≡ 0)
   go true d z = (eqb-true _ _ d, z)
-  go false d z = absurd (no-zero d z) where
-    no-zero : eqb (a .number) 0 ≡ false → a .number ≡ 0 → ⊥
-    no-zero d z = eqb-false _ _ d z
+  go false d z = absurd (eqb-false _ _ d z)
 
 -- and the answer is then that of the second
 pub second-accepts : (a b : Answer) → andThen a b .number ≡ 0 → andThen a b ≡ b
-second-accepts a b e = rw (eq-eqb (a .number) 0 (both-accept a b e .0))
+second-accepts a b e = then-next a b (both-accept a b e .0)
 
 -- a room that is not refused is wide enough
 pub room-accepts : (n r : ℕ) → roomFor n r .number ≡ 0 → (roomFor n r ≡ accepted) × (n ≤ r)

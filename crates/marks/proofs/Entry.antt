@@ -1,39 +1,18 @@
 -- The answer of `mark` row by row, and what its acceptance gives: an admitted graph, with room for one mark a hop. Assumes nothing.
 use Prim.Native.Nat.{ℕ, _<_, _≤_}
-use mathlib.Core.Path.{_≡_, refl, sym, _∙_}
-use mathlib.Core.Bool.{Bool, true, false, cond}
+use mathlib.Core.Path.{_≡_, sym, _∙_}
 use mathlib.Core.List.{List, _++_}
-use native.Mathlib.Omega.{arith}
 use lib.ListN.{length, drop}
 use lib.Dec.{eqb, leb}
-use borrow.Author.Tests.{eqb-true, eqb-false, eq-eqb, ne-eqb, leb-true, le-leb, lt-leb}
+use borrow.Author.Tests.{eq-eqb, ne-eqb, le-leb, lt-leb}
 use Rattle.graph.specs.Hops.{count}
 use Rattle.graph.specs.Check.{checkOf, accepted, refused, andThen, roomFor, Admitted}
 use Rattle.graph.specs.declared.Shape.{Shape}
 use Rattle.graph.specs.declared.Answer.{Answer}
 use Rattle.graph.proofs.Checked.{check-admitted}
+use Rattle.graph.proofs.Accepts.{then-first, then-next, both-accept, room-accepts}
 use Rattle.silent.specs.Silent.{ringless}
 use Rattle.marks.specs.Mark.{marksOf, markAnswer, markOutput}
-
--- the first answer speaks, or the second
-pub then-first : (a b : Answer) → (a .number ≡ 0 → ⊥) → andThen a b ≡ a
-then-first a b n = rw (ne-eqb (a .number) 0 n)
-
-pub then-next : (a b : Answer) → a .number ≡ 0 → andThen a b ≡ b
-then-next a b e = rw (eq-eqb (a .number) 0 e)
-
--- both accept where the whole does
-pub then-both : (a b : Answer) → andThen a b .number ≡ 0 → (a .number ≡ 0) × (b .number ≡ 0)
-then-both a b e = go (eqb (a .number) 0) refl e where
-  go : (t : Bool) → eqb (a .number) 0 ≡ t → cond t b a .number ≡ 0 → (a .number ≡ 0) × (b .number ≡ 0)
-  go true d h = (eqb-true (a .number) 0 d, h)
-  go false d h = absurd (eqb-false (a .number) 0 d h)
-
-pub room-given : (n r : ℕ) → roomFor n r .number ≡ 0 → n ≤ r
-room-given n r e = go (leb n r) refl e where
-  go : (t : Bool) → leb n r ≡ t → cond t accepted (refused 6 0) .number ≡ 0 → n ≤ r
-  go true d h = leb-true n r d
-  go false d h = absurd (omega arith)
 
 module _ (sh : Shape) (hs out : List ℕ) where
   -- the ways out of the code, in order
@@ -61,12 +40,12 @@ module _ (sh : Shape) (hs out : List ℕ) where
 
   pub mark-admitted : markAnswer sh hs out .number ≡ 0 → Admitted sh hs
   unfolding markAnswer
-  mark-admitted e = check-admitted sh hs (then-both (checkOf sh hs) _ e .0)
+  mark-admitted e = check-admitted sh hs (both-accept (checkOf sh hs) _ e .0)
 
   pub mark-room : markAnswer sh hs out .number ≡ 0 → count hs ≤ length out
   unfolding markAnswer
   mark-room e =
-      room-given (count hs) (length out) (then-both (ringless sh hs) _ (then-both (checkOf sh hs) _ e .1) .1)
+      room-accepts (count hs) (length out) (both-accept (ringless sh hs) _ (both-accept (checkOf sh hs) _ e .1) .1) .1
 
   -- what stands in the output afterwards
   pub output-marked : markAnswer sh hs out .number ≡ 0 → marksOf hs ++ drop (count hs) out ≡ markOutput sh hs out

@@ -15,7 +15,7 @@ use Rattle.graph.specs.declared.Answer.{Answer}
 use Rattle.graph.proofs.Bools.{clash, or-yes, lt-or-le}
 use Rattle.graph.proofs.Checked.{check-admitted}
 use Rattle.silent.specs.Silent.{ringless}
-use Rattle.marks.proofs.Entry.{then-first, then-next, then-both, room-given}
+use Rattle.graph.proofs.Accepts.{then-first, then-next, both-accept, room-accepts}
 use Rattle.representatives.specs.Tables.{Reducible}
 use Rattle.short.specs.Short.{shortHops, mapList}
 use Rattle.quotient.specs.Reduce.{reduceAnswer, reduction, reduceOf, written, mapOutput, shortOutput}
@@ -66,22 +66,22 @@ module _ (sh : Shape) (hs : List ℕ) (m k : ℕ) where
   module _ (z : reduceAnswer sh hs m k .number ≡ 0) where
     checked : (checkOf sh hs .number ≡ 0) × (andThen (ringless sh hs) room .number ≡ 0)
     unfolding reduceAnswer
-    checked = then-both (checkOf sh hs) (andThen (ringless sh hs) room) z
+    checked = both-accept (checkOf sh hs) (andThen (ringless sh hs) room) z
 
     ringed : (ringless sh hs .number ≡ 0) × (room .number ≡ 0)
-    ringed = then-both (ringless sh hs) room (checked .1)
+    ringed = both-accept (ringless sh hs) room (checked .1)
 
     roomed : (roomFor (sh .states) m .number ≡ 0) × (roomFor (length hs) k .number ≡ 0)
-    roomed = then-both (roomFor (sh .states) m) (roomFor (length hs) k) (ringed .1)
+    roomed = both-accept (roomFor (sh .states) m) (roomFor (length hs) k) (ringed .1)
 
     pub reduce-reducible : Reducible sh hs
     reduce-reducible = record { admitted = check-admitted sh hs (checked .0); free = ringed .0 }
 
     pub reduce-map-room : sh .states ≤ m
-    reduce-map-room = room-given (sh .states) m (roomed .0)
+    reduce-map-room = room-accepts (sh .states) m (roomed .0) .1
 
     pub reduce-short-room : length hs ≤ k
-    reduce-short-room = room-given (length hs) k (roomed .1)
+    reduce-short-room = room-accepts (length hs) k (roomed .1) .1
 
     pub reduce-accepted : reduceAnswer sh hs m k ≡ accepted
     unfolding reduceAnswer

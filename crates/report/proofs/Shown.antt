@@ -18,7 +18,8 @@ use Rattle.graph.proofs.Places.{length-flat}
 use Rattle.graph.proofs.Tests.{length-listed, getD-listed}
 use Rattle.silent.specs.Silent.{ringless}
 use Rattle.marks.specs.Mark.{markOf, markAnswer, markOutput}
-use Rattle.marks.proofs.Entry.{then-both, output-marked}
+use Rattle.graph.proofs.Accepts.{both-accept}
+use Rattle.marks.proofs.Entry.{output-marked}
 use Rattle.representatives.specs.Representative.{mapOf}
 use Rattle.representatives.specs.Tables.{Reducible, Marks}
 use Rattle.representatives.proofs.Tabled.{marks-front}
@@ -87,12 +88,12 @@ module _ (sh : Shape) (hs : List ℕ) where
 
       parts : (checkOf sh hs .number ≡ 0) × (andThen (ringless sh hs) (roomFor (count hs) (length ms)) .number ≡ 0)
       unfolding markAnswer
-      parts = then-both (checkOf sh hs) (andThen (ringless sh hs) (roomFor (count hs) (length ms))) speaks
+      parts = both-accept (checkOf sh hs) (andThen (ringless sh hs) (roomFor (count hs) (length ms))) speaks
 
       pub graph-reducible : Reducible sh hs
       graph-reducible = record {
         admitted = check-admitted sh hs (parts .0);
-        free = then-both (ringless sh hs) (roomFor (count hs) (length ms)) (parts .1) .0;
+        free = both-accept (ringless sh hs) (roomFor (count hs) (length ms)) (parts .1) .0;
       }
 
       pub graph-accepted : reportOf sh hs ≡ printedGraph sh hs
@@ -188,11 +189,11 @@ module _ (b : List ℕ) where
 
       both : (formatAnswer b .number ≡ 0) × (andThen (checkOf (shapeIn b) (hopListIn b)) (roomFor (3 * hopsIn b) (length old)) .number ≡ 0)
       unfolding readAnswer
-      both = then-both (formatAnswer b) (andThen (checkOf (shapeIn b) (hopListIn b)) (roomFor (3 * hopsIn b) (length old))) speaks-not
+      both = both-accept (formatAnswer b) (andThen (checkOf (shapeIn b) (hopListIn b)) (roomFor (3 * hopsIn b) (length old))) speaks-not
 
       pub file-most : x .hops ≤ 4096
       file-most =
-          omega (arith, ap (λ (y : Contents). y .hops) gives, count-hop-list b, hops-fit (shapeIn b) (hopListIn b) (then-both (checkOf (shapeIn b) (hopListIn b)) _ (both .1) .0))
+          omega (arith, ap (λ (y : Contents). y .hops) gives, count-hop-list b, hops-fit (shapeIn b) (hopListIn b) (both-accept (checkOf (shapeIn b) (hopListIn b)) _ (both .1) .0))
 
       pub file-printed : {after part : List ℕ} → after ≡ readHops b old → part ≡ between after 0 (x .hops) → printedGraph (x .shape) part ≡ printedOf b
       unfolding printedOf readHops

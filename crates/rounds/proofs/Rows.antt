@@ -3,17 +3,17 @@ use Prim.Native.Nat.{ℕ, suc, _<_, _≤_}
 use mathlib.Core.Path.{_≡_, refl, sym, ap, _∙_}
 use mathlib.Core.Bool.{Bool, true, false, cond, _&&_}
 use mathlib.Core.List.{List}
-use mathlib.Core.Logic.{_⊎_, inl, inr}
 use native.Mathlib.Omega.{arith}
 use borrow.Author.Tests.{eq-eqb, ne-eqb, eqb-true, lt-ltb, le-ltb, ltb-true, le-leb, lt-leb, leb-true}
 use mir.Val.{boolByte}
 use lib.Dec.{eqb, leb, ltb}
 use Rattle.graph.specs.Hops.{count, from, label, to}
-use Rattle.graph.specs.Check.{accepted, refused, andThen, checkOf, Admitted}
+use Rattle.graph.specs.Check.{accepted, refused, checkOf, Admitted}
 use Rattle.graph.specs.declared.Shape.{Shape}
 use Rattle.graph.specs.declared.Answer.{Answer}
-use Rattle.graph.proofs.Bools.{eq-or-not, and-left, and-right, and-no-right}
+use Rattle.graph.proofs.Bools.{and-left, and-right, and-no-right}
 use Rattle.graph.proofs.Checked.{check-admitted}
+use Rattle.graph.proofs.Accepts.{both-accept}
 use Rattle.confluence.specs.Rounds.{survives}
 use Rattle.rounds.specs.Question.{most-rounds, silentPlace, fewRounds, questionAnswer, questionOf}
 
@@ -21,12 +21,6 @@ use Rattle.rounds.specs.Question.{most-rounds, silentPlace, fewRounds, q
 silent-row : (n : ℕ) (b : Bool) → cond b accepted (refused (suc n) 0) .number ≡ 0 → b ≡ true
 silent-row n true e = refl
 silent-row n false e = absurd (omega arith)
-
-then-both : (a b : Answer) → andThen a b .number ≡ 0 → (a .number ≡ 0) × (b .number ≡ 0)
-then-both a b e = go (eq-or-not (a .number) 0) where
-  go : (a .number ≡ 0) ⊎ (a .number ≡ 0 → ⊥) → (a .number ≡ 0) × (b .number ≡ 0)
-  go (inl z) = (z, rw (eq-eqb _ _ z) at e)
-  go (inr n) = absurd (n (rw (ne-eqb _ _ n) at e))
 
 -- a truth value as a number
 as-number : (v : Bool) → boolByte v ≡ cond v 1 0
@@ -93,8 +87,8 @@ module _ (sh : Shape) (hs : List ℕ) (i k : ℕ) where
       pub question-asks : Admitted sh hs × ((i < count hs) × (label hs i ≡ 0) × (k ≤ most-rounds))
       unfolding questionAnswer
       question-asks =
-          let (c, d) = then-both (checkOf sh hs) _ (sym (ap (λ (x : Answer). x .number) p) ∙ z) in
-          let (e, f) = then-both (silentPlace hs i) (fewRounds k) d in
+          let (c, d) = both-accept (checkOf sh hs) _ (sym (ap (λ (x : Answer). x .number) p) ∙ z) in
+          let (e, f) = both-accept (silentPlace hs i) (fewRounds k) d in
           (check-admitted sh hs c, (place-accepted hs i e .0, place-accepted hs i e .1, rounds-accepted k f))
 
       pub question-judged : {v : Bool} → v ≡ survives hs k (from hs i) (to hs i) → record { answer = a; survives = boolByte v } ≡ questionOf sh hs i k
