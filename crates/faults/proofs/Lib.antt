@@ -1,3 +1,4 @@
 pub mod Keeping
+pub mod Mapping
 pub mod Ticking
 pub mod Rows

@@ -8,21 +8,22 @@ use mathlib.Core.Logic.{⊎-elim}
 use native.Mathlib.Nat.{eq-or-lt-of-le, le-refl}
 use native.Mathlib.Omega.{arith}
 use borrow.Author.Tests.{ne-eqb, ltb-false, le-ltb}
-use lib.ListN.{length, getD}
+use lib.ListN.{length, getD, set}
 use lib.Dec.{eqb}
 use Rattle.graph.specs.Tests.{any, tally}
 use Rattle.graph.specs.Hops.{count, from}
 use Rattle.graph.specs.Order.{Ascending}
-use Rattle.graph.specs.Search.{placed, firstOf, pastOf}
+use Rattle.graph.specs.Search.{firstOf, pastOf}
 use Rattle.graph.specs.Check.{InRange}
 use Rattle.graph.specs.declared.Shape.{Shape}
 use Rattle.graph.proofs.Bools.{clash, lt-or-le, same-test, and-no-left}
 use Rattle.graph.proofs.Tests.{any-found, any-at, tally-zero}
 use Rattle.graph.proofs.Lookup.{first-law, first-within, range-only}
 use Rattle.starts.proofs.Firsts.{first-below, first-is, first-next}
+use Rattle.starts.specs.Starts.{Ready}
 use Rattle.silent.specs.Reach.{noted}
 use Rattle.faults.specs.Faults.{mapped}
-use Rattle.faults.specs.Ticks.{leaves, mappedHop, ticks, stampAt, TickedBy, TickedOn, unticked}
+use Rattle.faults.specs.Ticks.{Imaged, leaves, ticks, TickedBy, TickedOn, unticked}
 use Rattle.faults.proofs.Ticking.{ticked-none, ticked-more}
 
 -- a test that fails from lo on
@@ -70,12 +71,13 @@ module _ (h1 h2 m seen : List ℕ) (r k : ℕ) where
         ap (λ (x : Bool). cond x k (getD first j 0))
         (sym (any-rest (ticks h1 h2 m seen r j) (firstOf h1 (u + 1)) (first-next h1 up u) (λ i lo hi. and-no-left _ (state-leaves lo hi ∙ e))))
 
-    pub state-more : Ascending h2 → (eqb (getD seen u 0) 1 && eqb v r) ≡ true → (before stamps : List ℕ) → count h2 ≤ length stamps →
-        {i : ℕ} → firstOf h1 u ≤ i → i < firstOf h1 (u + 1) → {after : List ℕ} → after ≡ stampAt stamps k (placed h2 (mappedHop h1 m r i)) →
+    pub state-more : Ready h2 → (images : List ℕ) → Imaged h1 h2 m images → (eqb (getD seen u 0) 1 && eqb v r) ≡ true →
+        (before stamps : List ℕ) → count h2 ≤ length stamps → {i : ℕ} → firstOf h1 u ≤ i → i < firstOf h1 (u + 1) →
+        {after : List ℕ} → after ≡ set stamps (getD images i 0) k →
         TickedOn h1 h2 m seen r k (firstOf h1 u) i before stamps → TickedOn h1 h2 m seen r k (firstOf h1 u) (i + 1) before after
-    unfolding TickedOn
-    state-more up2 e before stamps room {i} lo hi d o first t =
-        rw d (ticked-more h1 h2 m seen r k up2 stamps room i (state-leaves lo hi ∙ e) first (o first t))
+    unfolding TickedOn Imaged
+    state-more ready images im e before stamps room {i} lo hi d o first t =
+        rw (d, im i (omega (arith, first-within h1 up (u + 1)))) (ticked-more h1 h2 m seen r k ready stamps room i (state-leaves lo hi ∙ e) first (o first t))
 
   pub on-none : (n : ℕ) (stamps : List ℕ) → TickedOn h1 h2 m seen r k n n stamps stamps
   unfolding TickedOn

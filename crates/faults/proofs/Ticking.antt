@@ -14,7 +14,6 @@ use lib.Seq.{getD-set-same, getD-set-other}
 use lib.Dec.{eqb}
 use Rattle.graph.specs.Tests.{any, tally, listed, total}
 use Rattle.graph.specs.Hops.{count, from, label, to, hopAt, is, has}
-use Rattle.graph.specs.Order.{Ascending}
 use Rattle.graph.specs.Search.{placed}
 use Rattle.graph.specs.Check.{InRange}
 use Rattle.graph.specs.declared.Hop.{Hop}
@@ -26,10 +25,11 @@ use Rattle.graph.proofs.Tests.{any-found, any-at, any-never, length-listed, get
 use Rattle.graph.proofs.Places.{is-yes, is-from, is-label, is-to}
 use Rattle.graph.proofs.Ordered.{ascending-place}
 use Rattle.graph.proofs.Lookup.{at-place, gap-has}
+use Rattle.starts.specs.Starts.{Ready}
 use Rattle.silent.specs.Silent.{leads}
 use Rattle.silent.specs.Reach.{noted, reached}
 use Rattle.faults.specs.Faults.{mapped, offers, backed, matched, madeUp, madeUpFaults}
-use Rattle.faults.specs.Ticks.{leaves, mappedHop, ticks, stampAt, TickedBy, unticked, Fresh, madeUpOf}
+use Rattle.faults.specs.Ticks.{mappedHop, nowhere, placeOf, imageOf, leaves, ticks, TickedBy, unticked, Fresh, madeUpOf}
 
 -- the hop at a place where `is` passes
 is-hop : (hs : List ℕ) (h : Hop) (j : ℕ) → is hs (h .from) (h .label) (h .to) j ≡ true → hopAt hs j ≡ h
@@ -41,11 +41,11 @@ is-hop hs h j e =
     }
 
 -- a stamp for a hop is seen at its place and nowhere else
-module _ (h2 : List ℕ) (up : Ascending h2) (h : Hop) (k : ℕ) (stamps : List ℕ) (room : count h2 ≤ length stamps) (j : ℕ) (l : j < count h2) where
+module _ (h2 : List ℕ) (ready : Ready h2) (h : Hop) (k : ℕ) (stamps : List ℕ) (room : count h2 ≤ length stamps) (j : ℕ) (l : j < count h2) where
   abbrev is-h : ℕ → Bool
   is-h = is h2 (h .from) (h .label) (h .to)
 
-  stamp-found : (f : Found) → placed h2 h ≡ f → getD (stampAt stamps k f) j 0 ≡ cond (is-h j) k (getD stamps j 0)
+  stamp-found : (f : Found) → placed h2 h ≡ f → getD (set stamps (placeOf f) k) j 0 ≡ cond (is-h j) k (getD stamps j 0)
   unfolding has
   stamp-found (At p) e = let (w, d) = at-place h2 h e in ⊎-elim (here w d) (other w d) (eq-or-not j p) where
     here : p < count h2 → is-h p ≡ true → j ≡ p → getD (set stamps p k) j 0 ≡ cond (is-h j) k (getD stamps j 0)
@@ -53,17 +53,13 @@ module _ (h2 : List ℕ) (up : Ascending h2) (h : Hop) (k : ℕ) (stamps : List 
 
     other : p < count h2 → is-h p ≡ true → (j ≡ p → ⊥) → getD (set stamps p k) j 0 ≡ cond (is-h j) k (getD stamps j 0)
     other w d q =
-        rw (no-test (is-h j) (λ f. q (ascending-place h2 up l w (is-hop h2 h j f ∙ sym (is-hop h2 h p d)))))
+        rw (no-test (is-h j) (λ f. q (ascending-place h2 (ready .ascending) l w (is-hop h2 h j f ∙ sym (is-hop h2 h p d)))))
         (getD-set-other stamps p j k 0 q)
-  stamp-found (Gap p) e = rw (any-never is-h (count h2) (gap-has h2 h up e) l)
+  stamp-found (Gap p) e =
+      rw (any-never is-h (count h2) (gap-has h2 h (ready .ascending) e) l) (getD-set-other stamps nowhere j k 0 (λ q. omega (arith, ready .hops-most)))
 
-  pub stamp-at : getD (stampAt stamps k (placed h2 h)) j 0 ≡ cond (is-h j) k (getD stamps j 0)
+  pub stamp-at : getD (set stamps (placeOf (placed h2 h)) k) j 0 ≡ cond (is-h j) k (getD stamps j 0)
   stamp-at = stamp-found (placed h2 h) refl
-
--- the stamp of a hop that was read and mapped
-pub stamped-hop : (h1 h2 m stamps : List ℕ) (r k i : ℕ) {a t q : ℕ} {after : List ℕ} → a ≡ label h1 i → t ≡ to h1 i → q ≡ mapped m t →
-    after ≡ stampAt stamps k (placed h2 (record { from = r; label = a; to = q })) → after ≡ stampAt stamps k (placed h2 (mappedHop h1 m r i))
-stamped-hop h1 h2 m stamps r k i ea et eq d = rw (← ea, ← et, ← eq) d
 
 module _ (h1 h2 m seen : List ℕ) (r k : ℕ) where
   -- where the ticking begins
@@ -71,13 +67,24 @@ module _ (h1 h2 m seen : List ℕ) (r k : ℕ) where
   unfolding TickedBy any
   ticked-none stamps j l = refl
 
+  leaves-map : (i : ℕ) → leaves h1 m seen r i ≡ true → mapped m (from h1 i) ≡ r
+  unfolding leaves
+  leaves-map i e = eqb-true _ _ (and-right (noted seen (from h1 i)) _ e)
+
+  -- what the stamp of a hop that leaves r is seen as
+  image-stamp : Ready h2 → (stamps : List ℕ) → count h2 ≤ length stamps → (i : ℕ) → mapped m (from h1 i) ≡ r → (j : ℕ) → j < count h2 →
+      getD (set stamps (imageOf h1 h2 m i) k) j 0 ≡ cond (is h2 r (label h1 i) (mapped m (to h1 i)) j) k (getD stamps j 0)
+  unfolding imageOf
+  image-stamp ready stamps room i q j l =
+      stamp-at h2 ready (mappedHop h1 m i) k stamps room j l ∙
+      ap (λ (x : ℕ). cond (is h2 x (label h1 i) (mapped m (to h1 i)) j) k (getD stamps j 0)) q
+
   -- .. and one place more, whose hop leaves a state that counts
-  pub ticked-more : Ascending h2 → (stamps : List ℕ) → count h2 ≤ length stamps → (i : ℕ) → leaves h1 m seen r i ≡ true →
-      (first : List ℕ) → TickedBy h1 h2 m seen r k i first stamps →
-      TickedBy h1 h2 m seen r k (i + 1) first (stampAt stamps k (placed h2 (mappedHop h1 m r i)))
+  pub ticked-more : Ready h2 → (stamps : List ℕ) → count h2 ≤ length stamps → (i : ℕ) → leaves h1 m seen r i ≡ true →
+      (first : List ℕ) → TickedBy h1 h2 m seen r k i first stamps → TickedBy h1 h2 m seen r k (i + 1) first (set stamps (imageOf h1 h2 m i) k)
   unfolding TickedBy ticks any
-  ticked-more up stamps room i e first t j l =
-      stamp-at h2 up (mappedHop h1 m r i) k stamps room j l ∙
+  ticked-more ready stamps room i e first t j l =
+      image-stamp ready stamps room i (leaves-map i e) j l ∙
       rw (add-one i, t j l, e) (go (is h2 r (label h1 i) (mapped m (to h1 i)) j) (any i (ticks h1 h2 m seen r j))) where
         go : (x y : Bool) → cond x k (cond y k (getD first j 0)) ≡ cond (x || y) k (getD first j 0)
         go true y = refl

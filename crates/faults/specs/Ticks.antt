@@ -1,14 +1,15 @@
 -- How the third sum is counted, by states of graph 1: from a state, the hops of the states that it leads to tick hops of graph 2 by a stamp,
--- and what is not ticked is a fault. Assumes nothing: these are definitions.
+-- at the places that a table has for them, and what is not ticked is a fault. Assumes nothing: these are definitions.
 use Prim.Native.Nat.{ℕ, _<_}
 use mathlib.Core.Path.{_≡_}
 use mathlib.Core.Bool.{Bool, cond, not, _&&_, _||_}
 use mathlib.Core.List.{List}
-use lib.ListN.{length, getD, set}
+use lib.ListN.{length, getD}
 use lib.Dec.{eqb}
 use Rattle.graph.specs.Tests.{any, tally}
 use Rattle.graph.specs.Hops.{count, from, label, to, is}
-use Rattle.graph.specs.Check.{most-states, Admitted}
+use Rattle.graph.specs.Search.{placed}
+use Rattle.graph.specs.Check.{most-states, most-hops, Admitted}
 use Rattle.graph.specs.declared.Hop.{Hop}
 use Rattle.graph.specs.declared.Shape.{Shape}
 use Rattle.graph.specs.declared.Found.{Found}
@@ -24,22 +25,33 @@ pub record Auditable (sh1 : Shape) (h1 h2 m : List ℕ) : Type 0 where
   pub one-a-state : length m ≡ sh1 .states
   pub entries-in : (s : ℕ) → s < sh1 .states → mapped m s < most-states
 
+-- what the hop at place i of graph 1 is in graph 2
+abbrev pub mappedHop : List ℕ → List ℕ → ℕ → Hop
+mappedHop h1 m i = record { from = mapped m (from h1 i); label = label h1 i; to = mapped m (to h1 i) }
+
+-- the place of a hop that was found, and one past all places for a hop that was not
+abbrev pub nowhere : ℕ
+nowhere = most-hops
+
+abbrev pub placeOf : Found → ℕ
+placeOf (At p) = p
+placeOf (Gap p) = nowhere
+
+-- where graph 2 has it
+unfoldable pub imageOf : List ℕ → List ℕ → List ℕ → ℕ → ℕ
+imageOf h1 h2 m i = placeOf (placed h2 (mappedHop h1 m i))
+
+-- the table of these places, one for each hop of graph 1
+unfoldable pub Imaged : List ℕ → List ℕ → List ℕ → List ℕ → Type 0
+Imaged h1 h2 m images = (i : ℕ) → i < count h1 → getD images i 0 ≡ imageOf h1 h2 m i
+
 -- the hop at place i of graph 1 leaves a state that is noted in `seen` and whose map is r
 unfoldable pub leaves : List ℕ → List ℕ → List ℕ → ℕ → ℕ → Bool
 leaves h1 m seen r i = noted seen (from h1 i) && eqb (mapped m (from h1 i)) r
 
--- what it is in graph 2
-abbrev pub mappedHop : List ℕ → List ℕ → ℕ → ℕ → Hop
-mappedHop h1 m r i = record { from = r; label = label h1 i; to = mapped m (to h1 i) }
-
--- .. and it is the hop at place j there
+-- .. and it is the hop at place j of graph 2
 unfoldable pub ticks : List ℕ → List ℕ → List ℕ → List ℕ → ℕ → ℕ → ℕ → Bool
 ticks h1 h2 m seen r j i = leaves h1 m seen r i && is h2 r (label h1 i) (mapped m (to h1 i)) j
-
--- the stamp k at the place of a hop that was found
-abbrev pub stampAt : List ℕ → ℕ → Found → List ℕ
-stampAt stamps k (At p) = set stamps p k
-stampAt stamps k (Gap p) = stamps
 
 -- after the first n hops of graph 1 the stamp k stands at the places that they tick, and every other stamp is as it was
 unfoldable pub TickedBy : List ℕ → List ℕ → List ℕ → List ℕ → ℕ → ℕ → ℕ → List ℕ → List ℕ → Type 0

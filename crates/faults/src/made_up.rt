@@ -1,14 +1,11 @@
 // The third sum of the fault count, by states of graph 1: the hops that a state leads to, inside its class, tick hops of graph 2; what is not
-// ticked is made up. Each state has a stamp of its own, so that no tick is ever cleared. A state's hops are found by the tables of first places.
-use graph::Found;
-use graph::Hop;
+// ticked is made up. Each state has a stamp of its own, so that no tick is ever cleared. A state's hops are found by the tables of first places,
+// and what they tick by the table of their places in graph 2.
+use super::images::images_of;
 use graph::NewState;
 use graph::OldState;
 use graph::Shape;
 use graph::hops::hop_at;
-use graph::hops::label_at;
-use graph::hops::to_at;
-use graph::search::find;
 use representatives::renumber::map_at;
 use silent::reach::reach;
 use starts::start_of;
@@ -16,52 +13,23 @@ use starts::starts_of;
 use starts::wide;
 ghost use mathlib.Core.Path.{_≡_};
 ghost use Prim.Native.Nat.{_+_, _<_, _≤_};
-ghost use lib.ListN.{length};
+ghost use lib.ListN.{length, getD, set};
 ghost use Rattle.graph.specs.Tests.{tally};
 ghost use Rattle.graph.specs.Hops.{count};
-ghost use Rattle.graph.specs.Order.{Ascending};
-ghost use Rattle.graph.specs.Search.{placed, firstOf};
+ghost use Rattle.graph.specs.Search.{firstOf};
 ghost use Rattle.starts.specs.Starts.{Table, Ready};
 ghost use Rattle.faults.specs.Faults.{madeUpFaults};
-ghost use Rattle.faults.specs.Ticks.{Auditable, mappedHop, stampAt, TickedBy, TickedOn, unticked, Fresh, madeUpOf};
+ghost use Rattle.faults.specs.Ticks.{Auditable, Imaged, TickedBy, TickedOn, unticked, Fresh, madeUpOf};
 
-// Ticks the hop h of graph 2, if it is there.
-fn stamp(hops2: &[u16], stamps: &mut [u16], h: Hop, k: u16)
-    requires { ⌜ Ascending (now hops2) ⌝ ∗ ⌜ count (now hops2) ≤ length (now stamps) ⌝ }
-    ensures { λ r. ⌜ now (stamps .exit) ≡ stampAt (now (stamps .entry)) k (placed (now (hops2 .entry)) h) ⌝ }
+// Ticks what the hop at place i of graph 1 is in graph 2, if it is there: the place of one that is not is past the stamps.
+fn tick(images: &[u16; 4096], stamps: &mut [u16], k: u16, i: usize)
+    requires { ⌜ i < 4096 ⌝ }
+    ensures { λ _. ⌜ now (stamps .exit) ≡ set (now (stamps .entry)) (getD (now (images .entry)) i 0) k ⌝ }
 {
-    let found = find(hops2, h);
-    if let Found::At(p) = found {
+    let p = wide(images[i]);
+    if p < stamps.len() {
         stamps[p] = k;
     }
-}
-
-// Ticks what the hop at place i of graph 1 is in graph 2.
-fn tick(
-    shape1: Shape,
-    hops1: &[u16],
-    hops2: &[u16],
-    map: &[u16],
-    stamps: &mut [u16],
-    r: NewState,
-    k: u16,
-    i: usize,
-)
-    requires { ⌜ Auditable shape1 (now hops1) (now hops2) (now map) ⌝ ∗ ⌜ count (now hops2) ≤ length (now stamps) ⌝ ∗ ⌜ i < count (now hops1) ⌝ }
-    ensures { λ u. ⌜ now (stamps .exit) ≡ stampAt (now (stamps .entry)) k (placed (now (hops2 .entry)) (mappedHop (now (hops1 .entry)) (now (map .entry)) (r .0) i)) ⌝ }
-{
-    let a = label_at(hops1, i);
-    let q = map_at(map, to_at(hops1, i));
-    stamp(
-        hops2,
-        stamps,
-        Hop {
-            from: r.0,
-            label: a.0,
-            to: q.0,
-        },
-        k,
-    );
 }
 
 // Ticks by the hops of the state u of graph 1, if u is seen and its map is r.
@@ -71,13 +39,14 @@ fn tick_state(
     starts1: &[u16; 1025],
     hops2: &[u16],
     map: &[u16],
+    images: &[u16; 4096],
     seen: &[u8],
     stamps: &mut [u16],
     r: NewState,
     k: u16,
     u: OldState,
 )
-    requires { ⌜ Auditable shape1 (now hops1) (now hops2) (now map) ⌝ ∗ ⌜ Table (now hops1) (now starts1) ⌝ ∗ ⌜ shape1 .states ≤ length (now seen) ⌝ ∗ ⌜ count (now hops2) ≤ length (now stamps) ⌝ ∗ ⌜ u .0 < shape1 .states ⌝ }
+    requires { ⌜ Auditable shape1 (now hops1) (now hops2) (now map) ⌝ ∗ ⌜ Table (now hops1) (now starts1) × Imaged (now hops1) (now hops2) (now map) (now images) ⌝ ∗ ⌜ shape1 .states ≤ length (now seen) ⌝ ∗ ⌜ count (now hops2) ≤ length (now stamps) ⌝ ∗ ⌜ u .0 < shape1 .states ⌝ }
     ensures { λ _. ⌜ TickedOn (now (hops1 .entry)) (now (hops2 .entry)) (now (map .entry)) (now (seen .entry)) (r .0) k (firstOf (now (hops1 .entry)) (u .0)) (firstOf (now (hops1 .entry)) (u .0 + 1)) (now (stamps .entry)) (now (stamps .exit)) ⌝ }
 {
     let v = map_at(map, u);
@@ -86,7 +55,7 @@ fn tick_state(
         let past = start_of(starts1, at + 1);
         let mut i = start_of(starts1, at);
         while i < past {
-            tick(shape1, hops1, hops2, map, stamps, r, k, i);
+            tick(images, stamps, k, i);
             i += 1;
         }
     }
@@ -99,12 +68,13 @@ fn tick_all(
     starts1: &[u16; 1025],
     hops2: &[u16],
     map: &[u16],
+    images: &[u16; 4096],
     seen: &[u8],
     stamps: &mut [u16],
     r: NewState,
     k: u16,
 )
-    requires { ⌜ Auditable shape1 (now hops1) (now hops2) (now map) ⌝ ∗ ⌜ Table (now hops1) (now starts1) ⌝ ∗ ⌜ shape1 .states ≤ length (now seen) ⌝ ∗ ⌜ count (now hops2) ≤ length (now stamps) ⌝ }
+    requires { ⌜ Auditable shape1 (now hops1) (now hops2) (now map) ⌝ ∗ ⌜ Table (now hops1) (now starts1) × Imaged (now hops1) (now hops2) (now map) (now images) ⌝ ∗ ⌜ shape1 .states ≤ length (now seen) ⌝ ∗ ⌜ count (now hops2) ≤ length (now stamps) ⌝ }
     ensures { λ _. ⌜ TickedBy (now (hops1 .entry)) (now (hops2 .entry)) (now (map .entry)) (now (seen .entry)) (r .0) k (count (now (hops1 .entry))) (now (stamps .entry)) (now (stamps .exit)) ⌝ }
 {
     let n = shape1.states as usize;
@@ -116,6 +86,7 @@ fn tick_all(
             starts1,
             hops2,
             map,
+            images,
             seen,
             stamps,
             r,
@@ -161,23 +132,35 @@ fn made_up_of(
     hops2: &[u16],
     starts2: &[u16; 1025],
     map: &[u16],
+    images: &[u16; 4096],
     s: OldState,
     seen: &mut [u8],
     queue: &mut [u16],
     stamps: &mut [u16],
 ) -> u32
-    requires { ⌜ Auditable shape1 (now hops1) (now hops2) (now map) ⌝ ∗ ⌜ Table (now hops1) (now starts1) × Table (now hops2) (now starts2) ⌝ ∗ ⌜ s .0 < shape1 .states ⌝ ∗ ⌜ (shape1 .states ≤ length (now seen)) × (shape1 .states ≤ length (now queue)) × (count (now hops2) ≤ length (now stamps)) ⌝ ∗ ⌜ Fresh (now hops2) (now stamps) (s .0 + 1) ⌝ }
+    requires { ⌜ Auditable shape1 (now hops1) (now hops2) (now map) ⌝ ∗ ⌜ Table (now hops1) (now starts1) × Table (now hops2) (now starts2) × Imaged (now hops1) (now hops2) (now map) (now images) ⌝ ∗ ⌜ s .0 < shape1 .states ⌝ ∗ ⌜ (shape1 .states ≤ length (now seen)) × (shape1 .states ≤ length (now queue)) × (count (now hops2) ≤ length (now stamps)) ⌝ ∗ ⌜ Fresh (now hops2) (now stamps) (s .0 + 1) ⌝ }
     ensures counts { λ r. ⌜ r ≡ madeUpOf shape1 (now (hops1 .entry)) (now (hops2 .entry)) (now (map .entry)) (s .0) ⌝ }
     ensures fresh { λ r. ⌜ Fresh (now (hops2 .entry)) (now (stamps .exit)) (s .0 + 1 + 1) ⌝ }
 {
     let r = map_at(map, s);
     let k = s.0 + 1;
     reach(shape1, hops1, starts1, s, seen, queue);
-    tick_all(shape1, hops1, starts1, hops2, map, seen, stamps, r, k);
+    tick_all(
+        shape1,
+        hops1,
+        starts1,
+        hops2,
+        map,
+        images,
+        seen,
+        stamps,
+        r,
+        k,
+    );
     count_unticked(hops2, starts2, stamps, r, k)
 }
 
-// The third sum, with the tables of first places, and working space for the search and for the stamps, which begin at 0.
+// The third sum, with the tables of places, and working space for the search and for the stamps, which begin at 0.
 fn made_up_faults(
     shape1: Shape,
     hops1: &[u16],
@@ -185,11 +168,12 @@ fn made_up_faults(
     hops2: &[u16],
     starts2: &[u16; 1025],
     map: &[u16],
+    images: &[u16; 4096],
     seen: &mut [u8],
     queue: &mut [u16],
     stamps: &mut [u16],
 ) -> u32
-    requires { ⌜ Auditable shape1 (now hops1) (now hops2) (now map) ⌝ ∗ ⌜ Table (now hops1) (now starts1) × Table (now hops2) (now starts2) ⌝ ∗ ⌜ (shape1 .states ≤ length (now seen)) × (shape1 .states ≤ length (now queue)) × (count (now hops2) ≤ length (now stamps)) ⌝ ∗ ⌜ Fresh (now hops2) (now stamps) 1 ⌝ }
+    requires { ⌜ Auditable shape1 (now hops1) (now hops2) (now map) ⌝ ∗ ⌜ Table (now hops1) (now starts1) × Table (now hops2) (now starts2) × Imaged (now hops1) (now hops2) (now map) (now images) ⌝ ∗ ⌜ (shape1 .states ≤ length (now seen)) × (shape1 .states ≤ length (now queue)) × (count (now hops2) ≤ length (now stamps)) ⌝ ∗ ⌜ Fresh (now hops2) (now stamps) 1 ⌝ }
     ensures { λ r. ⌜ r ≡ madeUpFaults shape1 (now (hops1 .entry)) (now (hops2 .entry)) (now (map .entry)) ⌝ }
 {
     let n = shape1.states as usize;
@@ -203,6 +187,7 @@ fn made_up_faults(
             hops2,
             starts2,
             map,
+            images,
             OldState(s as u16),
             seen,
             queue,
@@ -220,6 +205,7 @@ pub fn all_made_up(shape1: Shape, hops1: &[u16], hops2: &[u16], map: &[u16]) -> 
 {
     let starts1 = starts_of(hops1);
     let starts2 = starts_of(hops2);
+    let images = images_of(shape1, hops1, hops2, map);
     let mut seen = [0u8; 1024];
     let mut queue = [0u16; 1024];
     let mut stamps = [0u16; 4096];
@@ -230,6 +216,7 @@ pub fn all_made_up(shape1: Shape, hops1: &[u16], hops2: &[u16], map: &[u16]) -> 
         hops2,
         &starts2,
         map,
+        &images,
         &mut seen,
         &mut queue,
         &mut stamps,

@@ -48,12 +48,25 @@ fn lost(hops1: &[u16], hops2: &[u16], map: &[u16]) -> u32 {
     faults
 }
 
+/// The place in graph 2 of a hop that it does not have: past all stamps.
+const NOWHERE: u16 = 4096;
+
+/// For each hop of graph 1 the place in graph 2 of what it is mapped to.
+fn images(hops1: &[u16], hops2: &[u16], map: &[u16]) -> Vec<u16> {
+    let image = |place| {
+        let (from, label, to) = hop_at(hops1, place);
+        find(hops2, (map[usize::from(from)], label, map[usize::from(to)])).map_or(NOWHERE, |place| place as u16)
+    };
+    (0..hop_count(hops1)).map(image).collect()
+}
+
 /// The pairs of a hop of graph 2 and a state of graph 1 that nothing answers: from each state the silent hops are followed, and the hops of the states that are met
 /// and have the same map stamp hops of graph 2.
 fn made_up(shape1: Shape, hops1: &[u16], shape2: Shape, hops2: &[u16], map: &[u16]) -> u32 {
     let states = shape1.states as usize;
     let first1 = first_places(states, hops1);
     let first2 = first_places(shape2.states as usize, hops2);
+    let images = images(hops1, hops2, map);
     let mut seen = [false; 1024];
     let mut queue = [0; 1024];
     let mut stamps = [0u16; 4096];
@@ -63,10 +76,9 @@ fn made_up(shape1: Shape, hops1: &[u16], shape2: Shape, hops2: &[u16], map: &[u1
         let r = map[usize::from(state)];
         let stamp = state + 1;
         for u in (0..states as u16).filter(|&u| seen[usize::from(u)] && map[usize::from(u)] == r) {
-            for place in places(&first1, u) {
-                let (_, label, to) = hop_at(hops1, place);
-                if let Some(place) = find(hops2, (r, label, map[usize::from(to)])) {
-                    stamps[place] = stamp;
+            for &image in &images[places(&first1, u)] {
+                if let Some(slot) = stamps.get_mut(usize::from(image)) {
+                    *slot = stamp;
                 }
             }
         }

@@ -1,4 +1,4 @@
--- `faults::made_up::all_made_up` meets its contract: both graphs have their tables, the working space is long enough, and its stamps are 0.
+-- `faults::made_up::all_made_up` meets its contract: the tables are made, the working space is long enough, and its stamps are 0.
 -- Assumes nothing.
 use borrow.Author.Needs.{needs}
 use Prim.Native.Nat.{ℕ}
@@ -15,6 +15,9 @@ starts-of-requires c κs = admitted-ready (c .before .before .before .pre .admit
 starts-of-requires-2 : tie.Need-starts-of-requires-2
 starts-of-requires-2 c κs = c .before .before .before .before .pre .ready
 
+images-of-requires : tie.Need-images-of-requires
+images-of-requires c κs = search needs
+
 slice-aggregate-made-up-faults : tie.Need-slice-aggregate-made-up-faults
 slice-aggregate-made-up-faults c = search needs
 
@@ -26,12 +29,12 @@ slice-aggregate-made-up-faults-3 c = search needs
 
 made-up-faults-requires : tie.Need-made-up-faults-requires
 made-up-faults-requires c κs =
-    let s = c .before .before .before .before .before .before .before .before .before .before in
+    let s = c .before .before .before .before .before .before .before .before .before .before .before .before in
     let most = s .pre .admitted .states-most in
     let few = s .pre .ready .hops-most in (
       s .pre,
       (
-        (c .before .before .before .before .before .before .starts-of .ensures, c .before .before .before .before .before .starts-of2 .ensures),
+        (c .before .before .before .before .before .before .before .before .starts-of .ensures, c .before .before .before .before .before .before .before .starts-of2 .ensures, c .before .before .before .before .before .before .images-of .ensures),
         (
           (
             omega (arith, length-replicate {A = ℕ} 1024 0, most),
@@ -52,6 +55,7 @@ all-made-up-spec =
     (tie.spec
     starts-of-requires
     starts-of-requires-2
+    images-of-requires
     slice-aggregate-made-up-faults
     slice-aggregate-made-up-faults-2
     slice-aggregate-made-up-faults-3

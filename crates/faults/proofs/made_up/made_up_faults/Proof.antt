@@ -12,10 +12,10 @@ use Rattle.faults.proofs.made_up.made_up_faults.Statement.{statement}
 use Rattle.faults.proofs.made_up.made_up_faults.Tie as tie
 
 abbrev Inv-loop : tie.InvT-loop
-Inv-loop shape1 hops1 starts1 hops2 starts2 map seen₀ queue₀ stamps₀ n faults₀ s₀ seen queue stamps faults s = (n ≡ shape1 .states) × (s ≤ n) × (length seen ≡ length seen₀) × (length queue ≡ length queue₀) × (length stamps ≡ length stamps₀) × Fresh hops2 stamps (s + 1) × (faults ≡ total s (madeUpOf shape1 hops1 hops2 map))
+Inv-loop shape1 hops1 starts1 hops2 starts2 map images seen₀ queue₀ stamps₀ n faults₀ s₀ seen queue stamps faults s = (n ≡ shape1 .states) × (s ≤ n) × (length seen ≡ length seen₀) × (length queue ≡ length queue₀) × (length stamps ≡ length stamps₀) × Fresh hops2 stamps (s + 1) × (faults ≡ total s (madeUpOf shape1 hops1 hops2 map))
 
 abbrev μ-loop : tie.MeasureT-loop
-μ-loop shape1 hops1 starts1 hops2 starts2 map seen₀ queue₀ stamps₀ n faults₀ s₀ seen queue stamps faults s = n - s
+μ-loop shape1 hops1 starts1 hops2 starts2 map images seen₀ queue₀ stamps₀ n faults₀ s₀ seen queue stamps faults s = n - s
 
 cast-n : tie.Need-cast-n Inv-loop μ-loop
 cast-n c = search needs
@@ -23,8 +23,8 @@ cast-n c = search needs
 loop-holds : tie.Need-loop-holds Inv-loop μ-loop
 loop-holds c = (search needs, search needs, search needs, search needs, search needs, c .before .before .before .before .before .before .before .pre .1 .1 .1, sym (total-none _))
 
-cast-t15 : tie.Need-cast-t15 Inv-loop μ-loop
-cast-t15 c = search needs
+cast-t16 : tie.Need-cast-t16 Inv-loop μ-loop
+cast-t16 c = search needs
 
 made-up-of-requires : tie.Need-made-up-of-requires Inv-loop μ-loop
 made-up-of-requires c κs =
@@ -81,7 +81,7 @@ made-up-faults-spec =
     μ-loop
     cast-n
     loop-holds
-    cast-t15
+    cast-t16
     made-up-of-requires
     add-faults
     add-s

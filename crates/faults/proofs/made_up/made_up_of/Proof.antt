@@ -19,7 +19,7 @@ reach-requires c κs =
 tick-all-requires : tie.Need-tick-all-requires
 tick-all-requires c κs =
     let s = c .before .before .before .before .before .before .before .before .before .before .before .before .before .before .before .before .before in
-    (s .pre .0, (s .pre .1 .0 .0, (omega (arith, s .pre .1 .1 .1 .0 .0), s .pre .1 .1 .1 .0 .2)))
+    (s .pre .0, ((s .pre .1 .0 .0, s .pre .1 .0 .2), (omega (arith, s .pre .1 .1 .1 .0 .0), s .pre .1 .1 .1 .0 .2)))
 
 count-unticked-requires : tie.Need-count-unticked-requires
 count-unticked-requires c κs =

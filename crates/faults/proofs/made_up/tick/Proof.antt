@@ -1,33 +1,50 @@
--- `faults::made_up::tick` meets its contract: the three numbers are those of the mapped hop. Assumes nothing.
+-- `faults::made_up::tick` meets its contract: a place past the stamps changes nothing. Assumes nothing.
 use borrow.Author.Needs.{needs}
+use Prim.Native.Nat.{ℕ}
+use mathlib.Core.Path.{sym, ap, _∙_}
 use native.Mathlib.Omega.{arith}
-use Rattle.faults.proofs.Ticking.{stamped-hop}
+use lib.ListN.{set}
+use lib.Seq.{set-out}
 use Rattle.faults.proofs.made_up.tick.Statement.{statement}
 use Rattle.faults.proofs.made_up.tick.Tie as tie
 
-label-at-requires : tie.Need-label-at-requires
-label-at-requires c κs = search needs
+mul-wide : tie.Need-mul-wide
+mul-wide c = search needs
 
-to-at-requires : tie.Need-to-at-requires
-to-at-requires c κs = search needs
+element-copy-out-wide : tie.Need-element-copy-out-wide
+element-copy-out-wide c = search needs
 
-map-at-requires : tie.Need-map-at-requires
-map-at-requires c κs =
-    let s = c .before .before .before .before .before .before in
-    omega (arith, s .pre .0 .admitted .range .to-in (s .args .i) (s .pre .1 .1))
+wide-requires : tie.Need-wide-requires
+wide-requires c κs = search needs
 
-stamp-requires : tie.Need-stamp-requires
-stamp-requires c κs = search needs
+mul-stamps : tie.Need-mul-stamps
+mul-stamps c = search needs
+
+slice-write-stamps : tie.Need-slice-write-stamps
+slice-write-stamps c = search needs
 
 same-length : tie.Need-same-length
 same-length c = search needs
 
 returns : tie.Need-returns
 returns c =
-    let s = c .before .before .before .before .before .before .before .before .before .before .before .args in
-    stamped-hop (s .hops1 .now) _ (s .map .now) _ _ _ (s .i) (c .before .before .before .before .before .before .label-at .ensures) (c .before .before .before .before .before .to-at .ensures) (c .before .before .before .before .map-at .ensures) (c .before .before .stamp .ensures)
+    let s = c .before .before .before .before .args in
+    ap (λ (p : ℕ). set (s .stamps .now) p (s .k)) (c .before .wide .ensures)
+
+returns-2 : tie.Need-returns-2
+returns-2 c =
+    let s = c .before .before .before .before .args in
+    sym (set-out (s .stamps .now) (c .before .wide .result) (s .k) (omega arith)) ∙ ap (λ (p : ℕ). set (s .stamps .now) p (s .k)) (c .before .wide .ensures)
 
 pub tick-spec : {M : Type 1} → statement M
 tick-spec =
     tie.close
-    (tie.spec label-at-requires to-at-requires map-at-requires stamp-requires same-length returns)
+    (tie.spec
+    mul-wide
+    element-copy-out-wide
+    wide-requires
+    mul-stamps
+    slice-write-stamps
+    same-length
+    returns
+    returns-2)

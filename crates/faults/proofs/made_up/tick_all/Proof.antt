@@ -11,11 +11,11 @@ use Rattle.faults.proofs.made_up.tick_all.Statement.{statement}
 use Rattle.faults.proofs.made_up.tick_all.Tie as tie
 
 abbrev Inv-loop : tie.InvT-loop
-Inv-loop shape1 hops1 starts1 hops2 map seen stamps₀ r k n u₀ stamps u =
+Inv-loop shape1 hops1 starts1 hops2 map images seen stamps₀ r k n u₀ stamps u =
     (n ≡ shape1 .states) × (u ≤ n) × (length stamps ≡ length stamps₀) × TickedBy hops1 hops2 map seen (r .0) k (firstOf hops1 u) stamps₀ stamps
 
 abbrev μ-loop : tie.MeasureT-loop
-μ-loop shape1 hops1 starts1 hops2 map seen stamps₀ r k n u₀ stamps u = n - u
+μ-loop shape1 hops1 starts1 hops2 map images seen stamps₀ r k n u₀ stamps u = n - u
 
 cast-n : tie.Need-cast-n Inv-loop μ-loop
 cast-n c = search needs
@@ -23,8 +23,8 @@ cast-n c = search needs
 loop-holds : tie.Need-loop-holds Inv-loop μ-loop
 loop-holds c = (search needs, search needs, search needs, ticked-first _ _ _ _ _ _ (c .before .before .before .before .before .before .pre .0 .admitted .ascending) _)
 
-cast-t16 : tie.Need-cast-t16 Inv-loop μ-loop
-cast-t16 c = search needs
+cast-t17 : tie.Need-cast-t17 Inv-loop μ-loop
+cast-t17 c = search needs
 
 tick-state-requires : tie.Need-tick-state-requires Inv-loop μ-loop
 tick-state-requires c κs =
@@ -57,7 +57,7 @@ tick-all-spec =
     μ-loop
     cast-n
     loop-holds
-    cast-t16
+    cast-t17
     tick-state-requires
     add-u
     loop-less

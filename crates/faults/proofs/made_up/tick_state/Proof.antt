@@ -4,9 +4,12 @@ use borrow.Author.Needs.{needs}
 use Prim.Native.Nat.{_+_, _≤_, _-_}
 use mathlib.Core.Path.{_≡_, refl, sym, ap, _∙_}
 use native.Mathlib.Omega.{arith}
-use lib.ListN.{length}
+use borrow.Author.Tests.{eq-eqb, eqb-true}
+use lib.ListN.{length, getD}
+use lib.Dec.{eqb}
 use Rattle.graph.specs.Hops.{count}
 use Rattle.graph.specs.Search.{firstOf}
+use Rattle.graph.proofs.Bools.{and-yes, and-left, and-right}
 use Rattle.graph.proofs.Lookup.{first-within}
 use Rattle.starts.proofs.Firsts.{first-next, start-is}
 use Rattle.faults.specs.Faults.{mapped}
@@ -16,12 +19,12 @@ use Rattle.faults.proofs.made_up.tick_state.Statement.{statement}
 use Rattle.faults.proofs.made_up.tick_state.Tie as tie
 
 abbrev Inv-loop : tie.InvT-loop
-Inv-loop shape1 hops1 starts1 hops2 map seen stamps₀ r k at past i₀ stamps i =
+Inv-loop hops1 starts1 hops2 map images seen stamps₀ k at past i₀ stamps i =
     (past ≡ firstOf hops1 (at + 1)) × (past ≤ count hops1) × (firstOf hops1 at ≤ i) × (i ≤ past) × (length stamps ≡ length stamps₀) ×
-    TickedOn hops1 hops2 map seen (r .0) k (firstOf hops1 at) i stamps₀ stamps
+    TickedOn hops1 hops2 map seen (mapped map at) k (firstOf hops1 at) i stamps₀ stamps
 
 abbrev μ-loop : tie.MeasureT-loop
-μ-loop shape1 hops1 starts1 hops2 map seen stamps₀ r k at past i₀ stamps i = past - i
+μ-loop hops1 starts1 hops2 map images seen stamps₀ k at past i₀ stamps i = past - i
 
 map-at-requires : tie.Need-map-at-requires Inv-loop μ-loop
 map-at-requires c κs = search needs
@@ -52,20 +55,20 @@ loop-holds c =
     let up = s .pre .0 .admitted .ascending in
     let at = c .before .before .before .before .before .before .wide .result in
     let in-table : at + 1 ≤ 1024 = omega (arith, c .before .before .before .before .before .before .wide .ensures, s .pre .1 .1 .1 .1, s .pre .0 .admitted .states-most) in
-    let p : c .before .start-of .result ≡ firstOf hs (at + 1) = start-is hs (s .args .starts1 .now) (s .pre .1 .0) _ refl in-table (c .before .start-of .ensures) in
-    let f : c .start-of2 .result ≡ firstOf hs at = start-is hs (s .args .starts1 .now) (s .pre .1 .0) _ refl (omega arith) (c .start-of2 .ensures) in (
+    let p : c .before .start-of .result ≡ firstOf hs (at + 1) = start-is hs (s .args .starts1 .now) (s .pre .1 .0 .0) _ refl in-table (c .before .start-of .ensures) in
+    let f : c .start-of2 .result ≡ firstOf hs at = start-is hs (s .args .starts1 .now) (s .pre .1 .0 .0) _ refl (omega arith) (c .start-of2 .ensures) in (
       p,
       omega (arith, first-within hs up (at + 1)),
       omega arith,
       omega (arith, first-next hs up at),
       refl,
-      rw f (on-none hs (s .args .hops2 .now) (s .args .map .now) (s .args .seen .now) (s .args .r .0) (s .args .k) (firstOf hs at) (s .args .stamps .now)),
+      rw f (on-none hs (s .args .hops2 .now) (s .args .map .now) (s .args .seen .now) (mapped (s .args .map .now) at) (s .args .k) (firstOf hs at) (s .args .stamps .now)),
     )
 
 tick-requires : tie.Need-tick-requires Inv-loop μ-loop
 tick-requires c κs =
     let s = c .before .before .before .before .before .before .before .before .before .before .before .before .before .before .before .before in
-    (s .pre .0, (omega (arith, c .before .before .loop .inv, s .pre .1 .1 .1 .0), omega (arith, c .before .before .loop .inv, c .before .loop-test)))
+    omega (arith, c .before .before .loop .inv, c .before .loop-test, s .pre .0 .admitted .hops-most)
 
 add-i : tie.Need-add-i Inv-loop μ-loop
 add-i c = search needs
@@ -76,15 +79,18 @@ loop-less c = search needs
 loop-again : tie.Need-loop-again Inv-loop μ-loop
 loop-again c =
     let s = c .before .before .before .before .before .before .before .before .before .before .before .before .before .before .before .before .before .before .before in
-    let v = c .before .before .before .before .before .loop .inv in (
+    let v = c .before .before .before .before .before .loop .inv in
+    let at = c .before .before .before .before .before .before .before .before .before .before .before .before .wide .result in
+    let own = map-of (c .before .before .before .before .before .before .before .before .before .before .before .before) in
+    let seen-too = and-left (eqb (getD (s .args .seen .now) at 0) 1) _ (c .before .before .before .before .before .before .before .before .if1 .taken) in (
       v .0,
       v .1,
       omega arith,
       omega arith,
       omega arith,
-      state-more (s .args .hops1 .now) (s .args .hops2 .now) (s .args .map .now) (s .args .seen .now) (s .args .r .0) (s .args .k) (s .pre .0 .admitted .ascending)
-          (c .before .before .before .before .before .before .before .before .before .before .before .before .wide .result) (map-of (c .before .before .before .before .before .before .before .before .before .before .before .before)) (s .pre .0 .ready .ascending) (c .before .before .before .before .before .before .before .before .if1 .taken) (s .args .stamps .now) (c .before .before .before .before .before .loop .stamps) (omega arith) (v .2) (omega arith)
-          (c .before .before .tick .ensures) (v .5),
+      state-more (s .args .hops1 .now) (s .args .hops2 .now) (s .args .map .now) (s .args .seen .now) (mapped (s .args .map .now) at) (s .args .k)
+          (s .pre .0 .admitted .ascending) at own (s .pre .0 .ready) (s .args .images .now) (s .pre .1 .0 .1) (and-yes seen-too (eq-eqb _ _ own))
+          (s .args .stamps .now) (c .before .before .before .before .before .loop .stamps) (omega arith) (v .2) (omega arith) (c .before .before .tick .ensures) (v .5),
     )
 
 same-length : tie.Need-same-length Inv-loop μ-loop
@@ -94,8 +100,10 @@ returns : tie.Need-returns Inv-loop μ-loop
 returns c =
     let s = c .before .before .before .before .before .before .before .before .before .before .before .before .before .before .before in
     let v = c .before .loop .inv in
-    rw (← c .before .before .before .before .before .before .before .before .wide .ensures)
-    (on-done (s .args .hops1 .now) (s .args .hops2 .now) (s .args .map .now) (s .args .seen .now) (s .args .r .0) (s .args .k) _ _ _ (omega arith) (omega arith) (v .5))
+    let at = c .before .before .before .before .before .before .before .before .wide .result in
+    let class : s .args .r .0 ≡ mapped (s .args .map .now) at = sym (eqb-true _ _ (and-right (eqb (getD (s .args .seen .now) at 0) 1) _ (c .before .before .before .before .if1 .taken))) ∙ map-of (c .before .before .before .before .before .before .before .before) in
+    rw (class, ← c .before .before .before .before .before .before .before .before .wide .ensures)
+    (on-done (s .args .hops1 .now) (s .args .hops2 .now) (s .args .map .now) (s .args .seen .now) (mapped (s .args .map .now) at) (s .args .k) _ _ _ (omega arith) (omega arith) (v .5))
 
 returns-2 : tie.Need-returns-2 Inv-loop μ-loop
 returns-2 c =
