@@ -8,13 +8,26 @@
  * behind each entry below. The return value is the number: 0 for accepted, else that of the refusal, and then every figure is 0 and nothing else that
  * was lent is altered. An answer too short speaks last, as an output too short does: 6, and nothing is written at all.
  *
- *    1  a count outside its limits, or a list length that is no multiple of three    8  a map of a wrong length (place: the length) or a wrong entry
- *    2  initial state not below the state count                                      9  no silent hop at the asked place
- *    3  a hop's state or label not below its count (place: the first such hop)      10  more than 4 rounds
- *    4  a hop not above the one before (place: the first such hop)                  11  the file ends before its contents
- *    5  a ring of silent hops (place: the lowest state on one)                      12  a bit of the map byte that must not stand
- *    6  an output too short                                                         13  a file too long, or bytes left over
- *    7  the label counts of two graphs differ                                       14  a bad name, or a bad name block
+ * Check and mark exist in a form over records too; that form is for Rattle callers and is not exported to C.
+ *
+ * The numbers. A place counts from 0, that of a hop in hops; it is 0 where none is named.
+ *
+ *    1  a count outside its limits, or a list length that is no multiple of three
+ *    2  initial state not below the state count
+ *    3  a hop's state or label not below its count (place: the first such hop)
+ *    4  a hop not above the one before (place: the first such hop)
+ *    5  a ring of silent hops (place: the lowest state on one)
+ *    6  an output too short
+ *    7  the label counts of two graphs differ
+ *    8  a map length that is not state count 1 (place: the length), else an entry not below state count 2 (place: the first such entry)
+ *    9  no silent hop at the asked place
+ *   10  more than 4 rounds
+ *   11  the file ends before its contents (place: the file's length)
+ *   12  a bit of the map byte that must not stand
+ *   13  a file of more than 58,344 bytes (place: 58,344), or bytes left over (place: the first of them)
+ *   14  a name of length 0 or over 32, or one equal to an earlier one (place: the length byte of the first such name; for writing, counted from the
+ *       block's start); for writing, before any fault in a name, a block that ends early (place: its length) or has bytes left over (place: the
+ *       first of them)
  */
 #ifndef ZUNDRAFIPO_H
 #define ZUNDRAFIPO_H
