@@ -3,10 +3,10 @@
 use Prim.Native.Nat.{ℕ, zero, suc, _+_, _<_, _≤_}
 use mathlib.Core.Path.{_≡_, refl, sym, _∙_}
 use mathlib.Core.Bool.{Bool, true, false}
-use mathlib.Core.Logic.{_⊎_, inl, inr, ⊎-elim}
+use mathlib.Core.Logic.{_⊎_, inl, inr}
 use native.Mathlib.Omega.{arith}
 use Rattle.graph.specs.Tests.{all, tally}
-use Rattle.graph.proofs.Bools.{clash, decided, same-test}
+use Rattle.graph.proofs.Bools.{clash, decided}
 use Rattle.graph.proofs.Tests.{tally-less, tally-within, all-at, all-counter}
 
 -- at each number below n, a test of `chain (suc k)` is one of `chain k`

@@ -1,25 +1,25 @@
 -- The ways out of `check` and what its answer means: 0 exactly for the graphs that document 01 admits, and the places of rows 3 and 4 are the
 -- first such hops. Assumes nothing.
 use Prim.Native.Nat.{ℕ, zero, suc, _+_, _-_, _%_, _<_, _≤_}
-use mathlib.Core.Path.{_≡_, refl, sym, ap, _∙_, subst}
-use mathlib.Core.Bool.{Bool, true, false, cond, not, _&&_, _||_}
+use mathlib.Core.Path.{_≡_, refl, sym, ap, subst}
+use mathlib.Core.Bool.{Bool, true, false, cond, not, _&&_}
 use mathlib.Core.List.{List}
-use mathlib.Core.Logic.{_⊎_, inl, inr, ⊎-elim, _↔_}
+use mathlib.Core.Logic.{_⊎_, inl, inr, _↔_}
 use native.Mathlib.Nat.{le-refl}
 use native.Mathlib.Numerals.{add-one}
 use native.Mathlib.Omega.{arith}
-use borrow.Author.Tests.{ltb-true, ltb-false, leb-true, leb-false, eqb-true, lt-ltb, le-ltb, le-leb, lt-leb, eq-eqb, ne-eqb, not-true, not-false}
+use borrow.Author.Tests.{ltb-true, ltb-false, leb-true, leb-false, eqb-true, lt-ltb, le-ltb, le-leb, lt-leb, eq-eqb, not-true, not-false}
 use lib.ListN.{length}
 use lib.Dec.{eqb, leb, ltb}
 use Rattle.graph.specs.Tests.{least, FirstFailing}
-use Rattle.graph.specs.Hops.{count, whole, from, label, to, hopAt}
+use Rattle.graph.specs.Hops.{count, from, label, to, hopAt}
 use Rattle.graph.specs.Order.{before, Ascending}
 use Rattle.graph.specs.Check.{most-states, most-labels, most-hops, accepted, refused, countsFit, inside, firstOutside, rises, firstFalling, checkOf, InRange, Admitted}
 use Rattle.graph.specs.declared.Hop.{Hop}
 use Rattle.graph.specs.declared.Shape.{Shape}
 use Rattle.graph.specs.declared.Answer.{Answer}
-use Rattle.graph.proofs.Bools.{clash, decided, not-yes, and-yes, and-left, and-right, or-yes, or-right, lt-or-le}
-use Rattle.graph.proofs.Tests.{least-is, least-passes, least-before, least-within}
+use Rattle.graph.proofs.Bools.{not-yes, and-left, and-right, or-yes, or-right}
+use Rattle.graph.proofs.Tests.{least-is, least-passes, least-before}
 
 -- row 3 of the hop that stands at a place
 pub inside-hop : (sh : Shape) (hs : List ℕ) (i : ℕ) {h : Hop} → h ≡ hopAt hs i →

@@ -1,6 +1,6 @@
 -- Laws of the search in an ascending list: the places below `lower` hold exactly the earlier hops, the search tells membership, and the
 -- places from `firstOf` up to `pastOf` hold exactly a state's hops. Assumes nothing.
-use Prim.Native.Nat.{ℕ, zero, suc, _+_, _<_, _≤_}
+use Prim.Native.Nat.{ℕ, _+_, _<_, _≤_}
 use mathlib.Core.Path.{_≡_, refl, sym, ap, _∙_, subst}
 use mathlib.Core.Bool.{Bool, true, false, not, _&&_}
 use mathlib.Core.List.{List}

@@ -1,13 +1,13 @@
 -- The order of hops is a strict total order, so that in an ascending list an earlier place holds an earlier hop. Assumes nothing.
-use Prim.Native.Nat.{ℕ, zero, suc, _+_, _<_, _≤_}
+use Prim.Native.Nat.{ℕ, zero, suc, _<_, _≤_}
 use mathlib.Core.Path.{_≡_, sym, _∙_, subst, subst⁻¹}
-use mathlib.Core.Bool.{Bool, true, false, _&&_, _||_}
+use mathlib.Core.Bool.{true, false, _&&_, _||_}
 use mathlib.Core.List.{List}
 use mathlib.Core.Logic.{_⊎_, inl, inr, ⊎-elim}
 use native.Mathlib.Nat.{eq-or-lt-of-le, le-of-suc-le-suc, not-suc-le-zero}
 use native.Mathlib.Numerals.{add-one}
 use native.Mathlib.Omega.{arith}
-use borrow.Author.Tests.{ltb-true, lt-ltb, le-ltb, eqb-true, eq-eqb, ne-eqb}
+use borrow.Author.Tests.{ltb-true, lt-ltb, eqb-true, eq-eqb}
 use lib.Dec.{ltb, eqb}
 use Rattle.graph.specs.Hops.{count, from, label, to, hopAt}
 use Rattle.graph.specs.Order.{before, Ascending}
@@ -123,9 +123,3 @@ module _ (hs : List ℕ) (up : Ascending hs) where
     go (inl k) = clash (ascending-lt j k m) (rw e (before-itself (hopAt hs j)))
     go (inr (inl q)) = q
     go (inr (inr k)) = clash (ascending-lt i k l) (rw e (before-itself (hopAt hs j)))
-
-  pub ascending-from : {i j : ℕ} → i ≤ j → j < count hs → from hs i ≤ from hs j
-  ascending-from {i} {j} h l = ⊎-elim (λ q. rw q (omega arith)) (λ m. go (before-below (hopAt hs i) (hopAt hs j) (ascending-lt j m l))) (eq-or-lt-of-le h) where
-    go : Below (hopAt hs i) (hopAt hs j) → from hs i ≤ from hs j
-    go (inl k) = omega arith
-    go (inr (e, k)) = omega arith

@@ -1,7 +1,7 @@
 -- Laws of the flat hop list: what a place holds, and that the graph has a hop exactly when some place holds it. Assumes nothing.
-use Prim.Native.Nat.{ℕ, zero, suc, _+_, _*_, _/_, _<_, _≤_}
-use mathlib.Core.Path.{_≡_, refl, sym, ap, _∙_}
-use mathlib.Core.Bool.{Bool, true, false, _&&_}
+use Prim.Native.Nat.{ℕ, zero, suc, _+_, _*_, _<_}
+use mathlib.Core.Path.{_≡_, refl, ap, _∙_}
+use mathlib.Core.Bool.{true}
 use mathlib.Core.List.{List, [], _∷_}
 use native.Mathlib.Numerals.{add-one, add-two}
 use native.Mathlib.Omega.{arith}
@@ -11,7 +11,7 @@ use lib.Dec.{eqb}
 use Rattle.graph.specs.Tests.{any}
 use Rattle.graph.specs.Hops.{count, from, label, to, hopAt, noHop, flat, is, has}
 use Rattle.graph.specs.declared.Hop.{Hop}
-use Rattle.graph.proofs.Bools.{and-yes, and-left, and-right}
+use Rattle.graph.proofs.Bools.{and-left, and-right}
 use Rattle.graph.proofs.Tests.{any-found, any-at}
 
 module _ (hs : List ℕ) (s a t i : ℕ) where

@@ -3,7 +3,7 @@
 use Prim.Native.Nat.{ℕ, zero, suc, _+_, _*_, _<_, _≤_}
 use mathlib.Core.Path.{_≡_, refl, sym, ap, _∙_}
 use mathlib.Core.Bool.{Bool, true, false, cond, _&&_, _||_}
-use mathlib.Core.List.{List, [], _∷_, _++_}
+use mathlib.Core.List.{List, [], _∷_}
 use mathlib.Core.Logic.{_⊎_, inl, inr, ⊎-elim}
 use native.Mathlib.Nat.{eq-or-lt-of-le, le-of-suc-le-suc, not-suc-le-zero, le-refl, suc-mul}
 use native.Mathlib.Numerals.{add-one}
@@ -13,7 +13,7 @@ use lib.Dec.{ltb}
 use lib.ListN.{length, getD, length-append, List·getD-append}
 use lib.Seq.{getD-at}
 use Rattle.graph.specs.Tests.{all, any, least, tally, listed, total}
-use Rattle.graph.proofs.Bools.{clash, and-left, and-right, and-no-right, or-right, or-yes, same-test}
+use Rattle.graph.proofs.Bools.{clash, and-left, and-right, and-no-right, or-right, or-yes}
 
 module _ (p : ℕ → Bool) where
   pub all-none : all 0 p ≡ true
@@ -163,19 +163,10 @@ module _ (p : ℕ → Bool) where
 
 -- two tests that agree below the bound
 module _ (p q : ℕ → Bool) where
-  pub all-same : (n : ℕ) → ((j : ℕ) → j < n → p j ≡ q j) → all n p ≡ all n q
-  all-same n f =
-      same-test (all n p) (all n q) (λ e. all-yes q n (λ j l. sym (f j l) ∙ all-at p n e l)) (λ e. all-yes p n (λ j l. f j l ∙ all-at q n e l))
-
   pub any-same : (n : ℕ) → ((j : ℕ) → j < n → p j ≡ q j) → any n p ≡ any n q
   unfolding any
   any-same zero f = refl
   any-same (suc n) f = rw (f n (omega arith), any-same n (λ j h. f j (omega arith)))
-
-  pub least-same : (n : ℕ) → ((j : ℕ) → j < n → p j ≡ q j) → least n p ≡ least n q
-  unfolding least
-  least-same zero f = refl
-  least-same (suc n) f = rw (f n (omega arith), least-same n (λ j h. f j (omega arith)))
 
   pub tally-same : (n : ℕ) → ((j : ℕ) → j < n → p j ≡ q j) → tally n p ≡ tally n q
   unfolding tally

@@ -1,5 +1,6 @@
 -- The hop list of document 01: "one flat list of numbers, three a hop", seen by places that count hops from 0.
--- Only this file, the accessors and their laws know how many numbers a hop takes. Assumes nothing: these are definitions.
+-- Hops are looked at through this file, the accessors and their laws; elsewhere three stands only where document 01 says it: in the room that an output has and in
+-- the length of a file. Assumes nothing: these are definitions.
 use Prim.Native.Nat.{ℕ, zero, suc, _+_, _-_, _*_, _/_, _%_}
 use mathlib.Core.Bool.{Bool, _&&_}
 use mathlib.Core.List.{List, [], _∷_, _++_}

@@ -1,4 +1,4 @@
-// What stands at a place of a flat hop list. Nothing above this file knows how many numbers a hop takes.
+// What stands at a place of a flat hop list, and where a hop's numbers begin: the code above asks here.
 use super::Hop;
 use super::Label;
 use super::OldState;

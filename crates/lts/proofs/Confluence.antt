@@ -8,7 +8,7 @@ use native.Mathlib.Omega.{arith}
 use mathlib.Core.Path.{_≡_, refl, sym, _∙_, subst}
 use mathlib.Core.Logic.{_⊎_, inl, inr, _↔_}
 use Rattle.lts.specs.Star.{Star, stay, go, Joined, same, fore, back}
-use Rattle.lts.specs.Sense.{Normal, Silent, Weak}
+use Rattle.lts.specs.Sense.{Normal, Silent}
 use Rattle.lts.specs.Reduction.{Confluent, Rests, Next, Kept}
 use Rattle.lts.proofs.Star.{first, wider, star→joined, Joined·join, Joined·sym}
 

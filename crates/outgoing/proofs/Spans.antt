@@ -8,7 +8,7 @@ use native.Mathlib.Omega.{arith}
 use borrow.Author.Tests.{eq-eqb, ne-eqb, eqb-true}
 use lib.ListN.{length, take, drop}
 use lib.Dec.{eqb}
-use Rattle.graph.specs.Hops.{numberPlace, between}
+use Rattle.graph.specs.Hops.{numberPlace}
 use Rattle.graph.specs.Search.{firstOf, pastOf}
 use Rattle.outgoing.specs.declared.Span.{Span}
 use Rattle.outgoing.specs.Outgoing.{outgoing, noSpan, spanIn}

@@ -29,7 +29,8 @@ outgoing hs s = between hs (firstOf hs s) (pastOf hs s)
 unfoldable pub shown : ℕ → ℕ → List ℕ → List ℕ → List ℕ
 shown which s h1 h2 = cond (eqb which 1) (outgoing h1 s) (cond (eqb which 2) (outgoing h2 s) [])
 
--- where it stands; an empty part's position is free in document 01, and is the front of table 1 here
+-- where it stands: in the chosen table, where the state's hops begin (or would, if it has none); where no table is chosen, at the front of table 1. Document 01
+-- leaves an empty part's position free
 unfoldable pub shownAt : ℕ → ℕ → RefT (List ℕ) → RefT (List ℕ) → ℕ × ℕ
 shownAt which s t1 t2 =
     cond (eqb which 1) (standsAt t1 (firstOf (now t1) s)) (cond (eqb which 2) (standsAt t2 (firstOf (now t2) s)) (standsAt t1 0))

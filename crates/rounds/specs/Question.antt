@@ -1,7 +1,7 @@
 -- The round question of document 01: "The entry is given a hop's place in the list and k from 0 to 4, and answers 1 or 0".
 -- Assumes nothing: these are definitions.
 use Prim.Native.Nat.{ℕ}
-use mathlib.Core.Bool.{Bool, cond, _&&_}
+use mathlib.Core.Bool.{cond, _&&_}
 use mathlib.Core.List.{List}
 use lib.Dec.{eqb, leb, ltb}
 use Rattle.graph.specs.Hops.{count, from, label, to}

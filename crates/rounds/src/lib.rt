@@ -1,5 +1,5 @@
 // The round question: does a silent hop survive k rounds of marking?
-pub mod index; // index.rt: the first place of each state's hops, noted once, and the search among one state's hops
+pub mod index; // index.rt: a state's hops by the table of first places, and the search among them
 pub mod cycle; // cycle.rt: the equations X, Y and Z, which call on one another
 pub mod question; // question.rt: the entry and its checks
 

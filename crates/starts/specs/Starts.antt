@@ -13,7 +13,7 @@ use Rattle.graph.specs.declared.Shape.{Shape}
 unfoldable pub Table : List ℕ → List ℕ → Type 0
 Table hs st = (s : ℕ) → s ≤ most-states → getD st s 0 ≡ firstOf hs s
 
--- what the table needs of a hop list; `check` sees to it
+-- what the table, and a walk by it from one end of a hop to the other, need of a hop list; `check` sees to it
 pub record Ready (hs : List ℕ) : Type 0 where
   pub ascending : Ascending hs
   pub hops-most : count hs ≤ most-hops

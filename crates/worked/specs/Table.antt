@@ -1,6 +1,6 @@
 -- "Graphs worked by hand": P1 to P10 as one table, and what the definitions give for the same graphs. Assumes nothing: these are definitions.
-use Prim.Native.Nat.{ℕ, _+_}
-use mathlib.Core.Bool.{Bool, cond, not, _&&_}
+use Prim.Native.Nat.{ℕ}
+use mathlib.Core.Bool.{cond, not, _&&_}
 use mathlib.Core.List.{List, [], _∷_, map}
 use lib.ListN.{length}
 use lib.Dec.{eqb}
@@ -13,7 +13,9 @@ use Rattle.graph.specs.declared.Answer.{Answer}
 use Rattle.confluence.specs.Rounds.{survives}
 use Rattle.marks.specs.Mark.{marksOf, markAnswer}
 use Rattle.short.specs.Short.{mapList, shortHops, shortShape}
-use Rattle.faults.specs.Faults.{faultsOf}
+use Rattle.quotient.specs.Reduce.{reduceAnswer}
+use Rattle.bisimulation.specs.Auditing.{auditOf}
+use Rattle.bisimulation.specs.declared.Audit.{Audit}
 
 -- a hop as document 01 writes it, and a shape with initial state 0
 abbrev pub hop : ℕ → ℕ → ℕ → Hop
@@ -22,24 +24,25 @@ hop s a t = record { from = s; label = a; to = t }
 abbrev pub shape : ℕ → ℕ → Shape
 shape n l = record { states = n; labels = l; initial = 0 }
 
--- what is said of a graph: the answer of `mark` and `reduce` to outputs that are long enough, the marks, for each hop the round in which it falls
+-- what is said of a graph: the answers of `mark` and of `reduce` to outputs that are long enough, the marks, for each hop the round in which it falls
 -- (0: it is visible, or survives every round), the map, the short graph's state count and its hops
 pub record Outcome : Type 0 where
   pub answer : Answer
+  pub reduced : Answer
   pub marks : List ℕ
   pub falls : List ℕ
   pub map : List ℕ
   pub states : ℕ
   pub short : List Hop
 
--- what is said of an audit: graph 1, graph 2, the map, the fault count
+-- what is said of an audit: graph 1, graph 2, the map, and what the audit returns
 pub record Audited : Type 0 where
   pub shape1 : Shape
   pub hops1 : List Hop
   pub shape2 : Shape
   pub hops2 : List Hop
   pub map : List ℕ
-  pub faults : ℕ
+  pub audit : Audit
 
 pub record Entry : Type 0 where
   pub graph : Shape
@@ -57,20 +60,21 @@ fallsIn hs i =
     (least (count hs) (λ (k : ℕ). not (survives hs k (from hs i) (to hs i)))) 0
 
 abbrev pub refusedWith : Answer → Outcome
-refusedWith a = record { answer = a; marks = []; falls = []; map = []; states = 0; short = [] }
+refusedWith a = record { answer = a; reduced = a; marks = []; falls = []; map = []; states = 0; short = [] }
 
 unfoldable pub outcomeOf : Shape → List ℕ → Outcome
 outcomeOf sh hs =
     cond (eqb (markAnswer sh hs hs .number) 0)
     (record {
       answer = markAnswer sh hs hs;
+      reduced = reduceAnswer sh hs (sh .states) (length hs);
       marks = marksOf hs;
       falls = listed (count hs) (fallsIn hs);
       map = mapList sh hs;
       states = shortShape sh hs .states;
       short = shortHops sh hs;
     })
-    (refusedWith (markAnswer sh hs hs))
+    (record { answer = markAnswer sh hs hs; reduced = reduceAnswer sh hs (sh .states) (length hs); marks = []; falls = []; map = []; states = 0; short = [] })
 
 abbrev pub entryOf : Entry → Entry
 entryOf e = record { graph = e .graph; hops = e .hops; outcome = outcomeOf (e .graph) (flat (e .hops)) }
@@ -82,7 +86,7 @@ auditedOf a = record {
   shape2 = a .shape2;
   hops2 = a .hops2;
   map = a .map;
-  faults = faultsOf (a .shape1) (a .shape2) (flat (a .hops1)) (flat (a .hops2)) (a .map);
+  audit = auditOf (a .shape1) (a .shape2) (flat (a .hops1)) (flat (a .hops2)) (a .map);
 }
 
 abbrev pub tableOf : Table → Table
@@ -117,7 +121,10 @@ abbrev p10 : List Hop
 p10 = hop 0 0 1 ∷ hop 0 1 2 ∷ hop 1 1 3 ∷ hop 2 0 3 ∷ hop 2 2 4 ∷ []
 
 abbrev accepts : List ℕ → List ℕ → List ℕ → ℕ → List Hop → Outcome
-accepts m f t n s = record { answer = accepted; marks = m; falls = f; map = t; states = n; short = s }
+accepts m f t n s = record { answer = accepted; reduced = accepted; marks = m; falls = f; map = t; states = n; short = s }
+
+abbrev finds : ℕ → Audit
+finds n = record { answer = accepted; faults = n }
 
 -- document 01's figures
 abbrev pub table : Table
@@ -164,15 +171,15 @@ table = record {
       [];
   -- P9: P1 with its result; with the short hop taken out; with (1,1,1) added to the short graph
   audits =
-      record { shape1 = shape 4 2; hops1 = p1; shape2 = shape 2 2; hops2 = hop 0 1 1 ∷ []; map = 0 ∷ 0 ∷ 1 ∷ 1 ∷ []; faults = 0 } ∷
-      record { shape1 = shape 4 2; hops1 = p1; shape2 = shape 2 2; hops2 = []; map = 0 ∷ 0 ∷ 1 ∷ 1 ∷ []; faults = 2 } ∷
+      record { shape1 = shape 4 2; hops1 = p1; shape2 = shape 2 2; hops2 = hop 0 1 1 ∷ []; map = 0 ∷ 0 ∷ 1 ∷ 1 ∷ []; audit = finds 0 } ∷
+      record { shape1 = shape 4 2; hops1 = p1; shape2 = shape 2 2; hops2 = []; map = 0 ∷ 0 ∷ 1 ∷ 1 ∷ []; audit = finds 2 } ∷
       record {
         shape1 = shape 4 2;
         hops1 = p1;
         shape2 = shape 2 2;
         hops2 = hop 0 1 1 ∷ hop 1 1 1 ∷ [];
         map = 0 ∷ 0 ∷ 1 ∷ 1 ∷ [];
-        faults = 2;
+        audit = finds 2;
       } ∷
       [];
 }

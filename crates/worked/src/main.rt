@@ -1,5 +1,5 @@
 // Document 01's graphs worked by hand. P1 to P10 are a table in specs/, with one proof that the definitions give its entries; this program
-// runs the graphs at the limits, and bad input, through the entries and prints what they answer.
+// runs the graphs at the limits, and bad input, through `check` and prints what it answers.
 use graph::Answer;
 use graph::Shape;
 use graph::limits::check;

@@ -2,7 +2,7 @@
 use borrow.Author.Needs.{needs}
 use native.Mathlib.Omega.{arith}
 use lib.ListN.{length-set}
-use mathlib.Core.List.{[], _∷_}
+use mathlib.Core.List.{[]}
 use Rattle.answers.specs.Numbers.{numbersOf}
 use Rattle.answers.proofs.Answers.{stored}
 use Rattle.answers.proofs.put_answer.Statement.{statement}

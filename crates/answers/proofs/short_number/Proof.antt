@@ -1,5 +1,4 @@
 -- `answers::short_number` meets its contract. Assumes nothing.
-use borrow.Author.Needs.{needs}
 use Rattle.answers.proofs.Answers.{short-six, refusal-returns}
 use Rattle.answers.proofs.short_number.Statement.{statement}
 use Rattle.answers.proofs.short_number.Tie as tie
