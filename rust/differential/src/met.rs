@@ -81,7 +81,7 @@ impl Met {
         }
     }
 
-    /// A call whose answer did not fit.
+    /// A call whose answer did not fit; what stands behind a comma is no part of the entry's name.
     pub fn count_short_answer(&mut self, entry: &'static str, accepted: bool) {
         let entry = entry.split(',').next().unwrap_or(entry);
         self.count((entry, Some(if accepted { "answer too short, else accepted" } else { "answer too short, else refused" })));

@@ -7,8 +7,8 @@ const LONGEST_NAME: usize = 32;
 /// A name block put together name by name, for labels 1 upward: what [`Graph::write`](crate::Graph::write) takes.
 ///
 /// A name that no block can hold, of no bytes, of more than 32 or with the bytes of an earlier one, is refused when it is added, with the number
-/// and place that writing would give it (14, and where its length byte would stand). How many names there must be only the graph knows: a block with too many or
-/// too few is refused by [`Graph::write`](crate::Graph::write).
+/// and place that writing would give it (14, and where its length byte would stand). How many names there must be only the graph knows: a block
+/// with too many or too few is refused by [`Graph::write`](crate::Graph::write).
 ///
 /// ```
 /// use zundrafipo::{read, Graph, NameBlock};

@@ -2,10 +2,15 @@ use std::fmt;
 
 /// Why an entry refused: the number, the table that it speaks of and the place in it, as the scope document's table of answers has them.
 ///
-/// Places count from 0, that of a hop in hops. With 3 and 4 it is the first such hop; with 5 the lowest state on a ring; with 8 the map's length, else the first such
-/// entry; with 11 the file's length; with 13 58,344, or the first extra byte; with 14 the length byte of the first such name, for writing counted from the
-/// block's start, or the length of a block that ends early, or the first byte that is left, and these two speak before any fault in a
-/// name. With every other number it is 0.
+/// Places count from 0, that of a hop in hops. The place is
+/// - with 3 and 4 the first such hop;
+/// - with 5 the lowest state on a ring;
+/// - with 8 the map's length where that is wrong, else the first such entry;
+/// - with 11 the file's length;
+/// - with 13 58,344 for a file that is longer, else the first extra byte;
+/// - with 14 the length byte of the first such name, for writing counted from the block's start; but first the length of a block that ends early, or
+///   the first byte left over;
+/// - with every other number 0.
 ///
 /// ```
 /// use zundrafipo::Graph;
