@@ -1,6 +1,7 @@
 #!/usr/bin/env bash
 # Compares the proved library, through its archive for C and Rust, with a checker that is written from the scope document's sentences: every answer,
-# figure and lent element, refused calls too. Words given here go to the comparison: --seed N, --small N, --files N, --large N.
+# figure and lent element, refused calls too. Then the plain implementation, which stands beside the library in the benchmarks, with fewer random calls.
+# A comparison that never met one of an entry's conditions fails. Words given here go to both: --seed N, --small N, --files N, --large N.
 set -euo pipefail
 cd "$(dirname "$0")/.."
 
@@ -17,3 +18,4 @@ cd rust
 cargo test --release --offline --quiet -p checker
 cargo test --offline --quiet -p zundrafipo
 cargo run --release --offline --quiet -p differential --features library -- "$@"
+cargo run --release --offline --quiet -p differential -- --small 40000 --files 40000 --large 80 "$@"

@@ -95,22 +95,78 @@ fn falling() -> Named {
     graph("ladder that falls a rung a sweep, beside a block", block + 2 * rungs, 3, order.chain(rung).chain(rails).chain(fault))
 }
 
-/// For the audit: a ring of silent hops through all states, a map to one state, and as many hops of that state as there can be.
-pub fn worst_audit() -> (Named, Graph, Vec<u16>) {
-    let one = graph(
-        "all states on a silent ring, one class, 4,096 hops to answer",
-        1024,
-        4,
-        (0..1024).flat_map(|s| (1..5).map(move |d| [s, 0, (s + d) % 1024])),
-    );
-    let two = graph("", 1024, 4, (0..1024).flat_map(|q| (0..4).map(move |a| [0, a, q])));
-    (one, two.graph, vec![0; 1024])
+/// The graphs on which marking by plain sweeps takes longest: they have a name of their own, since each of them takes minutes.
+pub fn long_markings() -> Vec<Named> {
+    vec![
+        {
+            let (chain, states) = one_a_sweep(682);
+            let (block, states) = looked_up_again(states, 8, 330);
+            graph("chain that falls a hop a sweep, beside a block looked up again", states, 3, chain.into_iter().chain(block))
+        },
+        {
+            let (chain, states) = waves(36, 60);
+            graph("waves: 60 chains of 36 hops that fall one after the other", states, 3, chain)
+        },
+    ]
 }
 
-/// For the round question: 64 states with silent hops between most of them; each also has a visible hop, tried last, that nothing answers.
-pub fn dense_rounds() -> Named {
-    let silent = (0..64).flat_map(|s| (0..64).filter(move |&t| s != t && (s * 5 + t * 3) % 61 != 1).map(move |t| [s, 0, t]));
-    graph("64 states, silent hops between most", 64, 65, silent.chain((0..64).map(|s| [s, 1 + s, 0])))
+/// A chain of states with a silent hop to the next and one to the state e; the last one's hop to e has nothing to close it. Whether a state's hop to e closes
+/// hangs on the next state's hop to e, so that one mark falls a sweep. Label 2 is used, and the number of states is given too.
+fn one_a_sweep(length: u16) -> (Hops, u16) {
+    let e = length;
+    let next = (0..length - 1).map(|i| [i, 0, i + 1]);
+    let out = (0..length).map(|i| [i, 0, e]);
+    (next.chain(out).chain([[length - 1, 2, 0]]).collect(), length + 1)
+}
+
+/// So many chains at once, each to a state e of its own; silent hops lead from each e to those after it. A chain begins to fall when the one to the next e has
+/// fallen whole: its last state has a hop labelled 2 to its first, which e answers by one to the next e.
+fn waves(length: u16, chains: u16) -> (Hops, u16) {
+    let e = |j: u16| length + j;
+    let next = (0..length - 1).map(|i| [i, 0, i + 1]);
+    let out = (0..length).flat_map(|i| (0..chains).map(move |j| [i, 0, e(j)]));
+    let order = (0..=chains).flat_map(|j| (j + 1..=chains).map(move |l| [e(j), 0, e(l)]));
+    let again = (0..=chains).map(|j| [e(j), 2, e((j + 1).min(chains))]);
+    (next.chain(out).chain(order).chain(again).chain([[length - 1, 2, 0]]).collect(), e(chains) + 1)
+}
+
+/// A block that stays marked: silent hops from each of so many states to those after it, and from each of them a hop labelled 1 to each of so many ends. To answer
+/// a hop to the last end all ends are looked up.
+fn looked_up_again(first: u16, states: u16, ends: u16) -> (Hops, u16) {
+    let end = first + states;
+    let order = (0..states).flat_map(|s| (s + 1..states).map(move |t| [first + s, 0, first + t]));
+    let fan = (0..states).flat_map(|s| (0..ends).map(move |q| [first + s, 1, end + q]));
+    (order.chain(fan).collect(), end + ends)
+}
+
+/// For the audit: all states on a ring of silent hops, a map to one state, and as many hops of that state as there can be; the ring goes through the states
+/// in turn, or here and there.
+pub fn worst_audits() -> Vec<(Named, Graph, Vec<u16>)> {
+    let two = || graph("", 1024, 4, (0..1024).flat_map(|q| (0..4).map(move |a| [0, a, q]))).graph;
+    let ring = (0..1024).flat_map(|s| (1..5).map(move |d| [s, 0, (s + d) % 1024]));
+    let mut random = Random(0x2545_f491_4f6c_dd1d);
+    let mut order: Vec<u16> = (0..1024).collect();
+    for i in (1..1024).rev() {
+        order.swap(i, usize::from(random.below(i as u16 + 1)));
+    }
+    let mut strewn: Hops = (0..1024).map(|i| [order[i], 0, order[(i + 1) % 1024]]).collect();
+    while strewn.len() < 4096 {
+        strewn.insert([random.below(1024), 0, random.below(1024)]);
+    }
+    vec![
+        (graph("all states on a silent ring, one class, 4,096 hops to answer", 1024, 4, ring), two(), vec![0; 1024]),
+        (graph("the same, the ring and the other silent hops at random", 1024, 4, strewn), two(), vec![0; 1024]),
+    ]
+}
+
+/// For the round question: states with silent hops between most or all of them; each also has a visible hop, tried last, that nothing answers.
+pub fn dense_rounds() -> Vec<Named> {
+    let most = (0..64).flat_map(|s| (0..64).filter(move |&t| s != t && (s * 5 + t * 3) % 61 != 1).map(move |t| [s, 0, t]));
+    let all = (0..63).flat_map(|s| (0..63).filter(move |&t| s != t).map(move |t| [s, 0, t]));
+    vec![
+        graph("64 states, silent hops between most", 64, 65, most.chain((0..64).map(|s| [s, 1 + s, 0]))),
+        graph("63 states, silent hops between all", 63, 64, all.chain((0..63).map(|s| [s, 1 + s, 0]))),
+    ]
 }
 
 /// A file of as many different names of two bytes as fit.
@@ -122,6 +178,32 @@ pub fn many_names() -> Vec<u8> {
         file.push(2);
         file.extend(i.to_le_bytes());
     }
+    file
+}
+
+/// A file of different names of two and of three bytes, at random, that begin with one of forty bytes, those of three with one of eighty pairs: whether two of them
+/// have the same length and the same first bytes cannot be foreseen.
+pub fn alike_names() -> Vec<u8> {
+    let mut random = Random(0x2545_f491_4f6c_dd1d);
+    let (mut seen, mut names) = (BTreeSet::new(), vec![]);
+    loop {
+        let longer = random.below(2) == 1;
+        let mut name = vec![random.below(40) as u8];
+        if longer {
+            name.push(random.below(2) as u8);
+        }
+        name.push(random.below(256) as u8);
+        if 5 + names.len() + 1 + name.len() > 58_344 {
+            break;
+        }
+        if seen.insert(name.clone()) {
+            names.push(name.len() as u8);
+            names.extend(name);
+        }
+    }
+    let mut file = vec![4, 1, 0];
+    file.extend((seen.len() as u16 + 1).to_le_bytes());
+    file.extend(names);
     file
 }
 

@@ -3,7 +3,8 @@
 //!     cargo run --release -p bench --features library [-- WORD]
 //!
 //! With a word only the rows that have it are timed. Without the feature the plain implementation is timed alone. Both must leave the same answer
-//! and the same outputs, or the run fails. Times are medians of processor time.
+//! and the same outputs, or the run fails. Times are medians of processor time. The inputs on which marking takes minutes are timed with the word
+//! `minutes` only, and once each.
 
 mod clock;
 mod inputs;
@@ -42,14 +43,19 @@ struct Timed<'a> {
     call: Box<dyn Fn(&mut Outputs) -> u32 + 'a>,
     outputs: Outputs,
     repeats: u32,
+    /// The first run, which is the only one where it was long.
+    once: Duration,
     samples: Vec<f64>,
 }
 
 impl<'a> Timed<'a> {
     fn new(call: impl Fn(&mut Outputs) -> u32 + 'a) -> Timed<'a> {
-        let mut timed = Timed { call: Box::new(call), outputs: Outputs::new(), repeats: 1, samples: vec![] };
-        let once = timed.run(1).max(Duration::from_nanos(20));
-        timed.repeats = (SAMPLE.as_nanos() / once.as_nanos()).clamp(1, 100_000) as u32;
+        let mut timed = Timed { call: Box::new(call), outputs: Outputs::new(), repeats: 1, once: Duration::ZERO, samples: vec![] };
+        timed.once = timed.run(1).max(Duration::from_nanos(20));
+        timed.repeats = (SAMPLE.as_nanos() / timed.once.as_nanos()).clamp(1, 100_000) as u32;
+        if timed.once > LONGEST {
+            timed.samples.push(timed.once.as_secs_f64());
+        }
         timed
     }
 
@@ -83,7 +89,8 @@ fn row_of(entry: &str, input: &str, mut one: Timed, mut two: Option<Timed>) {
     if let Some(two) = &two {
         assert!(one.outputs == two.outputs, "{entry} on {input}: both must leave the same");
     }
-    while one.samples.len() < 3 || (one.samples.len() < MOST_SAMPLES && clock::now() - start < LONGEST) {
+    let long = one.once > LONGEST;
+    while !long && (one.samples.len() < 3 || (one.samples.len() < MOST_SAMPLES && clock::now() - start < LONGEST)) {
         one.sample();
         if let Some(two) = &mut two {
             two.sample();
@@ -114,8 +121,20 @@ fn show(seconds: f64) -> String {
     }
 }
 
+/// The inputs on which marking by plain sweeps takes minutes.
+fn minutes() {
+    for Named { name, graph } in &inputs::long_markings() {
+        let name = format!("{name} (minutes)");
+        row("mark", &name, &|e, o| e.mark(graph, &mut o.marks, &mut o.answer));
+        row("reduce", &name, &|e, o| e.reduce(graph, &mut o.map, &mut o.hops, &mut o.answer));
+    }
+}
+
 fn main() {
     println!("| entry | input | plain | library | ratio |\n|---|---|---|---|---|");
+    if std::env::args().nth(1).as_deref() == Some("minutes") {
+        return minutes();
+    }
     let graphs = inputs::graphs();
     for Named { name, graph } in &graphs {
         row("check", name, &|e, o| e.check(graph, &mut o.answer));
@@ -134,15 +153,17 @@ fn main() {
         let map: Vec<u16> = (0..graph.states as u16).collect();
         row("audit with itself", name, &|e, o| e.audit(graph, graph, &map, &mut o.answer));
     }
-    let (Named { name, graph: one }, two, map) = inputs::worst_audit();
-    row("audit", name, &|e, o| e.audit(&one, &two, &map, &mut o.answer));
-
-    let Named { name, graph: dense } = inputs::dense_rounds();
-    for rounds in 1..=4 {
-        row("round question", &format!("{name}, {rounds} rounds"), &|e, o| e.round(&dense, 0, rounds, &mut o.answer));
+    for (Named { name, graph: one }, two, map) in &inputs::worst_audits() {
+        row("audit", name, &|e, o| e.audit(one, two, map, &mut o.answer));
     }
-    let last = dense.hops.chunks(3).rposition(|hop| hop[1] == 0).expect("a silent hop") as u64;
-    row("round question", &format!("{name}, 4 rounds, the last hop"), &|e, o| e.round(&dense, last, 4, &mut o.answer));
+
+    for Named { name, graph: dense } in &inputs::dense_rounds() {
+        for rounds in 1..=4 {
+            row("round question", &format!("{name}, {rounds} rounds"), &|e, o| e.round(dense, 0, rounds, &mut o.answer));
+        }
+        let last = dense.hops.chunks(3).rposition(|hop| hop[1] == 0).expect("a silent hop") as u64;
+        row("round question", &format!("{name}, 4 rounds, the last hop"), &|e, o| e.round(dense, last, 4, &mut o.answer));
+    }
     for Named { name, graph } in graphs.iter().filter(|g| g.graph.hops[1] == 0) {
         row("round question", &format!("{name}, 4 rounds"), &|e, o| e.round(graph, 0, 4, &mut o.answer));
     }
@@ -157,6 +178,8 @@ fn main() {
     row("read", "4,096 hops, no names", &|e, o| e.read(&file, &mut o.hops, &mut o.answer));
     let many = inputs::many_names();
     row("read", "19,446 different names of two bytes", &|e, o| e.read(&many, &mut o.hops, &mut o.answer));
+    let alike = inputs::alike_names();
+    row("read", "16,364 different names of two and three bytes, alike at first", &|e, o| e.read(&alike, &mut o.hops, &mut o.answer));
 }
 
 /// The short graph and the map, by the plain implementation.

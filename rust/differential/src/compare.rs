@@ -1,6 +1,7 @@
 //! One call of an entry against the checker: the returned number, every element of the answer and of every output, guard elements before and behind each
 //! of them, and inputs that must stay as they are.
 
+use crate::met::{graph_word, hops_of_condition, read_word, round_word, write_word, Condition, Met};
 use crate::random::Random;
 use checker::Answer;
 use differential::entries::{Entries, Graph};
@@ -95,17 +96,14 @@ pub struct Comparer<'a> {
     pub entries: &'a dyn Entries,
     pub random: Random,
     pub calls: u64,
-    pub refusals: [u64; 15],
-    /// Graphs that reduce made smaller, and audits that found faults: a comparison without them would say little.
-    pub smaller: u64,
-    pub faulty: u64,
+    pub met: Met,
     /// The length of answers: mostly enough, unless it is set.
     pub answer_len: Option<usize>,
 }
 
 impl<'a> Comparer<'a> {
     pub fn new(entries: &'a dyn Entries, seed: u64) -> Comparer<'a> {
-        Comparer { entries, random: Random::new(seed), calls: 0, refusals: [0; 15], smaller: 0, faulty: 0, answer_len: None }
+        Comparer { entries, random: Random::new(seed), calls: 0, met: Met::new(), answer_len: None }
     }
 
     fn answer(&mut self, needed: usize) -> Lent<u64> {
@@ -117,11 +115,15 @@ impl<'a> Comparer<'a> {
         Lent::new(&mut self.random, len)
     }
 
-    /// The returned number and the answer; true where outputs must have been written.
-    fn judge(&mut self, returned: u32, expected: &[u64], number: u64, answer: &Lent<u64>, what: &dyn Fn() -> String) -> bool {
+    /// The returned number and the answer, with the condition that gave them; true where outputs must have been written.
+    fn judge(&mut self, returned: u32, number: u64, expected: &[u64], met: Condition, answer: &Lent<u64>, what: &dyn Fn() -> String) -> bool {
         self.calls += 1;
-        self.refusals[number as usize] += 1;
         let fits = answer.len >= expected.len();
+        if fits {
+            self.met.count(met);
+        } else {
+            self.met.count_short_answer(met.0, number == 0);
+        }
         let after = if fits { [expected, &answer.held()[expected.len()..]].concat() } else { answer.held().to_vec() };
         let number = if number == 0 && !fits { 6 } else { number };
         if u64::from(returned) != number || !answer.holds(&after) {
@@ -159,7 +161,8 @@ impl<'a> Comparer<'a> {
         let expected = checker::check(&g.lent());
         let mut answer = self.answer(3);
         let returned = self.entries.check(g, answer.part());
-        self.judge(returned, &expected.numbers(), expected.number, &answer, &what);
+        let met = ("check", if expected.number == 0 { Some("0") } else { graph_word(g, expected.number, expected.place) });
+        self.judge(returned, expected.number, &expected.numbers(), met, &answer, &what);
         self.same_input(&g.hops, &input, &what);
     }
 
@@ -171,7 +174,14 @@ impl<'a> Comparer<'a> {
         let (expected, after) = checker::mark(&g.lent(), marks.held());
         let mut answer = self.answer(3);
         let returned = self.entries.mark(g, marks.part(), answer.part());
-        let fits = self.judge(returned, &expected.numbers(), expected.number, &answer, &what);
+        let met = match expected.number {
+            0 if after[..g.hops.len() / 3].contains(&1) => Some("0 some marked"),
+            0 => Some("0 none marked"),
+            5 => Some("5"),
+            6 => Some("6"),
+            number => graph_word(g, number, expected.place),
+        };
+        let fits = self.judge(returned, expected.number, &expected.numbers(), ("mark", met), &answer, &what);
         self.output(&marks, &after, fits, &what);
         self.same_input(&g.hops, &input, &what);
     }
@@ -186,7 +196,15 @@ impl<'a> Comparer<'a> {
         let (expected, map_after, short_after) = checker::reduce(&g.lent(), map.held(), short.held());
         let mut answer = self.answer(7);
         let returned = self.entries.reduce(g, map.part(), short.part(), answer.part());
-        let fits = self.judge(returned, &expected.numbers(), expected.number, &answer, &what);
+        let met = match expected.number {
+            0 if expected.figures[0] < g.states.into() => Some("0 smaller"),
+            0 => Some("0 as many states"),
+            5 => Some("5"),
+            6 if short_len >= g.hops.len() => Some("6 map"),
+            6 => (map_len >= g.states as usize).then_some("6 short hops"),
+            number => graph_word(g, number, expected.place),
+        };
+        let fits = self.judge(returned, expected.number, &expected.numbers(), ("reduce", met), &answer, &what);
         self.output(&map, &map_after, fits, &what);
         self.output(&short, &short_after, fits, &what);
         self.same_input(&g.hops, &input, &what);
@@ -194,7 +212,6 @@ impl<'a> Comparer<'a> {
             return None;
         }
         let figures = &expected.figures;
-        self.smaller += u64::from(figures[0] < g.states.into());
         let hops = short_after[..3 * figures[2] as usize].to_vec();
         let short = Graph { states: figures[0] as u32, labels: figures[1] as u32, initial: figures[3] as u32, hops };
         Some((short, map_after[..g.states as usize].to_vec()))
@@ -206,22 +223,32 @@ impl<'a> Comparer<'a> {
         let inputs = [one.hops.clone(), two.hops.clone(), map.to_vec()];
         let mut answer = self.answer(4);
         let returned = self.entries.audit(one, two, map, answer.part());
-        self.judge(returned, &expected.numbers(), expected.number, &answer, &what);
-        self.faulty += u64::from(expected.figures[0] > 0);
+        let met = match (expected.number, expected.table) {
+            (0, _) => ("audit", Some(if expected.figures[0] == 0 { "0 no faults" } else { "0 faults" })),
+            (7, _) => ("audit", Some("7")),
+            (8, _) if map.len() < one.states as usize => ("audit", Some("8 too short")),
+            (8, _) if map.len() > one.states as usize => ("audit", Some("8 too long")),
+            (8, _) => ("audit", Some("8 entry")),
+            (number, 1) => ("audit, graph 1", graph_word(one, number, expected.place)),
+            (number, _) => ("audit, graph 2", graph_word(two, number, expected.place)),
+        };
+        self.judge(returned, expected.number, &expected.numbers(), met, &answer, &what);
         for (now, before) in [&one.hops, &two.hops, map].into_iter().zip(&inputs) {
             self.same_input(now, before, &what);
         }
         expected
     }
 
-    pub fn round(&mut self, g: &Graph, place: u64, rounds: u32) {
+    pub fn round(&mut self, g: &Graph, place: u64, rounds: u32) -> Answer {
         let what = || format!("round question, place {place}, rounds {rounds}, {}", show(g));
         let input = g.hops.clone();
         let expected = checker::round(&g.lent(), place, rounds.into());
         let mut answer = self.answer(4);
         let returned = self.entries.round(g, place, rounds, answer.part());
-        self.judge(returned, &expected.numbers(), expected.number, &answer, &what);
+        let met = ("round question", round_word(g, place, expected.figures[0] == 1, expected.number, expected.place));
+        self.judge(returned, expected.number, &expected.numbers(), met, &answer, &what);
         self.same_input(&g.hops, &input, &what);
+        expected
     }
 
     pub fn hops_of(&mut self, side: u32, state: u32, one: &Graph, two: &Graph) {
@@ -229,7 +256,7 @@ impl<'a> Comparer<'a> {
         let (start, length) = checker::hops_of(side.into(), state.into(), &one.lent(), &two.lent());
         let mut answer = self.answer(2);
         let returned = self.entries.hops_of(side, state, one, two, answer.part());
-        self.judge(returned, &[start, length], 0, &answer, &what);
+        self.judge(returned, 0, &[start, length], hops_of_condition(side, state, one, two), &answer, &what);
     }
 
     pub fn read(&mut self, file: &[u8], len: Length) -> Answer {
@@ -240,7 +267,8 @@ impl<'a> Comparer<'a> {
         let (expected, after) = checker::read(file, hops.held());
         let mut answer = self.answer(9);
         let returned = self.entries.read(file, hops.part(), answer.part());
-        let fits = self.judge(returned, &expected.numbers(), expected.number, &answer, &what);
+        let met = ("read", read_word(file, expected.number, expected.place));
+        let fits = self.judge(returned, expected.number, &expected.numbers(), met, &answer, &what);
         self.output(&hops, &after, fits, &what);
         self.same_input(file, &input, &what);
         expected
@@ -254,7 +282,8 @@ impl<'a> Comparer<'a> {
         let (expected, after) = checker::write(&g.lent(), names, out.held());
         let mut answer = self.answer(4);
         let returned = self.entries.write(g, names, out.part(), answer.part());
-        let fits = self.judge(returned, &expected.numbers(), expected.number, &answer, &what);
+        let met = ("write", write_word(g, names, expected.number, expected.place));
+        let fits = self.judge(returned, expected.number, &expected.numbers(), met, &answer, &what);
         self.output(&out, &after, fits, &what);
         self.same_input(&g.hops, &inputs.0, &what);
         self.same_input(names, &inputs.1, &what);

@@ -7,6 +7,7 @@
 
 mod compare;
 mod make;
+mod met;
 mod parts;
 mod random;
 #[cfg(feature = "library")]
@@ -67,6 +68,7 @@ fn main() {
     part("graphs worked by hand", &mut parts::worked);
     part("all graphs of up to 2 states and 2 labels", &mut parts::all_small);
     part("answers of every length", &mut parts::answers);
+    part("every condition of every entry", &mut parts::conditions);
     part("random small graphs", &mut |c| parts::small(c, options.small));
     part("random files", &mut |c| parts::files(c, options.files));
     part("every damage of a byte", &mut parts::every_damage);
@@ -77,11 +79,13 @@ fn main() {
     if !options.plain {
         part("the safe wrappers", &mut |c| wrappers::wrappers(c, options.small / 10));
     }
-    let met: Vec<String> = comparer.refusals.iter().enumerate().map(|(number, count)| format!("{number}: {count}")).collect();
-    println!("answers by number: {}", met.join(", "));
-    println!("graphs made smaller: {}, audits with faults: {}", comparer.smaller, comparer.faulty);
-    if let Some(number) = comparer.refusals.iter().position(|&count| count == 0) {
-        eprintln!("no call was answered with {number}: the comparison is too thin");
+    println!("what was met, by entry:");
+    for line in comparer.met.lines() {
+        println!("  {line}");
+    }
+    let missing = comparer.met.missing();
+    if !missing.is_empty() {
+        eprintln!("the comparison is too thin, never met:\n  {}", missing.join("\n  "));
         std::process::exit(1);
     }
     println!("{} calls agree, in {:.1} s", comparer.calls, start.elapsed().as_secs_f64());

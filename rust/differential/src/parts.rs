@@ -36,6 +36,9 @@ pub fn worked(c: &mut Comparer) {
     c.answer_len = None;
 }
 
+/// What a place loses where it is cut to 32 bits.
+const HIGH: [u64; 4] = [1 << 32, 1 << 33, 1 << 63, u64::MAX << 32];
+
 /// Every entry over one graph, with outputs of every length around the needed one and every round question.
 fn whole(c: &mut Comparer, g: &Graph) {
     let (states, numbers) = (g.states as usize, g.hops.len());
@@ -53,6 +56,9 @@ fn whole(c: &mut Comparer, g: &Graph) {
     for place in 0..=hops as u64 + 1 {
         for rounds in 0..=6 {
             c.round(g, place, rounds);
+        }
+        for high in HIGH {
+            c.round(g, high + place, 1);
         }
     }
     let file = make::file(g, &[]);
@@ -151,6 +157,95 @@ pub fn answers(c: &mut Comparer) {
     c.answer_len = None;
 }
 
+/// Every condition of every row, one at a time and for each entry that has it, whatever the sizes of the random parts.
+pub fn conditions(c: &mut Comparer) {
+    c.answer_len = Some(9);
+    let p1 = graph(4, 2, &[0, 0, 1, 0, 1, 2, 1, 1, 3, 2, 0, 3]);
+    for g in refused_graphs(&p1) {
+        let (states, numbers) = (g.states as usize, g.hops.len());
+        c.check(&g);
+        c.mark(&g, Exactly(numbers / 3));
+        c.reduce(&g, Exactly(states), Exactly(numbers));
+        c.audit(&g, &p1, &vec![0; states]);
+        c.audit(&p1, &g, &[0; 4]);
+        c.round(&g, 0, 1);
+        for (side, one, two) in [(1, &g, &p1), (2, &g, &p1), (1, &p1, &g), (2, &p1, &g)] {
+            c.hops_of(side, 0, one, two);
+        }
+        c.read(&make::file(&g, &[]), Exactly(numbers));
+        c.write(&g, &[], Exactly(checker::LONGEST_FILE));
+    }
+    places_and_numbers_that_would_be_cut(c, &p1);
+    files_and_blocks(c);
+    c.answer_len = None;
+}
+
+/// For each condition of rows 1 to 4 a graph that breaks no other: P1, altered.
+fn refused_graphs(p1: &Graph) -> Vec<Graph> {
+    let with = |alter: &dyn Fn(&mut Graph)| {
+        let mut g = p1.clone();
+        alter(&mut g);
+        g
+    };
+    let many_hops = flat((0..4097).map(|i| [i / 4, 1, i % 4]));
+    vec![
+        with(&|g| g.states = 0),
+        with(&|g| g.states = 1025),
+        with(&|g| g.labels = 0),
+        with(&|g| g.labels = 1025),
+        Graph { states: 1024, labels: 2, initial: 0, hops: many_hops },
+        with(&|g| g.hops.push(0)),
+        with(&|g| g.hops.truncate(11)),
+        with(&|g| g.initial = 4),
+        with(&|g| g.initial = 1 << 16),
+        with(&|g| g.hops[9] = 4),
+        with(&|g| g.hops[10] = 2),
+        with(&|g| g.hops[11] = 4),
+        with(&|g| g.hops.extend([2, 0, 3])),
+        with(&|g| g.hops.extend([2, 0, 2])),
+    ]
+}
+
+/// Numbers over what is allowed that would be allowed if they were cut to 32, 16 or 8 bits.
+fn places_and_numbers_that_would_be_cut(c: &mut Comparer, p1: &Graph) {
+    for high in HIGH {
+        for place in [0, 3] {
+            assert_eq!(c.round(p1, high + place, 1).number, 9, "no hop at {high} + {place}");
+        }
+    }
+    assert_eq!(c.round(p1, u64::MAX, 1).number, 9, "no hop at the highest place");
+    for rounds in [1 << 8, 1 << 16, 1 << 31, u32::MAX - 3] {
+        assert_eq!(c.round(p1, 0, rounds).number, 10, "{rounds} rounds");
+    }
+    for high in [1 << 8, 1 << 16, 1 << 31] {
+        for (side, state) in [(1, high), (2, high + 2), (high + 1, 0), (high + 2, 0)] {
+            c.hops_of(side, state, p1, p1);
+        }
+    }
+}
+
+/// Rows 6 and 11 to 14 of reading and writing, one condition a call.
+fn files_and_blocks(c: &mut Comparer) {
+    let g = graph(4, 3, &[0, 1, 1]);
+    let whole = make::file(&g, &[1, 7, 2, 7, 7]);
+    c.read(&whole, Exactly(2));
+    let too_long = vec![0; 58_345];
+    let cut = &whole[..whole.len() - 1];
+    let left_over = [&whole[..], &[0]].concat();
+    let files: [&[u8]; 9] =
+        [&whole, &[], cut, &[10, 4, 0, 2, 0], &[1, 4, 0, 2, 0, 0, 0], &[2, 4, 0, 2, 0, 0, 0], &[4, 4, 0, 1, 0], &too_long, &left_over];
+    for file in files {
+        c.read(file, Exactly(3));
+    }
+    c.write(&g, &[1, 7, 2, 7, 7], Exactly(whole.len() - 1));
+    let too_many = [&[33][..], &[7; 33], &[1, 7]].concat();
+    let blocks: [&[u8]; 8] = [&[], &[1, 7, 2, 7, 7], &[0, 1, 7], &[1, 7, 0], &too_many, &[1, 7, 1, 7], &[1, 7, 2, 7], &[1, 7, 1, 8, 0]];
+    for block in blocks {
+        c.write(&g, block, Exactly(58_344));
+        c.read(&make::file(&g, block), Exactly(3));
+    }
+}
+
 /// Random small graphs, admitted ones and broken ones.
 pub fn small(c: &mut Comparer, count: usize) {
     for _ in 0..count {
@@ -171,7 +266,12 @@ fn every_entry(c: &mut Comparer, g: &Graph, other_states: usize) {
     let (map_len, short_len) = if c.random.percent(50) { (AtLeast(states), AtLeast(g.hops.len())) } else { (About(states), About(g.hops.len())) };
     let reduced = c.reduce(g, map_len, short_len);
     for _ in 0..3 {
-        let place = if c.random.percent(90) { c.random.below(hops + 1) as u64 } else { c.random.next() };
+        let place = c.random.below(hops + 1) as u64;
+        let place = match c.random.below(20) {
+            0 => c.random.next(),
+            1 => c.random.pick(&HIGH) + place,
+            _ => place,
+        };
         let rounds = if c.random.percent(90) { c.random.below(5) as u32 } else { c.random.next() as u32 };
         c.round(g, place, rounds);
     }

@@ -3,7 +3,7 @@
 use crate::compare::Comparer;
 use crate::make;
 use differential::entries::Graph;
-use zundrafipo::Refusal;
+use zundrafipo::{Hop, NameBlock, Refusal};
 
 fn lent(g: &Graph) -> zundrafipo::Graph {
     zundrafipo::Graph::new(g.states, g.labels, g.initial, g.hops.clone())
@@ -24,7 +24,9 @@ pub fn wrappers(c: &mut Comparer, count: usize) {
             g = make::damaged(&mut c.random, &g);
         }
         one_graph(c, &g);
-        c.calls += 8;
+        typed_views(c, &g);
+        name_block(c);
+        c.calls += 11;
     }
 }
 
@@ -79,4 +81,36 @@ fn one_graph(c: &mut Comparer, g: &Graph) {
         name_block: &file[f[4] as usize..(f[4] + f[5]) as usize],
     });
     assert_eq!(zundrafipo::read(&file), expected, "read of {file:?}");
+}
+
+/// The hops of a graph and of one of its states, as hops.
+fn typed_views(c: &mut Comparer, g: &Graph) {
+    let graph = lent(g);
+    let expected: Vec<Hop> = g.lent().hop_list().iter().map(|h| Hop::new(h.from as u16, h.label as u16, h.to as u16)).collect();
+    assert_eq!(graph.hops().len(), expected.len(), "hop count of {g:?}");
+    assert_eq!(graph.hops().rev().collect::<Vec<_>>(), expected.iter().rev().copied().collect::<Vec<_>>(), "hops of {g:?}, the last first");
+    let again = zundrafipo::Graph::from_hops(g.states, g.labels, g.initial, expected.clone());
+    assert_eq!(again.flat_hops, g.hops[..3 * expected.len()], "hops of {g:?}, put together again");
+
+    let state = c.random.below(8) as u32;
+    let shown = checker::check(&g.lent()).number == 0;
+    let expected: Vec<Hop> = expected.into_iter().filter(|h| shown && u32::from(h.from) == state).collect();
+    assert_eq!(graph.hops_of(state).collect::<Vec<_>>(), expected, "hops of {state} of {g:?}");
+}
+
+/// A block put together name by name is refused where writing would refuse it.
+fn name_block(c: &mut Comparer) {
+    let (count, longest) = (c.random.below(9), c.random.pick(&[1, 2, 4, 32]));
+    let block = make::block(&mut c.random, count, longest);
+    let mut names: Vec<&[u8]> = vec![];
+    let mut left = &block[..];
+    while let Some((&length, behind)) = left.split_first() {
+        let (name, rest) = behind.split_at(length.into());
+        names.push(name);
+        left = rest;
+    }
+    let g = Graph { states: 1, labels: count as u32 + 1, initial: 0, hops: vec![] };
+    let expected = split(checker::write(&g.lent(), &block, &vec![0; checker::LONGEST_FILE]).0).map(|_| &block[..]);
+    let found = NameBlock::from_names(&names);
+    assert_eq!(found.as_ref().map(|made| made.as_bytes()).map_err(|refusal| *refusal), expected, "the block of {names:?}");
 }

@@ -8,8 +8,8 @@ fn main() -> Result<(), Box<dyn std::error::Error>> {
     let graph = zundrafipo::read(&bytes)?.graph;
     let reduction = graph.reduce()?;
     println!("{} states became {}, faults: {}", graph.states, reduction.graph.states, graph.audit(&reduction.graph, &reduction.map)?.faults);
-    for hop in reduction.graph.hops.chunks(3) {
-        println!("{} {} {}", hop[0], hop[1], hop[2]);
+    for hop in reduction.graph.hops() {
+        println!("{} {} {}", hop.from, hop.label, hop.to);
     }
     Ok(())
 }

@@ -1,4 +1,4 @@
-use crate::{ffi, figure, judge, length, Graph, Refusal, MOST_HOPS};
+use crate::{ffi, figure, judge, length, Graph, Names, Refusal, MOST_HOPS};
 
 /// A file that was read: its graph, and its name block as a part of the bytes that were lent.
 ///
@@ -29,28 +29,16 @@ impl<'a> File<'a> {
     pub fn names(&self) -> Names<'a> {
         Names { left: self.name_block }
     }
-}
 
-/// The names of a file in the order of their labels; see [`File::names`].
-///
-/// ```
-/// let names: zundrafipo::Names = zundrafipo::read(b"\x00\x01\x00\x02\x00")?.names();
-/// assert_eq!(names.count(), 0);
-/// # Ok::<(), zundrafipo::Refusal>(())
-/// ```
-#[derive(Clone, Debug)]
-pub struct Names<'a> {
-    left: &'a [u8],
-}
-
-impl<'a> Iterator for Names<'a> {
-    type Item = &'a [u8];
-
-    fn next(&mut self) -> Option<&'a [u8]> {
-        let (&length, behind) = self.left.split_first()?;
-        let (name, left) = behind.split_at_checked(usize::from(length))?;
-        self.left = left;
-        Some(name)
+    /// The name of a label. The silent one has none, and no label has one in a file without names.
+    ///
+    /// ```
+    /// let file = zundrafipo::read(b"\x04\x01\x00\x03\x00\x01a\x02bc")?;
+    /// assert_eq!([0, 1, 2, 3].map(|label| file.name(label)), [None, Some(&b"a"[..]), Some(b"bc"), None]);
+    /// # Ok::<(), zundrafipo::Refusal>(())
+    /// ```
+    pub fn name(&self, label: u16) -> Option<&'a [u8]> {
+        self.names().nth(usize::from(label).checked_sub(1)?)
     }
 }
 

@@ -1,15 +1,17 @@
-use crate::{ffi, figure, judge, length, Refusal, LONGEST_FILE, MOST_HOPS, MOST_STATES};
+use crate::{ffi, figure, judge, length, Hop, Hops, Refusal, LONGEST_FILE, MOST_HOPS, MOST_STATES};
+use std::ops::Range;
 
-/// A mode graph: counts, initial state and one flat list of hops.
+/// A mode graph: counts, initial state and one flat list of hops, which [`Graph::hops`] shows as [`Hop`]s.
 ///
 /// Nothing is asked of the numbers here; each entry checks them and refuses what is not admitted.
 ///
 /// ```
-/// use zundrafipo::Graph;
+/// use zundrafipo::{Graph, Hop};
 ///
-/// let graph = Graph { states: 2, labels: 2, initial: 0, hops: vec![0, 1, 1] };
+/// let graph = Graph { states: 2, labels: 2, initial: 0, flat_hops: vec![0, 1, 1] };
 /// assert!(graph.check().is_ok());
 /// assert_eq!(graph, Graph::new(2, 2, 0, vec![0, 1, 1]));
+/// assert_eq!(graph, Graph::from_hops(2, 2, 0, [Hop { from: 0, label: 1, to: 1 }]));
 /// ```
 #[derive(Clone, Debug, PartialEq, Eq, Hash)]
 pub struct Graph {
@@ -20,7 +22,7 @@ pub struct Graph {
     /// The initial state.
     pub initial: u32,
     /// Three numbers a hop, from, label and to; strictly ascending, at most 4,096 hops.
-    pub hops: Vec<u16>,
+    pub flat_hops: Vec<u16>,
 }
 
 /// What [`Graph::reduce`] gives: the short graph, and the map that leads to it.
@@ -80,14 +82,58 @@ pub struct Audit {
 }
 
 impl Graph {
-    /// A graph of these numbers, not checked yet.
+    /// A graph of these numbers, its hops as a flat list, not checked yet.
     ///
     /// ```
     /// let graph = zundrafipo::Graph::new(3, 1, 0, vec![0, 0, 1]);
     /// assert_eq!(graph.states, 3);
     /// ```
-    pub fn new(states: u32, labels: u32, initial: u32, hops: Vec<u16>) -> Graph {
-        Graph { states, labels, initial, hops }
+    pub fn new(states: u32, labels: u32, initial: u32, flat_hops: Vec<u16>) -> Graph {
+        Graph { states, labels, initial, flat_hops }
+    }
+
+    /// A graph of these hops, not checked yet. They stay in the order in which they come, and one out of order is refused with 4: sort them
+    /// first, and keep each once.
+    ///
+    /// ```
+    /// use zundrafipo::{Graph, Hop};
+    ///
+    /// let mut hops = vec![Hop::new(1, 1, 0), Hop::new(0, 0, 1), Hop::new(1, 1, 0)];
+    /// assert_eq!(Graph::from_hops(2, 2, 0, hops.clone()).check().unwrap_err().number, 4);
+    /// hops.sort();
+    /// hops.dedup();
+    /// assert_eq!(Graph::from_hops(2, 2, 0, hops), Graph::new(2, 2, 0, vec![0, 0, 1, 1, 1, 0]));
+    /// ```
+    pub fn from_hops(states: u32, labels: u32, initial: u32, hops: impl IntoIterator<Item = Hop>) -> Graph {
+        Graph::new(states, labels, initial, hops.into_iter().flat_map(<[u16; 3]>::from).collect())
+    }
+
+    /// The hops, in list order; numbers past the last whole hop are left out.
+    ///
+    /// ```
+    /// use zundrafipo::{Graph, Hop};
+    ///
+    /// let graph = Graph::new(3, 2, 0, vec![0, 0, 1, 1, 1, 2]);
+    /// assert_eq!(graph.hops().len(), 2);
+    /// assert_eq!(graph.hops().find(|hop| !hop.is_silent()), Some(Hop { from: 1, label: 1, to: 2 }));
+    /// ```
+    pub fn hops(&self) -> Hops<'_> {
+        Hops::from(&self.flat_hops[..])
+    }
+
+    /// The outgoing hops of a state: a part of the list. Empty for an absent state, or if the graph is refused with 1 to 4; each call checks it.
+    ///
+    /// ```
+    /// use zundrafipo::{Graph, Hop};
+    ///
+    /// let graph = Graph::new(3, 2, 0, vec![0, 0, 1, 1, 0, 2, 1, 1, 0]);
+    /// assert_eq!(graph.hops_of(1).as_flat(), [1, 0, 2, 1, 1, 0]);
+    /// assert_eq!(graph.hops_of(0).next(), Some(Hop::new(0, 0, 1)));
+    /// assert_eq!(graph.hops_of(7).len(), 0);
+    /// ```
+    pub fn hops_of(&self, state: u32) -> Hops<'_> {
+        let other = Graph::new(1, 1, 0, vec![]);
+        Hops::from(&self.flat_hops[part_of(1, state, self, &other)])
     }
 
     /// Checks counts, initial state, and the range and order of the hops (refusals 1 to 4). Rings are not looked for.
@@ -102,8 +148,9 @@ impl Graph {
     pub fn check(&self) -> Result<(), Refusal> {
         let mut answer = [0; 3];
         // SAFETY: each pointer stands with the length of the slice it is of; the answer is borrowed alone.
-        let number =
-            unsafe { ffi::zf_check(self.states, self.labels, self.initial, self.hops.as_ptr(), self.hops.len(), answer.as_mut_ptr(), answer.len()) };
+        let number = unsafe {
+            ffi::zf_check(self.states, self.labels, self.initial, self.flat_hops.as_ptr(), self.flat_hops.len(), answer.as_mut_ptr(), answer.len())
+        };
         judge(number, answer).map(|_| ())
     }
 
@@ -117,7 +164,7 @@ impl Graph {
     /// # Ok::<(), zundrafipo::Refusal>(())
     /// ```
     pub fn mark(&self) -> Result<Vec<bool>, Refusal> {
-        let mut marks = vec![0; (self.hops.len() / 3).min(MOST_HOPS)];
+        let mut marks = vec![0; (self.flat_hops.len() / 3).min(MOST_HOPS)];
         self.mark_into(&mut marks)?;
         Ok(marks.iter().map(|&mark| mark == 1).collect())
     }
@@ -140,8 +187,8 @@ impl Graph {
                 self.states,
                 self.labels,
                 self.initial,
-                self.hops.as_ptr(),
-                self.hops.len(),
+                self.flat_hops.as_ptr(),
+                self.flat_hops.len(),
                 marks.as_mut_ptr(),
                 marks.len(),
                 answer.as_mut_ptr(),
@@ -163,7 +210,7 @@ impl Graph {
     /// ```
     pub fn reduce(&self) -> Result<Reduction, Refusal> {
         let mut map = vec![0; length(self.states.into()).min(MOST_STATES)];
-        let mut hops = vec![0; self.hops.len().min(3 * MOST_HOPS)];
+        let mut hops = vec![0; self.flat_hops.len().min(3 * MOST_HOPS)];
         let figures = self.reduce_into(&mut map, &mut hops)?;
         hops.truncate(3 * length(figures.hops.into()));
         Ok(Reduction { graph: Graph::new(figures.states, figures.labels, figures.initial, hops), map })
@@ -189,8 +236,8 @@ impl Graph {
                 self.states,
                 self.labels,
                 self.initial,
-                self.hops.as_ptr(),
-                self.hops.len(),
+                self.flat_hops.as_ptr(),
+                self.flat_hops.len(),
                 map.as_mut_ptr(),
                 map.len(),
                 short_hops.as_mut_ptr(),
@@ -221,13 +268,13 @@ impl Graph {
                 self.states,
                 self.labels,
                 self.initial,
-                self.hops.as_ptr(),
-                self.hops.len(),
+                self.flat_hops.as_ptr(),
+                self.flat_hops.len(),
                 other.states,
                 other.labels,
                 other.initial,
-                other.hops.as_ptr(),
-                other.hops.len(),
+                other.flat_hops.as_ptr(),
+                other.flat_hops.len(),
                 map.as_ptr(),
                 map.len(),
                 answer.as_mut_ptr(),
@@ -257,8 +304,8 @@ impl Graph {
                 self.states,
                 self.labels,
                 self.initial,
-                self.hops.as_ptr(),
-                self.hops.len(),
+                self.flat_hops.as_ptr(),
+                self.flat_hops.len(),
                 place,
                 rounds,
                 answer.as_mut_ptr(),
@@ -269,7 +316,8 @@ impl Graph {
         Ok(survives == 1)
     }
 
-    /// The graph as a file, with a name block: for labels 1 upward a length byte of 1 to 32 and that many bytes. An empty block: no names.
+    /// The graph as a file, with a name block ([`NameBlock`](crate::NameBlock)): for labels 1 upward a length byte of 1 to 32 and that many bytes. An
+    /// empty block: no names.
     ///
     /// ```
     /// use zundrafipo::Graph;
@@ -304,8 +352,8 @@ impl Graph {
                 self.states,
                 self.labels,
                 self.initial,
-                self.hops.as_ptr(),
-                self.hops.len(),
+                self.flat_hops.as_ptr(),
+                self.flat_hops.len(),
                 names.as_ptr(),
                 names.len(),
                 out.as_mut_ptr(),
@@ -319,8 +367,8 @@ impl Graph {
     }
 }
 
-/// The outgoing hops of a state, as a part of the list of the graph on that side, 1 or 2. Empty for another side, an absent state, or if either
-/// graph is refused with 1 to 4.
+/// The outgoing hops of a state, as a part of the flat list of the graph on that side, 1 or 2. Empty for another side, an absent state, or if either
+/// graph is refused with 1 to 4. For one graph there is [`Graph::hops_of`]; [`Hops::from`] shows the part as hops.
 ///
 /// ```
 /// use zundrafipo::{hops_of, Graph};
@@ -332,6 +380,12 @@ impl Graph {
 /// assert!(hops_of(3, 0, &one, &two).is_empty());
 /// ```
 pub fn hops_of<'a>(side: u32, state: u32, one: &'a Graph, two: &'a Graph) -> &'a [u16] {
+    let list = if side == 2 { &two.flat_hops } else { &one.flat_hops };
+    &list[part_of(side, state, one, two)]
+}
+
+/// Where the outgoing hops of a state stand in the list of the graph on that side.
+fn part_of(side: u32, state: u32, one: &Graph, two: &Graph) -> Range<usize> {
     let mut answer = [0; 2];
     // SAFETY: each pointer stands with the length of the slice it is of; the answer is borrowed alone.
     unsafe {
@@ -341,18 +395,17 @@ pub fn hops_of<'a>(side: u32, state: u32, one: &'a Graph, two: &'a Graph) -> &'a
             one.states,
             one.labels,
             one.initial,
-            one.hops.as_ptr(),
-            one.hops.len(),
+            one.flat_hops.as_ptr(),
+            one.flat_hops.len(),
             two.states,
             two.labels,
             two.initial,
-            two.hops.as_ptr(),
-            two.hops.len(),
+            two.flat_hops.as_ptr(),
+            two.flat_hops.len(),
             answer.as_mut_ptr(),
             answer.len(),
         )
     };
-    let list = if side == 2 { &two.hops } else { &one.hops };
     let start = length(answer[0]);
-    &list[start..start + length(answer[1])]
+    start..start + length(answer[1])
 }

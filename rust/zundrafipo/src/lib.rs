@@ -15,17 +15,25 @@
 //! # Ok::<(), zundrafipo::Refusal>(())
 //! ```
 //!
+//! A graph's hops are one flat list, three numbers a hop; [`Hop`] and [`Graph::hops`] are a typed view of it, and [`Graph::from_hops`] makes one of hops.
+//!
 //! No entry panics on what it is given: whatever is not admitted comes back as a [`Refusal`], and numbers go through unchanged.
+//!
+//! The archive is made for x86-64 Linux, and so is this crate: for another target it does not build.
 
 #![deny(missing_docs)]
 
 pub mod ffi;
 mod file;
 mod graph;
+mod hop;
+mod names;
 mod refusal;
 
-pub use file::{read, read_into, Figures, File, Names};
+pub use file::{read, read_into, Figures, File};
 pub use graph::{hops_of, Audit, Graph, Reduction, ShortFigures};
+pub use hop::{Hop, Hops};
+pub use names::{NameBlock, Names};
 pub use refusal::Refusal;
 
 /// The most states a graph can have.

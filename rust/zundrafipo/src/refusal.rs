@@ -2,6 +2,16 @@ use std::fmt;
 
 /// Why an entry refused: the number, the table that it speaks of and the place in it, as the scope document's table of answers has them.
 ///
+/// Places count from 0, that of a hop in hops. The place is
+/// - with 3 and 4 the first such hop;
+/// - with 5 the lowest state on a ring;
+/// - with 8 the map's length where that is wrong, else the first such entry;
+/// - with 11 the file's length;
+/// - with 13 58,344 for a file that is longer, else the first extra byte;
+/// - with 14 the length byte of the first such name, for writing counted from the block's start; but first the length of a block that ends early, or
+///   the first byte left over;
+/// - with every other number 0.
+///
 /// ```
 /// use zundrafipo::Graph;
 ///
@@ -9,6 +19,9 @@ use std::fmt;
 /// let refusal = ring.mark().unwrap_err();
 /// assert_eq!((refusal.number, refusal.table, refusal.place), (5, 1, 1));
 /// assert_eq!(refusal.to_string(), "refused with 5 (a ring of silent hops), table 1, place 1");
+///
+/// let error: Box<dyn std::error::Error> = refusal.into();
+/// assert_eq!(error.downcast_ref(), Some(&refusal));
 /// ```
 #[derive(Clone, Copy, Debug, PartialEq, Eq, Hash)]
 pub struct Refusal {
@@ -21,30 +34,39 @@ pub struct Refusal {
 }
 
 impl Refusal {
-    /// What the number says, in a few words.
+    /// When this number is returned.
     ///
     /// ```
     /// use zundrafipo::Graph;
     ///
     /// let refusal = Graph::new(3, 1, 70_000, vec![]).check().unwrap_err();
     /// assert_eq!(refusal.meaning(), "initial state not below the state count");
+    ///
+    /// let refusal = Graph::new(3, 1, 0, vec![0, 0]).check().unwrap_err();
+    /// assert_eq!(refusal.meaning(), "state, label or hop count outside its limits, or flat list length not a multiple of three");
     /// ```
     pub fn meaning(&self) -> &'static str {
         match self.number {
-            1 => "a count outside its limits",
+            1 => "state, label or hop count outside its limits, or flat list length not a multiple of three",
             2 => "initial state not below the state count",
             3 => "a hop's state or label not below its count",
             4 => "a hop not above the one before",
             5 => "a ring of silent hops",
-            6 => "an output too short",
-            7 => "label counts differ",
-            8 => "a map of a wrong length or with a wrong entry",
-            9 => "no silent hop at the asked place",
+            6 => {
+                "an output shorter than: marks, one a hop; map, one a state; short hops, three a hop of the input; any other output, what it needs"
+            }
+            7 => "label counts of graphs 1 and 2 differ",
+            8 => "map length not the state count of graph 1, else an entry not below the state count of graph 2",
+            9 => "asked place not below the hop count, or its hop not silent",
             10 => "more than 4 rounds",
-            11 => "the file ends before its contents",
-            12 => "a bit of the map byte that must not stand",
-            13 => "a file too long, or bytes left over",
-            14 => "a bad name, or a bad name block",
+            11 => "file ends before its contents",
+            12 => {
+                "bits 3 to 7 of the map byte set, or a bit over a field that holds what absence means (0, no hops, or names with label count at most 1)"
+            }
+            13 => "file over 58,344 bytes, or bytes left over",
+            14 => {
+                "name length 0 or over 32, or a name equal to an earlier one; for writing, also a block of more or fewer names than labels 1 upward"
+            }
             _ => "no number of the table",
         }
     }

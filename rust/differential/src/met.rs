@@ -1,0 +1,224 @@
+//! What a run has met, entry by entry: which row of the table of answers spoke, and by which of its conditions. A run that never met one of them says
+//! nothing of it, and fails.
+
+use differential::entries::Graph;
+use std::collections::BTreeMap;
+
+/// Rows 1 to 4.
+const GRAPH: &[&str] = &[
+    "1 no states",
+    "1 too many states",
+    "1 no labels",
+    "1 too many labels",
+    "1 too many hops",
+    "2 initial state",
+    "3 from",
+    "3 label",
+    "3 to",
+    "4 the same",
+    "4 below",
+];
+
+/// Row 1 of a list that is lent; that of a file is always whole.
+const LENGTH: &[&str] = &["1 no multiple of three"];
+
+/// Row 14 of a name, in a file and in a block.
+const NAME: &[&str] = &["14 no bytes", "14 too many bytes", "14 the same"];
+
+const SHORT_ANSWER: &[&str] = &["answer too short, else accepted", "answer too short, else refused"];
+
+/// All that a run must meet.
+const MUST: [(&str, &[&[&str]]); 12] = [
+    ("check", &[&["0"], GRAPH, LENGTH, SHORT_ANSWER]),
+    ("mark", &[&["0 some marked", "0 none marked"], GRAPH, LENGTH, &["5", "6"], SHORT_ANSWER]),
+    ("reduce", &[&["0 smaller", "0 as many states"], GRAPH, LENGTH, &["5", "6 map", "6 short hops"], SHORT_ANSWER]),
+    ("audit", &[&["0 no faults", "0 faults"], &["7", "8 too short", "8 too long", "8 entry"], SHORT_ANSWER]),
+    ("audit, graph 1", &[GRAPH, LENGTH]),
+    ("audit, graph 2", &[GRAPH, LENGTH]),
+    (
+        "round question",
+        &[&["0 survives", "0 falls"], GRAPH, LENGTH, &["9 past the list", "9 cut to 32 bits a silent hop", "9 not silent", "10"], SHORT_ANSWER],
+    ),
+    (
+        "hops of",
+        &[
+            &["shown on side 1", "shown on side 2", "another side", "absent state", "absent state, cut to 16 bits a present one", "no hops"],
+            &["answer too short, else accepted"],
+        ],
+    ),
+    ("hops of, graph 1", &[GRAPH, LENGTH]),
+    ("hops of, graph 2", &[GRAPH, LENGTH]),
+    (
+        "read",
+        &[
+            &["0 with names", "0 without names"],
+            GRAPH,
+            &["6", "11 empty", "11 cut", "12 high bits", "12 initial state", "12 no hops", "12 no names", "13 too long", "13 left over"],
+            NAME,
+            SHORT_ANSWER,
+        ],
+    ),
+    ("write", &[&["0 with names", "0 without names"], GRAPH, LENGTH, &["6"], NAME, &["14 ends early", "14 left over"], SHORT_ANSWER]),
+];
+
+/// An entry and one of its conditions; no condition where several hold at once, for then none of them alone is tried.
+pub type Condition = (&'static str, Option<&'static str>);
+
+/// How often each condition of each entry was met.
+pub struct Met {
+    counts: BTreeMap<(&'static str, &'static str), u64>,
+}
+
+impl Met {
+    pub fn new() -> Met {
+        let all = MUST.iter().flat_map(|(entry, groups)| groups.iter().copied().flatten().map(move |word| ((*entry, *word), 0)));
+        Met { counts: all.collect() }
+    }
+
+    pub fn count(&mut self, (entry, word): Condition) {
+        if let Some(word) = word {
+            *self.counts.get_mut(&(entry, word)).unwrap_or_else(|| panic!("{entry} has no condition {word}")) += 1;
+        }
+    }
+
+    /// A call whose answer did not fit; what stands behind a comma is no part of the entry's name.
+    pub fn count_short_answer(&mut self, entry: &'static str, accepted: bool) {
+        let entry = entry.split(',').next().unwrap_or(entry);
+        self.count((entry, Some(if accepted { "answer too short, else accepted" } else { "answer too short, else refused" })));
+    }
+
+    /// What was never met.
+    pub fn missing(&self) -> Vec<String> {
+        self.counts.iter().filter(|(_, &count)| count == 0).map(|((entry, word), _)| format!("{entry}: {word}")).collect()
+    }
+
+    /// One line an entry, for printing.
+    pub fn lines(&self) -> impl Iterator<Item = String> + '_ {
+        MUST.iter().map(|(entry, groups)| {
+            let words = groups.iter().copied().flatten();
+            let counts: Vec<String> = words.map(|word| format!("{word} ×{}", self.counts[&(*entry, *word)])).collect();
+            format!("{entry}: {}", counts.join(", "))
+        })
+    }
+}
+
+/// The one condition that holds.
+fn alone(conditions: &[(&'static str, bool)]) -> Option<&'static str> {
+    let mut holding = conditions.iter().filter(|(_, holds)| *holds);
+    let first = holding.next();
+    first.filter(|_| holding.next().is_none()).map(|(word, _)| *word)
+}
+
+/// Which condition of rows 1 to 4 refuses a graph with this number at this place.
+pub fn graph_word(g: &Graph, number: u64, place: u64) -> Option<&'static str> {
+    let hop = |place: u64| g.hops[3 * place as usize..3 * place as usize + 3].to_vec();
+    match number {
+        1 => alone(&[
+            ("1 no states", g.states == 0),
+            ("1 too many states", g.states > 1024),
+            ("1 no labels", g.labels == 0),
+            ("1 too many labels", g.labels > 1024),
+            ("1 too many hops", g.hops.len() / 3 > 4096),
+            ("1 no multiple of three", g.hops.len() % 3 != 0),
+        ]),
+        2 => Some("2 initial state"),
+        3 => {
+            let over = |i: usize, count: u32| u32::from(hop(place)[i]) >= count;
+            alone(&[("3 from", over(0, g.states)), ("3 label", over(1, g.labels)), ("3 to", over(2, g.states))])
+        }
+        4 if hop(place) == hop(place - 1) => Some("4 the same"),
+        4 => Some("4 below"),
+        _ => None,
+    }
+}
+
+/// The graph that stands in a file which is long enough for it.
+fn graph_in(file: &[u8]) -> Graph {
+    let number = |at: usize| u16::from_le_bytes([file[at], file[at + 1]]);
+    let initial = if file[0] & 1 != 0 { number(5) } else { 0 };
+    let at = 5 + 2 * usize::from(file[0] & 1);
+    let count = if file[0] & 2 != 0 { number(at).into() } else { 0 };
+    let hops = (0..3 * count).map(|i| number(at + 2 + 2 * i)).collect();
+    Graph { states: number(1).into(), labels: number(3).into(), initial: initial.into(), hops }
+}
+
+/// Why a name is refused, from its length byte.
+fn name_word(length: u8) -> &'static str {
+    match length {
+        0 => "14 no bytes",
+        1..=32 => "14 the same",
+        _ => "14 too many bytes",
+    }
+}
+
+/// Which condition made reading answer with this number and place.
+pub fn read_word(file: &[u8], number: u64, place: u64) -> Option<&'static str> {
+    match number {
+        0 if file[0] & 4 != 0 => Some("0 with names"),
+        0 => Some("0 without names"),
+        6 => Some("6"),
+        11 if file.is_empty() => Some("11 empty"),
+        11 => Some("11 cut"),
+        12 if file[0] >= 8 => Some("12 high bits"),
+        12 => {
+            let (map, g) = (file[0], graph_in(file));
+            alone(&[
+                ("12 initial state", map & 1 != 0 && g.initial == 0),
+                ("12 no hops", map & 2 != 0 && g.hops.is_empty()),
+                ("12 no names", map & 4 != 0 && g.labels <= 1),
+            ])
+        }
+        13 if file.len() > checker::LONGEST_FILE => Some("13 too long"),
+        13 => Some("13 left over"),
+        14 => Some(name_word(file[place as usize])),
+        _ => graph_word(&graph_in(file), number, place),
+    }
+}
+
+/// Which condition made writing answer with this number and place.
+pub fn write_word(g: &Graph, names: &[u8], number: u64, place: u64) -> Option<&'static str> {
+    let place_at = place as usize;
+    match number {
+        0 if names.is_empty() => Some("0 without names"),
+        0 => Some("0 with names"),
+        6 => Some("6"),
+        14 if place_at == names.len() => Some("14 ends early"),
+        14 if place_at == (1..g.labels).fold(0, |at, _| at + 1 + usize::from(names.get(at).copied().unwrap_or(0))) => Some("14 left over"),
+        14 => Some(name_word(names[place_at])),
+        _ => graph_word(g, number, place),
+    }
+}
+
+/// Which condition made the round question answer with this number and place.
+pub fn round_word(g: &Graph, asked: u64, survives: bool, number: u64, place: u64) -> Option<&'static str> {
+    let silent = |place: u64| g.hops.get(3 * place as usize + 1) == Some(&0);
+    match number {
+        0 => Some(if survives { "0 survives" } else { "0 falls" }),
+        9 if asked < g.hops.len() as u64 / 3 => Some("9 not silent"),
+        9 if silent(asked & 0xffff_ffff) => Some("9 cut to 32 bits a silent hop"),
+        9 => Some("9 past the list"),
+        10 => Some("10"),
+        _ => graph_word(g, number, place),
+    }
+}
+
+/// Why hops of a state are shown or not. A refused graph counts only where hops would stand there else.
+pub fn hops_of_condition(side: u32, state: u32, one: &Graph, two: &Graph) -> Condition {
+    let [refused1, refused2] = [one, two].map(|g| checker::check(&g.lent()));
+    let has = |g: &Graph, state: u32| g.hops.chunks_exact(3).any(|hop| u32::from(hop[0]) == state);
+    let asked = match side {
+        1 => one,
+        2 => two,
+        _ if refused1.number == 0 && refused2.number == 0 && has(one, state) && has(two, state) => return ("hops of", Some("another side")),
+        _ => return ("hops of", None),
+    };
+    match (refused1.number, refused2.number) {
+        (0, 0) if has(asked, state) => ("hops of", Some(if side == 1 { "shown on side 1" } else { "shown on side 2" })),
+        (0, 0) if state < asked.states => ("hops of", Some("no hops")),
+        (0, 0) if has(asked, state & 0xffff) => ("hops of", Some("absent state, cut to 16 bits a present one")),
+        (0, 0) => ("hops of", Some("absent state")),
+        (number, 0) if has(asked, state) => ("hops of, graph 1", graph_word(one, number, refused1.place)),
+        (0, number) if has(asked, state) => ("hops of, graph 2", graph_word(two, number, refused2.place)),
+        _ => ("hops of", None),
+    }
+}

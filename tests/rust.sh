@@ -1,0 +1,36 @@
+#!/usr/bin/env bash
+# Holds everything under rust/ to rustfmt and clippy, with the library and without it, and the crate's documentation to rustdoc; builds the benchmarks; runs
+# the examples, of which p1 is the README's program.
+set -euo pipefail
+cd "$(dirname "$0")/.."
+
+[ -e target/staticlib/libcapi.a ] || rt staticlib capi
+unset ZUNDRAFIPO_ARCHIVE_DIR
+cd rust
+
+cargo fmt --all --check
+for library in "" library; do
+    cargo clippy --offline --quiet --workspace --all-targets --features "$library" -- -D warnings
+    cargo build --release --offline --quiet -p bench --features "$library"
+done
+RUSTDOCFLAGS="-D warnings" cargo doc --offline --quiet --no-deps -p zundrafipo
+
+# expect WHAT EXPECTED PRINTED
+expect() {
+    if [ "$2" != "$3" ]; then
+        printf '%s: expected\n%s\nbut found\n%s\n' "$1" "$2" "$3" >&2
+        exit 1
+    fi
+}
+
+example() {
+    cargo run --offline --quiet -p zundrafipo --example "$@"
+}
+
+readme=$(awk '/^```rust$/ { on = !seen; next } /^```$/ { seen = seen || on; on = 0 } on' ../README.md)
+expect "the README's Rust program" "$readme" "$(tail -n +2 zundrafipo/examples/p1.rs)"
+expect "example p1" $'2 states, map [0, 0, 1, 1]\n0 faults' "$(example p1)"
+expect "example reduce" $'4 states became 2, faults: 0\n0 1 1' "$(example reduce <../tests/program/p1.in)"
+expect "example names" "0 pass 1" "$(example names)"
+expect "example names, of a file without names" $'0 tau 1\n0 1 2' "$(example names ../tests/program/p5.in)"
+echo "rust: formatted, no warnings, benchmarks built, examples as expected"
