@@ -10,8 +10,7 @@ if ! command -v cargo >/dev/null; then
     exit 1
 fi
 
-# always: an archive that lies there may be older than the code
-rt staticlib capi
+tests/archive
 unset ZUNDRAFIPO_ARCHIVE_DIR
 
 cd rust

@@ -4,7 +4,7 @@
 set -euo pipefail
 cd "$(dirname "$0")/.."
 
-[ -e target/staticlib/libcapi.a ] || rt staticlib capi
+tests/archive
 unset ZUNDRAFIPO_ARCHIVE_DIR
 cd rust
 
