@@ -1,5 +1,6 @@
 #!/usr/bin/env bash
-# Runs the program over each tests/program/NAME.in, and over files that are too large to keep, and compares what it prints with what is expected.
+# Runs the program over each tests/program/NAME.in, over files that are too large to keep, and with an input or an output that fails, and compares what
+# it prints and what it says with what is expected. Needs gcc, for a read that fails in the middle.
 set -euo pipefail
 cd "$(dirname "$0")/.."
 
@@ -20,6 +21,21 @@ expect() {
         head -n 5 "$work/printed" >&2
         echo "$1: expected" >&2
         head -n 5 "$3" >&2
+    fi
+}
+
+# fails NAME LINE: what was just printed is nothing, and what was said is LINE alone
+fails() {
+    if [ ! -s "$work/printed" ] && echo "$2" | cmp -s - "$work/said"; then
+        passed=$((passed + 1))
+    else
+        failed=$((failed + 1))
+        echo "$1: printed" >&2
+        head -n 5 "$work/printed" >&2
+        echo "$1: said" >&2
+        head -n 5 "$work/said" >&2
+        echo "$1: expected nothing to be printed, and to be said" >&2
+        echo "$2" >&2
     fi
 }
 
@@ -106,6 +122,67 @@ function show(i) {
     print "out 114 0 0"
 }' >"$work/all_marked.out"
 expect all_marked "$work/all_marked.in" "$work/all_marked.out"
+
+# an input that does not end
+echo "no 13 58344" >"$work/endless.out"
+expect endless /dev/zero "$work/endless.out"
+
+# in_pieces FILE LENGTH: the first LENGTH bytes, and a moment later the others, so that a read takes fewer bytes than there are
+in_pieces() {
+    head -c "$2" "$1"
+    sleep 0.2
+    tail -c +"$(($2 + 1))" "$1"
+}
+expect p1_in_pieces <(in_pieces tests/program/p1.in 10) tests/program/p1.out
+expect longest_in_pieces <(in_pieces "$work/longest.in" 30001) "$work/longest.out"
+
+# an input that cannot be read is no short file
+unread="zundrafipo: standard input could not be read"
+"$program" <tests >"$work/printed" 2>"$work/said"
+fails folder "$unread"
+"$program" <&- >"$work/printed" 2>"$work/said"
+fails closed_input "$unread"
+"$program" 0>"$work/written" >"$work/printed" 2>"$work/said"
+fails input_open_for_writing "$unread"
+
+# the second read of standard input fails: behind a whole file, and behind the front of one
+cat >"$work/failing.c" <<'END'
+#define _GNU_SOURCE
+#include <errno.h>
+#include <sys/syscall.h>
+#include <unistd.h>
+
+ssize_t read(int fd, void *buffer, size_t length) {
+    static int reads;
+    if (fd == 0 && ++reads == 2) {
+        errno = EIO;
+        return -1;
+    }
+    return syscall(SYS_read, fd, buffer, length);
+}
+END
+gcc -shared -fPIC -O1 -Wall -Wextra -Werror -o "$work/failing.so" "$work/failing.c"
+LD_PRELOAD="$work/failing.so" "$program" <tests/program/p1.in >"$work/printed" 2>"$work/said"
+fails read_fails_at_the_end "$unread"
+LD_PRELOAD="$work/failing.so" "$program" < <(in_pieces tests/program/p1.in 10) >"$work/printed" 2>"$work/said"
+fails read_fails_in_the_middle "$unread"
+
+# an output that cannot be written, or not whole
+: >"$work/printed"
+unwritten="zundrafipo: the report could not be written whole"
+"$program" <tests/program/p1.in >/dev/full 2>"$work/said"
+fails full_output "$unwritten"
+"$program" <tests/program/p1.in >&- 2>"$work/said"
+fails closed_output "$unwritten"
+# a file may have 1,024 bytes, of which the report takes the last 24, so that its first write takes only a part
+head -c 1000 /dev/zero >"$work/limited"
+(
+    trap '' XFSZ
+    ulimit -f 1
+    "$program" <tests/program/p1.in >>"$work/limited" 2>"$work/said"
+)
+fails cut_output "$unwritten"
+tail -c +1001 "$work/limited" | cmp - <(head -c 24 tests/program/p1.out)
 
 echo "program: $passed passed, $failed failed"
 [ "$failed" -eq 0 ]
