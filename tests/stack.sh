@@ -18,11 +18,11 @@ if [ ! -e "$archive" ] || [ -n "$(find crates crates.txt -newer "$archive" -type
 gcc -std=c99 -O2 -Wall -Wextra -Werror -pedantic -pthread -Wl,-z,now -I include tests/stack.c "$archive" -o "$work/stack"
 "$work/stack" "$work/longest.in"
 
-read -r text data bss _ < <(size "$archive" | tail -n 1)
+read -r text data bss _ < <(size -t "$archive" | tail -n 1)
 echo "archive: $text bytes of code and constants, $((data + bss)) of data"
 [ "$((data + bss))" -eq 0 ]
 needs=$(nm -u "$archive" | awk '$1 == "U" { print $2 }' | sort -u | tr '\n' ' ')
-echo "archive: needs $needs"
+echo "archive: needs ${needs% }"
 for name in $needs; do
     [ "$name" = memcpy ] || [ "$name" = memset ] || { echo "archive: needs $name" >&2; exit 1; }
 done
