@@ -1,33 +1,21 @@
-/* Silent-hop reduction for mode graphs: the proved library's entries for C.
+/* Silent-hop reduction for mode graphs: the proved library's entries for C and C++, x86-64 Linux, System V calling convention.
  *
  * A graph goes in as its state count, label count, initial state and one flat list of hops, three numbers a hop (from, label, to), strictly
- * ascending; label 0 is silent. Lengths count elements. No pointer may be null, not even beside a length of 0, and no output may overlap
- * anything else that is lent in the same call.
+ * ascending; label 0 is silent.
  *
- * An entry writes its answer to `answer`: number, table and place, then the entry's own figures; how many elements that takes stands
- * behind each entry below. The return value is the number: 0 for accepted, else that of the refusal, and then every figure is 0 and nothing else that
- * was lent is altered. An answer too short speaks last, as an output too short does: 6, and nothing is written at all.
+ * Slices. A pointer and a length that counts elements. A null pointer is taken beside a length of 0, as an empty std::vector gives it: the entries
+ * read and write nothing there. Any other pointer is aligned for its type and has that many elements behind it. No output overlaps anything
+ * else that is lent in the same call.
+ *
+ * Answers. An entry writes its answer to `answer`: number, table and place, then the entry's own figures; ZF_ANSWER_.. says how many elements that
+ * takes, and what is behind them stays as it is. The return value is the number: ZF_ACCEPTED, else that of the refusal, and then every figure is 0
+ * and nothing else that was lent is altered. An answer that is too short speaks last, as an output that is too short does: where the entry itself
+ * refuses, its number is returned, else ZF_ROOM, and either way nothing at all is written, not even the answer.
+ *
+ * Threads. The library has no data of its own and allocates nothing: an entry's state is what it is lent and its stack. Any number of calls may run
+ * at a time if no output of one is lent to another. ZF_STACK_.. below says how much stack a call takes.
  *
  * Check and mark exist in a form over records too; that form is for Rattle callers and is not exported to C.
- *
- * The numbers. A place counts from 0, that of a hop in hops; it is 0 where none is named.
- *
- *    1  a count outside its limits, or a list length that is no multiple of three
- *    2  initial state not below the state count
- *    3  a hop's state or label not below its count (place: the first such hop)
- *    4  a hop not above the one before (place: the first such hop)
- *    5  a ring of silent hops (place: the lowest state on one)
- *    6  an output too short
- *    7  the label counts of two graphs differ
- *    8  a map length that is not state count 1 (place: the length), else an entry not below state count 2 (place: the first such entry)
- *    9  no silent hop at the asked place
- *   10  more than 4 rounds
- *   11  the file ends before its contents (place: the file's length)
- *   12  a bit of the map byte that must not stand
- *   13  a file of more than 58,344 bytes (place: 58,344), or bytes left over (place: the first of them)
- *   14  a name of length 0 or over 32, or one equal to an earlier one (place: the length byte of the first such name; for writing, counted from the
- *       block's start); for writing, before any fault in a name, a block that ends early (place: its length) or has bytes left over (place: the
- *       first of them)
  */
 #ifndef ZUNDRAFIPO_H
 #define ZUNDRAFIPO_H
@@ -35,42 +23,97 @@
 #include <stddef.h>
 #include <stdint.h>
 
+#define ZF_VERSION_MAJOR 0
+#define ZF_VERSION_MINOR 1
+#define ZF_VERSION_PATCH 0
+
+/* The limits. State and label counts are 1 at least. */
+#define ZF_MOST_STATES 1024
+#define ZF_MOST_LABELS 1024
+#define ZF_MOST_HOPS 4096
+#define ZF_MOST_ROUNDS 4
+#define ZF_LONGEST_NAME 32
+#define ZF_LONGEST_FILE 58344
+
+/* The numbers. A place counts from 0, that of a hop in hops; it is 0 where none is named. */
+#define ZF_ACCEPTED 0
+#define ZF_COUNTS 1 /* a count outside its limits, or a list length that is no multiple of three */
+#define ZF_INITIAL 2 /* initial state not below the state count */
+#define ZF_HOP 3 /* a hop's state or label not below its count (place: the first such hop) */
+#define ZF_ORDER 4 /* a hop not above the one before (place: the first such hop) */
+#define ZF_RING 5 /* a ring of silent hops (place: the lowest state on one) */
+#define ZF_ROOM 6 /* an output too short, the answer among them */
+#define ZF_LABELS 7 /* the label counts of two graphs differ */
+#define ZF_MAP 8 /* a map length that is not state count 1 (place: the length), else an entry not below state count 2 (place: the first such entry) */
+#define ZF_NO_SILENT_HOP 9 /* no silent hop at the asked place */
+#define ZF_ROUNDS 10 /* more than ZF_MOST_ROUNDS rounds */
+#define ZF_FILE_ENDS 11 /* the file ends before its contents (place: the file's length) */
+#define ZF_BIT_MAP 12 /* a bit of byte 0 that must not stand */
+#define ZF_FILE_LONG 13 /* a file of more than ZF_LONGEST_FILE bytes (place: ZF_LONGEST_FILE), or bytes left over (place: the first of them) */
+#define ZF_NAME 14 /* a name of length 0 or over ZF_LONGEST_NAME, or one equal to an earlier one (place: the length byte of the first such name; for writing,
+                      counted from the block's start); for writing, before any fault in a name, a block that ends early (place: its length) or has bytes
+                      left over (place: the first of them) */
+
+/* How many elements each entry's answer takes. */
+#define ZF_ANSWER_CHECK 3
+#define ZF_ANSWER_MARK 3
+#define ZF_ANSWER_REDUCE 7
+#define ZF_ANSWER_AUDIT 4
+#define ZF_ANSWER_ROUND 4
+#define ZF_ANSWER_HOPS_OF 2
+#define ZF_ANSWER_READ 9
+#define ZF_ANSWER_WRITE 4
+
+/* How many bytes of stack a call takes at most, whatever it is lent: measured at full size and rounded up (tests/stack.sh), for no proof speaks of a
+ * stack. A thread of 256 KiB is enough for every entry. */
+#define ZF_STACK_CHECK 4096
+#define ZF_STACK_MARK 16384
+#define ZF_STACK_REDUCE 24576
+#define ZF_STACK_AUDIT 40960
+#define ZF_STACK_ROUND 40960
+#define ZF_STACK_HOPS_OF 4096
+#define ZF_STACK_READ 98304
+#define ZF_STACK_WRITE 8192
+
 #ifdef __cplusplus
 extern "C" {
 #endif
 
-/* Checks a graph for 1 to 4. Answer: 3. */
+/* Checks a graph for 1 to 4. */
 uint32_t zf_check(uint32_t states, uint32_t labels, uint32_t initial, const uint16_t *hops, size_t hops_len, uint64_t *answer, size_t answer_len);
 
-/* Marks the hops of the greatest confluent set: writes one 1 or 0 a hop. Answer: 3. */
+/* Marks the hops of the greatest confluent set. Output: `marks`, one 1 or 0 a hop. */
 uint32_t zf_mark(uint32_t states, uint32_t labels, uint32_t initial, const uint16_t *hops, size_t hops_len, uint8_t *marks, size_t marks_len,
                  uint64_t *answer, size_t answer_len);
 
-/* Reduces a graph: writes the map (one number a state) and the short hops (room for as many numbers as the input has is asked for).
- * Answer: 7, with the short graph's state count, label count, hop count and initial state. */
+/* Reduces a graph. Outputs: `map`, one number a state; `short_hops`, for which room is asked as for the input, hops_len numbers, and of which three
+ * are written for each hop of the short graph. Figures: the short graph's state count, label count, hop count and initial state. */
 uint32_t zf_reduce(uint32_t states, uint32_t labels, uint32_t initial, const uint16_t *hops, size_t hops_len, uint16_t *map, size_t map_len,
                    uint16_t *short_hops, size_t short_len, uint64_t *answer, size_t answer_len);
 
 /* Counts the faults of a map from graph 1 to graph 2; none: the map is a branching bisimulation that joins the initial states.
- * Answer: 4, with the fault count; its table is 2 for a graph 2 that is refused with 1 to 4. */
+ * Figure: the fault count. The table is 2 for a graph 2 that is refused with 1 to 4. */
 uint32_t zf_audit(uint32_t states1, uint32_t labels1, uint32_t initial1, const uint16_t *hops1, size_t hops1_len,
                   uint32_t states2, uint32_t labels2, uint32_t initial2, const uint16_t *hops2, size_t hops2_len,
                   const uint16_t *map, size_t map_len, uint64_t *answer, size_t answer_len);
 
-/* The round question: whether the silent hop at a place survives so many rounds, 0 to 4, of the marking. Answer: 4, with 1 or 0. */
+/* The round question: whether the silent hop at a place survives so many rounds, 0 to ZF_MOST_ROUNDS, of the marking. Figure: 1 or 0. */
 uint32_t zf_round(uint32_t states, uint32_t labels, uint32_t initial, const uint16_t *hops, size_t hops_len, uint64_t place, uint32_t rounds,
                   uint64_t *answer, size_t answer_len);
 
-/* The outgoing hops of a state of graph 1 or 2 (the side). Answer: 2, start and length in numbers of that graph's list; 0 and 0 where there are none, for
- * another side, an absent state, or if either graph is refused with 1 to 4. Returns 0 (6 for an answer too short). */
+/* The outgoing hops of a state of graph 1 or 2 (the side). The answer is start and length in numbers of that graph's list, and has no number, table and
+ * place; 0 and 0 where there are no hops, for another side, an absent state, or if either graph is refused with 1 to 4. Returns ZF_ACCEPTED, or
+ * ZF_ROOM for an answer too short. */
 uint32_t zf_hops_of(uint32_t side, uint32_t state, uint32_t states1, uint32_t labels1, uint32_t initial1, const uint16_t *hops1, size_t hops1_len,
                     uint32_t states2, uint32_t labels2, uint32_t initial2, const uint16_t *hops2, size_t hops2_len,
                     uint64_t *answer, size_t answer_len);
 
-/* Reads a graph file: writes its hops. Answer: 9, with state count, label count, initial state, hop count, place and length of the name block. */
+/* Reads a graph file. Output: `hops`, three numbers a hop of the file; 3 * ZF_MOST_HOPS take those of any file that is accepted. Figures: state count,
+ * label count, initial state, hop count, place and length of the name block. */
 uint32_t zf_read(const uint8_t *file, size_t file_len, uint16_t *hops, size_t hops_len, uint64_t *answer, size_t answer_len);
 
-/* Writes a graph file from a graph and a name block (empty: no names). Answer: 4, with the file's length. */
+/* Writes a graph file from a graph and a name block (empty: no names). Output: `out`, the file; ZF_LONGEST_FILE bytes take any. Figure: the file's
+ * length. */
 uint32_t zf_write(uint32_t states, uint32_t labels, uint32_t initial, const uint16_t *hops, size_t hops_len, const uint8_t *names, size_t names_len,
                   uint8_t *out, size_t out_len, uint64_t *answer, size_t answer_len);
 

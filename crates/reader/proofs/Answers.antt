@@ -75,8 +75,10 @@ module _ {b rest : List ℕ} {place : ℕ} (k : RestAt b rest place) {n end : �
   pub rest-left : end < length rest → refused 13 (place + end) ≡ formatAnswer b
   rest-left l = rw need-is (left-over b (k .short) (k .low) (omega (arith, need-is, rest-length)) (omega (arith, need-is, rest-length)))
 
-  pub rest-searchable : n ≤ 65535 → end ≤ length rest → Searchable rest n
-  rest-searchable f l = record { few = f; whole = rw (← e) l; room = inr (omega (arith, rest-length, names-place-least b, k .begins, k .short)) }
+  pub rest-searchable : end ≤ length rest → {places : ℕ} → 29170 ≤ places → Searchable rest n places
+  rest-searchable l g = record { whole = rw (← e) l; room = inr (omega (arith, brief), omega (arith, brief)) } where
+    brief : length rest ≤ 58340
+    brief = omega (arith, rest-length, names-place-least b, k .begins, k .short)
 
   module _ (l : end ≤ length rest) (g : length rest ≤ end) {f : Bool} (d : f ≡ idleBit b) where
     pub rest-idle : f ≡ true → refused 12 0 ≡ formatAnswer b

@@ -31,7 +31,8 @@ const MOST_BYTES: usize = 58344;
 
 const MOST_HOPS: usize = 4096;
 
-// From row 11 on, where the rest of the file begins at `place`.
+// From row 11 on, where the rest of the file begins at `place`. 14 speaks before 1, so the table of places is not for 1,023 names but for the file's length: a
+// name that passes takes two bytes at least.
 fn rest_answer(file: &[u8], rest: &[u8], place: usize) -> Answer
     requires { ⌜ RestAt (now file) (now rest) place ⌝ }
     ensures { λ r. ⌜ r ≡ formatAnswer (now (file .entry)) ⌝ }
@@ -47,7 +48,8 @@ fn rest_answer(file: &[u8], rest: &[u8], place: usize) -> Answer
     if idle_bit(file) {
         return refuse(12, 0);
     }
-    let bad = first_bad(rest, n);
+    let mut places = [0u16; 29170];
+    let bad = first_bad(rest, n, &mut places);
     if bad < end {
         return refuse(14, place + bad);
     }

@@ -29,8 +29,8 @@ module _ (ns : List ℕ) (n : ℕ) {end : ℕ} (e : end ≡ nameAt ns n) where
     unfolding blockAnswer
     block-left m = rw (← e, le-ltb _ _ l, lt-ltb _ _ m)
 
-    pub block-searchable : n ≤ 1023 → Searchable ns n
-    block-searchable f = record { few = omega arith; whole = rw (← e) l; room = inl (omega arith) }
+    pub block-searchable : n ≤ 1023 → {places : ℕ} → n ≤ places → Searchable ns n places
+    block-searchable f g = record { whole = rw (← e) l; room = inl (g, omega arith) }
 
     module _ (m : length ns ≤ end) {bad : ℕ} (d : bad ≡ nameAt ns (firstBad ns n)) where
       pub block-bad : bad < end → refused 14 bad ≡ blockAnswer ns n

@@ -29,7 +29,8 @@ fn block_answer(names: &[u8], n: usize) -> Answer
     if end < names.len() {
         return refuse(14, end);
     }
-    let bad = first_bad(names, n);
+    let mut places = [0u16; 1023];
+    let bad = first_bad(names, n, &mut places);
     if bad < end {
         return refuse(14, bad);
     }

@@ -39,8 +39,11 @@ refuse-requires-3 c κs = search needs
 returns-3 : tie.Need-returns-3
 returns-3 c = c .refuse3 .ensures ∙ rest-idle (c .before .before .before .before .before .before .before .before .before .pre) (c .before .before .before .before .before .before .names-in .ensures) (c .before .before .before .before .before .end-of .ensures) (omega arith) (omega arith) (c .before .before .idle-bit .ensures) (c .before .if3 .taken)
 
+slice-aggregate-first-bad : tie.Need-slice-aggregate-first-bad
+slice-aggregate-first-bad c = search needs
+
 first-bad-requires : tie.Need-first-bad-requires
-first-bad-requires c κs = rest-searchable (c .before .before .before .before .before .before .before .before .pre) (c .before .before .before .before .before .names-in .ensures) (c .before .before .before .before .end-of .ensures) (omega arith) (omega arith)
+first-bad-requires c κs = rest-searchable (c .before .before .before .before .before .before .before .before .before .pre) (c .before .before .before .before .before .before .names-in .ensures) (c .before .before .before .before .before .end-of .ensures) (omega arith) (omega arith)
 
 add-refuse-2 : tie.Need-add-refuse-2
 add-refuse-2 c = search needs
@@ -49,13 +52,13 @@ refuse-requires-4 : tie.Need-refuse-requires-4
 refuse-requires-4 c κs = search needs
 
 returns-4 : tie.Need-returns-4
-returns-4 c = c .refuse4 .ensures ∙ rest-bad (c .before .before .before .before .before .before .before .before .before .before .before .pre) (c .before .before .before .before .before .before .before .before .names-in .ensures) (c .before .before .before .before .before .before .before .end-of .ensures) (omega arith) (omega arith) (c .before .before .before .before .idle-bit .ensures) (c .before .before .before .if3 .left) (c .before .before .first-bad .ensures) (c .before .if4 .taken)
+returns-4 c = c .refuse4 .ensures ∙ rest-bad (c .before .before .before .before .before .before .before .before .before .before .before .before .before .pre) (c .before .before .before .before .before .before .before .before .before .before .names-in .ensures) (c .before .before .before .before .before .before .before .before .before .end-of .ensures) (omega arith) (omega arith) (c .before .before .before .before .before .before .idle-bit .ensures) (c .before .before .before .before .before .if3 .left) (c .before .before .before .first-bad .ensures) (c .before .if4 .taken)
 
 accept-requires : tie.Need-accept-requires
 accept-requires c κs = search needs
 
 returns-5 : tie.Need-returns-5
-returns-5 c = c .accept .ensures ∙ rest-good (c .before .before .before .before .before .before .before .before .before .before .before .pre) (c .before .before .before .before .before .before .before .before .names-in .ensures) (c .before .before .before .before .before .before .before .end-of .ensures) (omega arith) (omega arith) (c .before .before .before .before .idle-bit .ensures) (c .before .before .before .if3 .left) (c .before .before .first-bad .ensures) (c .before .if4 .left)
+returns-5 c = c .accept .ensures ∙ rest-good (c .before .before .before .before .before .before .before .before .before .before .before .before .before .pre) (c .before .before .before .before .before .before .before .before .before .before .names-in .ensures) (c .before .before .before .before .before .before .before .before .before .end-of .ensures) (omega arith) (omega arith) (c .before .before .before .before .before .before .idle-bit .ensures) (c .before .before .before .before .before .if3 .left) (c .before .before .before .first-bad .ensures) (c .before .if4 .left)
 
 pub rest-answer-spec : {M : Type 1} → statement M
 rest-answer-spec =
@@ -72,6 +75,7 @@ rest-answer-spec =
     idle-bit-requires
     refuse-requires-3
     returns-3
+    slice-aggregate-first-bad
     first-bad-requires
     add-refuse-2
     refuse-requires-4

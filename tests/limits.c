@@ -1,0 +1,148 @@
+/* What include/zundrafipo.h promises to a caller, tried on the library: its limits, the name of each number, how long each answer is and what a short
+ * one does, and null pointers beside a length of 0. The same file is C and C++. */
+#include <stdio.h>
+#include <string.h>
+#include "zundrafipo.h"
+
+#define NUMBERS (3 * ZF_MOST_HOPS)
+#define UNWRITTEN 77
+
+static unsigned tried, failed;
+
+static void expect(const char *what, uint64_t got, uint64_t wanted) {
+    tried++;
+    if (got != wanted) {
+        failed++;
+        fprintf(stderr, "limits: %s: %lu, expected %lu\n", what, (unsigned long)got, (unsigned long)wanted);
+    }
+}
+
+/* P1, and a block of one name */
+#define P1 4, 2, 0, p1, 12
+static const uint16_t p1[12] = {0, 0, 1, 0, 1, 2, 1, 1, 3, 2, 0, 3};
+static const uint16_t p1_map[4] = {0, 0, 1, 1}, p1_short[3] = {0, 1, 1};
+static const uint8_t name[2] = {1, 'a'};
+
+/* one more of everything than any graph may have */
+static uint16_t hops[NUMBERS + 3], list[NUMBERS], map[ZF_MOST_STATES];
+static uint8_t marks[ZF_MOST_HOPS], file[ZF_LONGEST_FILE + 1], block[ZF_LONGEST_NAME + 2];
+static uint64_t answer[16];
+
+static void limits(void) {
+    const uint32_t most = ZF_MOST_STATES;
+    uint16_t i;
+    for (i = 0; i <= ZF_MOST_HOPS; i++) {
+        hops[3 * i] = (uint16_t)(i / 5);
+        hops[3 * i + 1] = (uint16_t)(i % 5);
+    }
+    expect("the most states, labels and hops", zf_check(most, ZF_MOST_LABELS, most - 1, hops, NUMBERS, answer, ZF_ANSWER_CHECK), ZF_ACCEPTED);
+    expect("a state more", zf_check(most + 1, ZF_MOST_LABELS, 0, hops, NUMBERS, answer, ZF_ANSWER_CHECK), ZF_COUNTS);
+    expect("a label more", zf_check(most, ZF_MOST_LABELS + 1, 0, hops, NUMBERS, answer, ZF_ANSWER_CHECK), ZF_COUNTS);
+    expect("a hop more", zf_check(most, ZF_MOST_LABELS, 0, hops, NUMBERS + 3, answer, ZF_ANSWER_CHECK), ZF_COUNTS);
+    expect("the most rounds", zf_round(P1, 0, ZF_MOST_ROUNDS, answer, ZF_ANSWER_ROUND), ZF_ACCEPTED);
+    expect("a round more", zf_round(P1, 0, ZF_MOST_ROUNDS + 1, answer, ZF_ANSWER_ROUND), ZF_ROUNDS);
+    block[0] = ZF_LONGEST_NAME;
+    expect("the longest name", zf_write(P1, block, ZF_LONGEST_NAME + 1, file, sizeof file, answer, ZF_ANSWER_WRITE), ZF_ACCEPTED);
+    block[0] = ZF_LONGEST_NAME + 1;
+    expect("a longer name", zf_write(P1, block, ZF_LONGEST_NAME + 2, file, sizeof file, answer, ZF_ANSWER_WRITE), ZF_NAME);
+    expect("a longer file", zf_read(file, ZF_LONGEST_FILE + 1, list, NUMBERS, answer, ZF_ANSWER_READ), ZF_FILE_LONG);
+    expect("its place", answer[2], ZF_LONGEST_FILE);
+}
+
+/* the numbers that no limit gives */
+static void numbers(void) {
+    static const uint16_t descending[6] = {0, 1, 2, 0, 0, 1}, silent_ring[3] = {0, 0, 0}, absent[3] = {0, 0, 4};
+    static const uint8_t high_bit[5] = {8, 1, 0, 1, 0};
+    expect("ZF_INITIAL", zf_check(4, 2, 4, p1, 12, answer, ZF_ANSWER_CHECK), ZF_INITIAL);
+    expect("ZF_HOP", zf_check(4, 2, 0, absent, 3, answer, ZF_ANSWER_CHECK), ZF_HOP);
+    expect("ZF_ORDER", zf_check(4, 2, 0, descending, 6, answer, ZF_ANSWER_CHECK), ZF_ORDER);
+    expect("ZF_RING", zf_mark(4, 2, 0, silent_ring, 3, marks, 1, answer, ZF_ANSWER_MARK), ZF_RING);
+    expect("ZF_ROOM", zf_mark(P1, marks, 3, answer, ZF_ANSWER_MARK), ZF_ROOM);
+    expect("ZF_LABELS", zf_audit(P1, 2, 3, 0, p1_short, 3, p1_map, 4, answer, ZF_ANSWER_AUDIT), ZF_LABELS);
+    expect("ZF_MAP", zf_audit(P1, 2, 2, 0, p1_short, 3, p1_map, 3, answer, ZF_ANSWER_AUDIT), ZF_MAP);
+    expect("ZF_NO_SILENT_HOP", zf_round(P1, 1, 0, answer, ZF_ANSWER_ROUND), ZF_NO_SILENT_HOP);
+    expect("ZF_FILE_ENDS", zf_read(high_bit, 0, list, NUMBERS, answer, ZF_ANSWER_READ), ZF_FILE_ENDS);
+    expect("ZF_BIT_MAP", zf_read(high_bit, 5, list, NUMBERS, answer, ZF_ANSWER_READ), ZF_BIT_MAP);
+}
+
+/* An accepted call of each entry, with an answer of so many elements. */
+static size_t length;
+static uint32_t check(size_t n) { return zf_check(P1, answer, n); }
+static uint32_t mark(size_t n) { return zf_mark(P1, marks, 4, answer, n); }
+static uint32_t reduce(size_t n) { return zf_reduce(P1, map, 4, list, 12, answer, n); }
+static uint32_t audit(size_t n) { return zf_audit(P1, 2, 2, 0, p1_short, 3, p1_map, 4, answer, n); }
+static uint32_t round_of(size_t n) { return zf_round(P1, 0, 1, answer, n); }
+static uint32_t hops_of(size_t n) { return zf_hops_of(1, 1, P1, 2, 2, 0, p1_short, 3, answer, n); }
+static uint32_t write_p1(size_t n) { return zf_write(P1, name, 2, file, sizeof file, answer, n); }
+static uint32_t read_p1(size_t n) { return zf_read(file, length, list, NUMBERS, answer, n); }
+
+/* An answer that is just long enough is written and nothing behind it; one that is an element shorter is not, nor is any other output. */
+static void answer_of(const char *entry, uint32_t (*call)(size_t), size_t takes, uint64_t last) {
+    size_t i;
+    memset(marks, UNWRITTEN, sizeof marks);
+    memset(map, UNWRITTEN, sizeof map);
+    memset(list, UNWRITTEN, sizeof list);
+    for (i = 0; i < 16; i++) answer[i] = UNWRITTEN;
+    expect(entry, call(takes - 1), ZF_ROOM);
+    for (i = 0; i < 16; i++) expect(entry, answer[i], UNWRITTEN);
+    expect(entry, marks[0], UNWRITTEN);
+    expect(entry, map[0], 256 * UNWRITTEN + UNWRITTEN);
+    expect(entry, list[0], 256 * UNWRITTEN + UNWRITTEN);
+    expect(entry, call(takes), ZF_ACCEPTED);
+    expect(entry, answer[takes - 1], last);
+    for (i = takes; i < 16; i++) expect(entry, answer[i], UNWRITTEN);
+}
+
+static void answers(void) {
+    answer_of("zf_check's answer", check, ZF_ANSWER_CHECK, 0);
+    answer_of("zf_mark's answer", mark, ZF_ANSWER_MARK, 0);
+    answer_of("zf_reduce's answer", reduce, ZF_ANSWER_REDUCE, 0);
+    answer_of("zf_audit's answer", audit, ZF_ANSWER_AUDIT, 0);
+    answer_of("zf_round's answer", round_of, ZF_ANSWER_ROUND, 1);
+    answer_of("zf_hops_of's answer", hops_of, ZF_ANSWER_HOPS_OF, 3);
+    answer_of("zf_write's answer", write_p1, ZF_ANSWER_WRITE, 33);
+    length = (size_t)answer[3];
+    answer_of("zf_read's answer", read_p1, ZF_ANSWER_READ, 2);
+}
+
+/* Null beside a length of 0, for every slice of every entry. */
+static void nothing(void) {
+    expect("check no hops", zf_check(1, 1, 0, NULL, 0, answer, ZF_ANSWER_CHECK), ZF_ACCEPTED);
+    expect("check no answer", zf_check(1, 1, 0, NULL, 0, NULL, 0), ZF_ROOM);
+    expect("mark no hops", zf_mark(1, 1, 0, NULL, 0, NULL, 0, answer, ZF_ANSWER_MARK), ZF_ACCEPTED);
+    expect("mark no room", zf_mark(P1, NULL, 0, answer, ZF_ANSWER_MARK), ZF_ROOM);
+    expect("mark no answer", zf_mark(P1, marks, 4, NULL, 0), ZF_ROOM);
+    expect("reduce no hops", zf_reduce(1, 1, 0, NULL, 0, map, 1, NULL, 0, answer, ZF_ANSWER_REDUCE), ZF_ACCEPTED);
+    expect("its states", answer[3], 1);
+    expect("its hops", answer[5], 0);
+    expect("reduce no map", zf_reduce(1, 1, 0, NULL, 0, NULL, 0, NULL, 0, answer, ZF_ANSWER_REDUCE), ZF_ROOM);
+    expect("reduce no room", zf_reduce(P1, map, 4, NULL, 0, answer, ZF_ANSWER_REDUCE), ZF_ROOM);
+    expect("reduce no answer", zf_reduce(P1, map, 4, list, 12, NULL, 0), ZF_ROOM);
+    expect("audit no hops", zf_audit(4, 2, 0, NULL, 0, 2, 2, 0, NULL, 0, p1_map, 4, answer, ZF_ANSWER_AUDIT), ZF_ACCEPTED);
+    expect("its faults", answer[3], 0);
+    expect("audit no map", zf_audit(P1, 2, 2, 0, p1_short, 3, NULL, 0, answer, ZF_ANSWER_AUDIT), ZF_MAP);
+    expect("its place", answer[2], 0);
+    expect("audit no answer", zf_audit(P1, 2, 2, 0, p1_short, 3, p1_map, 4, NULL, 0), ZF_ROOM);
+    expect("round no hops", zf_round(1, 1, 0, NULL, 0, 0, 0, answer, ZF_ANSWER_ROUND), ZF_NO_SILENT_HOP);
+    expect("round no answer", zf_round(P1, 0, 0, NULL, 0), ZF_ROOM);
+    expect("hops of no hops", zf_hops_of(1, 0, 1, 1, 0, NULL, 0, 1, 1, 0, NULL, 0, answer, ZF_ANSWER_HOPS_OF), ZF_ACCEPTED);
+    expect("their length", answer[1], 0);
+    expect("hops of no answer", zf_hops_of(1, 1, P1, P1, NULL, 0), ZF_ROOM);
+    expect("read no file", zf_read(NULL, 0, list, NUMBERS, answer, ZF_ANSWER_READ), ZF_FILE_ENDS);
+    expect("read no room", zf_read(file, length, NULL, 0, answer, ZF_ANSWER_READ), ZF_ROOM);
+    expect("read no answer", zf_read(file, length, list, NUMBERS, NULL, 0), ZF_ROOM);
+    expect("write no hops and no names", zf_write(1, 1, 0, NULL, 0, NULL, 0, file, sizeof file, answer, ZF_ANSWER_WRITE), ZF_ACCEPTED);
+    expect("its length", answer[3], 5);
+    expect("read no hops", zf_read(file, 5, NULL, 0, answer, ZF_ANSWER_READ), ZF_ACCEPTED);
+    expect("write no room", zf_write(P1, NULL, 0, NULL, 0, answer, ZF_ANSWER_WRITE), ZF_ROOM);
+    expect("write no answer", zf_write(P1, NULL, 0, file, sizeof file, NULL, 0), ZF_ROOM);
+}
+
+int main(void) {
+    limits();
+    numbers();
+    answers();
+    nothing();
+    printf("limits %d.%d.%d: %u passed, %u failed\n", ZF_VERSION_MAJOR, ZF_VERSION_MINOR, ZF_VERSION_PATCH, tried - failed, failed);
+    return failed != 0;
+}

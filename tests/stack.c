@@ -1,0 +1,231 @@
+/* Measures the stack that each entry of the library takes. Each call runs at full size in a thread of 256 KiB whose stack was painted before; what is
+ * no longer paint was used. Every answer is checked, and every use is held to the header's promise. Given a file name, the longest legal file
+ * is written there. */
+#define _DEFAULT_SOURCE
+#include <inttypes.h>
+#include <pthread.h>
+#include <stdio.h>
+#include <string.h>
+#include <sys/mman.h>
+#include <unistd.h>
+#include "zundrafipo.h"
+
+#define THREAD 262144
+#define PAINT 0xa5
+#define NUMBERS (3 * ZF_MOST_HOPS)
+#define NAMES (ZF_MOST_LABELS - 1)
+#define BLOCK (NAMES * (ZF_LONGEST_NAME + 1))
+
+static uint16_t tiles[NUMBERS], unordered[NUMBERS], ring[NUMBERS], knot[NUMBERS], small[NUMBERS], read_hops[NUMBERS], written_hops[NUMBERS];
+static uint16_t map[ZF_MOST_STATES], wrong_map[ZF_MOST_STATES], one_class[ZF_MOST_STATES], written_map[ZF_MOST_STATES];
+static const uint16_t loops[9] = {0, 1, 0, 0, 2, 0, 0, 3, 0};
+static uint8_t names[BLOCK], repeated[BLOCK], marks[ZF_MOST_HOPS], out[ZF_LONGEST_FILE], file[ZF_LONGEST_FILE + 1], repeated_file[ZF_LONGEST_FILE];
+static uint64_t answer[16];
+static size_t small_len;
+
+static uint16_t *put_hop(uint16_t *at, unsigned from, unsigned label, unsigned to) {
+    at[0] = (uint16_t)from;
+    at[1] = (uint16_t)label;
+    at[2] = (uint16_t)to;
+    return at + 3;
+}
+
+/* 256 times P1 with seven labels: each four states become two. */
+static void fill_tiles(void) {
+    uint16_t *at = tiles;
+    for (unsigned s = 0; s < ZF_MOST_STATES; s += 4) {
+        at = put_hop(at, s, 0, s + 1);
+        for (unsigned l = 1; l <= 7; l++) at = put_hop(at, s, l, s + 2);
+        for (unsigned l = 1; l <= 7; l++) at = put_hop(at, s + 1, l, s + 3);
+        at = put_hop(at, s + 2, 0, s + 3);
+    }
+    memcpy(unordered, tiles, sizeof tiles);
+    memcpy(unordered + NUMBERS - 3, unordered + NUMBERS - 6, 3 * sizeof *unordered);
+}
+
+/* All states on one silent ring, with three hops from each to itself. */
+static void fill_ring(void) {
+    uint16_t *at = ring;
+    for (unsigned s = 0; s < ZF_MOST_STATES; s++) {
+        at = put_hop(at, s, 0, (s + 1) % ZF_MOST_STATES);
+        for (unsigned l = 1; l <= 3; l++) at = put_hop(at, s, l, s);
+    }
+}
+
+/* 64 states, a silent hop from each to each. */
+static void fill_knot(void) {
+    uint16_t *at = knot;
+    for (unsigned s = 0; s < 64; s++)
+        for (unsigned t = 0; t < 64; t++) at = put_hop(at, s, 0, t);
+}
+
+static void fill_names(void) {
+    for (unsigned n = 0; n < NAMES; n++) {
+        uint8_t *name = names + n * (ZF_LONGEST_NAME + 1);
+        memset(name, 255, ZF_LONGEST_NAME + 1);
+        name[0] = ZF_LONGEST_NAME;
+        name[1] = (uint8_t)(n % 256);
+        name[2] = (uint8_t)(n / 256);
+    }
+    memcpy(repeated, names, BLOCK);
+    memcpy(repeated + BLOCK - ZF_LONGEST_NAME, repeated + 1, ZF_LONGEST_NAME);
+}
+
+#define FULL ZF_MOST_STATES, ZF_MOST_LABELS, ZF_MOST_STATES - 1
+#define LIST(hops) hops, NUMBERS
+
+static uint32_t check(void) { return zf_check(FULL, LIST(tiles), answer, ZF_ANSWER_CHECK); }
+static uint32_t check_order(void) { return zf_check(FULL, LIST(unordered), answer, ZF_ANSWER_CHECK); }
+
+static uint32_t mark(void) { return zf_mark(FULL, LIST(tiles), marks, ZF_MOST_HOPS, answer, ZF_ANSWER_MARK); }
+static uint32_t mark_ring(void) { return zf_mark(FULL, LIST(ring), marks, ZF_MOST_HOPS, answer, ZF_ANSWER_MARK); }
+static uint32_t mark_short(void) { return zf_mark(FULL, LIST(tiles), marks, ZF_MOST_HOPS, answer, ZF_ANSWER_MARK - 1); }
+
+static uint32_t reduce(void) { return zf_reduce(FULL, LIST(tiles), written_map, ZF_MOST_STATES, LIST(written_hops), answer, ZF_ANSWER_REDUCE); }
+static uint32_t reduce_ring(void) { return zf_reduce(FULL, LIST(ring), written_map, ZF_MOST_STATES, LIST(written_hops), answer, ZF_ANSWER_REDUCE); }
+static uint32_t reduce_short(void) { return zf_reduce(FULL, LIST(tiles), written_map, ZF_MOST_STATES, LIST(written_hops), answer, ZF_ANSWER_REDUCE - 1); }
+
+static uint32_t audit_with(const uint16_t *by) {
+    return zf_audit(FULL, LIST(tiles), ZF_MOST_STATES / 2, ZF_MOST_LABELS, ZF_MOST_STATES / 2 - 1, small, small_len, by, ZF_MOST_STATES, answer, ZF_ANSWER_AUDIT);
+}
+static uint32_t audit(void) { return audit_with(map); }
+static uint32_t audit_map(void) { return audit_with(wrong_map); }
+static uint32_t audit_ring(void) {
+    return zf_audit(FULL, LIST(ring), 1, ZF_MOST_LABELS, 0, loops, 9, one_class, ZF_MOST_STATES, answer, ZF_ANSWER_AUDIT);
+}
+
+static uint32_t round_knot(void) { return zf_round(64, ZF_MOST_LABELS, 63, LIST(knot), ZF_MOST_HOPS - 1, ZF_MOST_ROUNDS, answer, ZF_ANSWER_ROUND); }
+static uint32_t round_tiles(void) { return zf_round(FULL, LIST(tiles), ZF_MOST_HOPS - 1, ZF_MOST_ROUNDS, answer, ZF_ANSWER_ROUND); }
+static uint32_t round_visible(void) { return zf_round(FULL, LIST(tiles), ZF_MOST_HOPS - 2, ZF_MOST_ROUNDS, answer, ZF_ANSWER_ROUND); }
+
+static uint32_t hops_of(void) { return zf_hops_of(2, ZF_MOST_STATES - 2, FULL, LIST(ring), FULL, LIST(tiles), answer, ZF_ANSWER_HOPS_OF); }
+static uint32_t hops_of_refused(void) { return zf_hops_of(2, ZF_MOST_STATES - 2, FULL, LIST(unordered), FULL, LIST(tiles), answer, ZF_ANSWER_HOPS_OF); }
+
+static uint32_t read_longest(void) { return zf_read(file, ZF_LONGEST_FILE, LIST(read_hops), answer, ZF_ANSWER_READ); }
+static uint32_t read_repeated(void) { return zf_read(repeated_file, ZF_LONGEST_FILE, LIST(read_hops), answer, ZF_ANSWER_READ); }
+static uint32_t read_longer(void) { return zf_read(file, ZF_LONGEST_FILE + 1, LIST(read_hops), answer, ZF_ANSWER_READ); }
+static uint32_t read_short(void) { return zf_read(file, ZF_LONGEST_FILE, LIST(read_hops), answer, ZF_ANSWER_READ - 1); }
+
+static uint32_t write_to(const uint8_t *block, size_t room, size_t answer_len) {
+    return zf_write(FULL, LIST(tiles), block, BLOCK, out, room, answer, answer_len);
+}
+static uint32_t write_longest(void) { return write_to(names, ZF_LONGEST_FILE, ZF_ANSWER_WRITE); }
+static uint32_t write_repeated(void) { return write_to(repeated, ZF_LONGEST_FILE, ZF_ANSWER_WRITE); }
+static uint32_t write_room(void) { return write_to(names, ZF_LONGEST_FILE - 1, ZF_ANSWER_WRITE); }
+static uint32_t write_short(void) { return write_to(names, ZF_LONGEST_FILE, ZF_ANSWER_WRITE - 1); }
+
+/* A call, what it must return and leave at one place of its answer, and how much stack it may take. */
+struct call {
+    const char *entry, *what;
+    uint32_t (*run)(void);
+    uint32_t number;
+    unsigned at;
+    uint64_t figure;
+    size_t most;
+};
+
+static const struct call calls[] = {
+    {"zf_check", "accepted", check, ZF_ACCEPTED, 1, 1, ZF_STACK_CHECK},
+    {"zf_check", "the last hop not above the one before", check_order, ZF_ORDER, 2, ZF_MOST_HOPS - 1, ZF_STACK_CHECK},
+    {"zf_mark", "accepted", mark, ZF_ACCEPTED, 1, 1, ZF_STACK_MARK},
+    {"zf_mark", "a ring of 1,024 states", mark_ring, ZF_RING, 2, 0, ZF_STACK_MARK},
+    {"zf_mark", "answer too short", mark_short, ZF_ROOM, 0, 0, ZF_STACK_MARK},
+    {"zf_reduce", "accepted", reduce, ZF_ACCEPTED, 5, 1792, ZF_STACK_REDUCE},
+    {"zf_reduce", "a ring of 1,024 states", reduce_ring, ZF_RING, 5, 0, ZF_STACK_REDUCE},
+    {"zf_reduce", "answer too short", reduce_short, ZF_ROOM, 0, 0, ZF_STACK_REDUCE},
+    {"zf_audit", "of what reduce left", audit, ZF_ACCEPTED, 3, 0, ZF_STACK_AUDIT},
+    {"zf_audit", "a ring of 1,024 states in one class", audit_ring, ZF_ACCEPTED, 3, 0, ZF_STACK_AUDIT},
+    {"zf_audit", "the map's last entry too high", audit_map, ZF_MAP, 2, ZF_MOST_STATES - 1, ZF_STACK_AUDIT},
+    {"zf_round", "4 rounds, 64 states, silent hops between all", round_knot, ZF_ACCEPTED, 3, 1, ZF_STACK_ROUND},
+    {"zf_round", "4 rounds, 1,024 states", round_tiles, ZF_ACCEPTED, 3, 1, ZF_STACK_ROUND},
+    {"zf_round", "a visible hop", round_visible, ZF_NO_SILENT_HOP, 3, 0, ZF_STACK_ROUND},
+    {"zf_hops_of", "side 2", hops_of, ZF_ACCEPTED, 0, NUMBERS - 3, ZF_STACK_HOPS_OF},
+    {"zf_hops_of", "graph 1 refused", hops_of_refused, ZF_ACCEPTED, 0, 0, ZF_STACK_HOPS_OF},
+    {"zf_read", "the longest legal file", read_longest, ZF_ACCEPTED, 8, BLOCK, ZF_STACK_READ},
+    {"zf_read", "the last name equal to the first", read_repeated, ZF_NAME, 2, ZF_LONGEST_FILE - 33, ZF_STACK_READ},
+    {"zf_read", "a byte more", read_longer, ZF_FILE_LONG, 2, ZF_LONGEST_FILE, ZF_STACK_READ},
+    {"zf_read", "answer too short", read_short, ZF_ROOM, 0, 0, ZF_STACK_READ},
+    {"zf_write", "the longest legal file", write_longest, ZF_ACCEPTED, 3, ZF_LONGEST_FILE, ZF_STACK_WRITE},
+    {"zf_write", "the last name equal to the first", write_repeated, ZF_NAME, 2, BLOCK - 33, ZF_STACK_WRITE},
+    {"zf_write", "a byte too little room", write_room, ZF_ROOM, 3, 0, ZF_STACK_WRITE},
+    {"zf_write", "answer too short", write_short, ZF_ROOM, 0, 0, ZF_STACK_WRITE},
+};
+
+struct task {
+    uint32_t (*run)(void);
+    uint32_t number;
+    const unsigned char *top;
+};
+
+static void *in_thread(void *given) {
+    struct task *task = given;
+    task->top = __builtin_frame_address(0);
+    task->number = task->run();
+    return NULL;
+}
+
+/* Runs a task in a thread of 256 KiB above a page that nobody may touch; returns how many bytes of its stack were used, or 0 where there is no thread. */
+static size_t stack_of(struct task *task) {
+    size_t page = (size_t)sysconf(_SC_PAGESIZE), used = 0;
+    unsigned char *area = mmap(NULL, page + THREAD, PROT_READ | PROT_WRITE, MAP_PRIVATE | MAP_ANONYMOUS, -1, 0);
+    pthread_attr_t attributes;
+    pthread_t thread;
+    if (area == MAP_FAILED) return 0;
+    memset(area + page, PAINT, THREAD);
+    if (mprotect(area, page, PROT_NONE) == 0 && pthread_attr_init(&attributes) == 0) {
+        if (pthread_attr_setstack(&attributes, area + page, THREAD) == 0 && pthread_create(&thread, &attributes, in_thread, task) == 0) {
+            const unsigned char *low = area + page;
+            pthread_join(thread, NULL);
+            while (*low == PAINT) low++;
+            used = (size_t)(task->top - low);
+        }
+        pthread_attr_destroy(&attributes);
+    }
+    munmap(area, page + THREAD);
+    return used;
+}
+
+/* What the calls are lent: the longest legal file and the reduced graph come from the entries themselves. */
+static int prepare(const char *path) {
+    fill_tiles();
+    fill_ring();
+    fill_knot();
+    fill_names();
+    if (zf_write(FULL, LIST(tiles), names, BLOCK, file, sizeof file, answer, ZF_ANSWER_WRITE) != ZF_ACCEPTED || answer[3] != ZF_LONGEST_FILE) return 0;
+    memcpy(repeated_file, file, ZF_LONGEST_FILE);
+    memcpy(repeated_file + ZF_LONGEST_FILE - BLOCK, repeated, BLOCK);
+    if (zf_reduce(FULL, LIST(tiles), map, ZF_MOST_STATES, LIST(small), answer, ZF_ANSWER_REDUCE) != ZF_ACCEPTED || answer[3] != 512) return 0;
+    small_len = 3 * (size_t)answer[5];
+    memcpy(wrong_map, map, sizeof map);
+    wrong_map[ZF_MOST_STATES - 1] = ZF_MOST_STATES / 2;
+    if (path != NULL) {
+        FILE *to = fopen(path, "wb");
+        if (to == NULL) return 0;
+        if (fwrite(file, 1, ZF_LONGEST_FILE, to) != ZF_LONGEST_FILE) return fclose(to), 0;
+        if (fclose(to) != 0) return 0;
+    }
+    return 1;
+}
+
+int main(int argc, char **argv) {
+    unsigned failed = 0;
+    if (!prepare(argc > 1 ? argv[1] : NULL)) {
+        fprintf(stderr, "stack: the longest legal file or its graph's reduction could not be made\n");
+        return 1;
+    }
+    for (size_t i = 0; i < sizeof calls / sizeof *calls; i++) {
+        const struct call *call = &calls[i];
+        struct task task = {call->run, UINT32_MAX, NULL};
+        size_t used;
+        memset(answer, 0, sizeof answer);
+        used = stack_of(&task);
+        printf("stack: %-11s %-45s %7zu of %6zu\n", call->entry, call->what, used, call->most);
+        if (task.number != call->number || answer[call->at] != call->figure || used == 0 || used > call->most) {
+            failed++;
+            fprintf(stderr, "stack: %s, %s: number %" PRIu32 ", figure %" PRIu64 ", expected %" PRIu32 ", %" PRIu64 ", and at most %zu bytes\n", call->entry, call->what,
+                    task.number, answer[call->at], call->number, call->figure, call->most);
+        }
+    }
+    printf("stack: %zu calls, %u failed\n", sizeof calls / sizeof *calls, failed);
+    return failed != 0;
+}
