@@ -142,10 +142,10 @@ module _ (sh1 : Shape) (h1 h2 m : List ℕ) (ranged : InRange sh1 h1) (s : ℕ) 
             (sym (eqb-true _ _ (and-right (eqb (label h1 i) (label h2 j)) _ g)))))
 
 -- the test of a hop that was read
-pub unticked-hop : (h2 stamps : List ℕ) (r k j : ℕ) {h : Hop} → h ≡ hopAt h2 j →
-    (eqb r (h .from) && not ((eqb (h .label) 0 && eqb (h .from) (h .to)) || eqb (getD stamps j 0) k)) ≡ unticked h2 stamps r k j
+pub unticked-hop : (h2 stamps : List ℕ) (r k j : ℕ) {f a q : ℕ} → f ≡ from h2 j → a ≡ label h2 j → q ≡ to h2 j →
+    (eqb r f && not ((eqb a 0 && eqb f q) || eqb (getD stamps j 0) k)) ≡ unticked h2 stamps r k j
 unfolding unticked
-unticked-hop h2 stamps r k j e = rw e
+unticked-hop h2 stamps r k j d e f = rw (d, e, f)
 
 -- a fresh stamp stands where it was set, and nowhere else
 stamp-told : (x : Bool) (k b : ℕ) → b < k → eqb (cond x k b) k ≡ x

@@ -5,7 +5,9 @@ use super::images::images_of;
 use graph::NewState;
 use graph::OldState;
 use graph::Shape;
-use graph::hops::hop_at;
+use graph::hops::label_at;
+use graph::hops::new_from_at;
+use graph::hops::new_to_at;
 use representatives::renumber::map_at;
 use silent::reach::reach;
 use starts::start_of;
@@ -102,8 +104,10 @@ fn is_unticked(hops2: &[u16], stamps: &[u16], r: NewState, k: u16, j: usize) -> 
     requires { ⌜ j < count (now hops2) ⌝ ∗ ⌜ count (now hops2) ≤ length (now stamps) ⌝ }
     ensures { λ u. ⌜ u ≡ unticked (now (hops2 .entry)) (now (stamps .entry)) (r .0) k j ⌝ }
 {
-    let hop = hop_at(hops2, j);
-    (r.0 == hop.from) & !(((hop.label == 0) & (hop.from == hop.to)) | (stamps[j] == k))
+    let from = new_from_at(hops2, j);
+    let a = label_at(hops2, j);
+    let q = new_to_at(hops2, j);
+    (r.0 == from.0) & !(((a.0 == 0) & (from.0 == q.0)) | (stamps[j] == k))
 }
 
 // How many hops of graph 2 are so: those of r are all that can be.

@@ -1,6 +1,7 @@
 // What stands at a place of a flat hop list, and where a hop's numbers begin: the code above asks here.
 use super::Hop;
 use super::Label;
+use super::NewState;
 use super::OldState;
 ghost use mathlib.Core.Path.{_≡_};
 ghost use Prim.Native.Nat.{_<_, _≤_};
@@ -30,6 +31,7 @@ pub fn number_place(i: usize) -> usize
     3 * i
 }
 
+// The states and the label of a hop, by kind: old numbers in the graph that is read, new numbers in the short graph.
 pub fn from_at(hops: &[u16], i: usize) -> OldState
     requires { ⌜ i < count (now hops) ⌝ }
     ensures { λ r. ⌜ r .0 ≡ from (now (hops .entry)) i ⌝ }
@@ -51,7 +53,21 @@ pub fn to_at(hops: &[u16], i: usize) -> OldState
     OldState(hops[3 * i + 2])
 }
 
-// The whole hop.
+pub fn new_from_at(hops: &[u16], i: usize) -> NewState
+    requires { ⌜ i < count (now hops) ⌝ }
+    ensures { λ r. ⌜ r .0 ≡ from (now (hops .entry)) i ⌝ }
+{
+    NewState(hops[3 * i])
+}
+
+pub fn new_to_at(hops: &[u16], i: usize) -> NewState
+    requires { ⌜ i < count (now hops) ⌝ }
+    ensures { λ r. ⌜ r .0 ≡ to (now (hops .entry)) i ⌝ }
+{
+    NewState(hops[3 * i + 2])
+}
+
+// The whole hop, by bare numbers: of either graph.
 pub fn hop_at(hops: &[u16], i: usize) -> Hop
     requires { ⌜ i < count (now hops) ⌝ }
     ensures { λ r. ⌜ r ≡ hopAt (now (hops .entry)) i ⌝ }

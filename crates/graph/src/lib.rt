@@ -25,7 +25,8 @@ pub struct Answer {
     pub place: usize,
 }
 
-// A state's number in the graph that is read, and in the short graph. Only the map leads from one to the other.
+// A state's number in the graph that is read, graph 1 of the audit, and in the short graph, graph 2. Only the map leads from one to the other. What
+// serves both graphs alike takes and gives bare numbers.
 pub struct OldState(pub u16);
 
 pub struct NewState(pub u16);

@@ -1,7 +1,7 @@
-// The one search: where a hop stands in an ascending list or would stand, and by it the places of a state's hops.
+// The one search: where a hop stands in an ascending list or would stand, and by it the places of a state's hops. It serves either graph, so a
+// state is a bare number here.
 use super::Found;
 use super::Hop;
-use super::OldState;
 use super::hops::hop_at;
 use super::hops::hop_count;
 use super::hops::is_hop_at;
@@ -65,14 +65,14 @@ pub fn has_hop(hops: &[u16], h: Hop) -> bool
 }
 
 // The place of the first hop of s, or where it would stand.
-pub fn first_of(hops: &[u16], s: OldState) -> usize
+pub fn first_of(hops: &[u16], s: u16) -> usize
     requires { ⌜ Ascending (now hops) ⌝ }
-    ensures { λ r. ⌜ r ≡ firstOf (now (hops .entry)) (s .0) ⌝ }
+    ensures { λ r. ⌜ r ≡ firstOf (now (hops .entry)) s ⌝ }
 {
     lower_place(
         hops,
         Hop {
-            from: s.0,
+            from: s,
             label: 0,
             to: 0,
         },
@@ -80,9 +80,9 @@ pub fn first_of(hops: &[u16], s: OldState) -> usize
 }
 
 // The place past the last hop of s.
-pub fn past_of(hops: &[u16], s: OldState) -> usize
-    requires { ⌜ Ascending (now hops) × (s .0 < 65535) ⌝ }
-    ensures { λ r. ⌜ r ≡ pastOf (now (hops .entry)) (s .0) ⌝ }
+pub fn past_of(hops: &[u16], s: u16) -> usize
+    requires { ⌜ Ascending (now hops) × (s < 65535) ⌝ }
+    ensures { λ r. ⌜ r ≡ pastOf (now (hops .entry)) s ⌝ }
 {
-    first_of(hops, OldState(s.0 + 1))
+    first_of(hops, s + 1)
 }

@@ -1,5 +1,4 @@
 // Hops of a state: the outgoing hops, shown as a part of the lent table itself.
-use graph::OldState;
 use graph::Shape;
 use graph::hops::number_place;
 use graph::hops::part;
@@ -51,7 +50,7 @@ fn out_of<'a>(hops: &'a [u16], state: u32) -> &'a [u16]
     ensures shows { λ r. ⌜ now r ≡ outgoing (now (hops .entry)) state ⌝ }
     ensures stands { λ r. ⌜ ptr r ≡ standsAt (hops .entry) (firstOf (now (hops .entry)) state) ⌝ }
 {
-    let s = OldState(state as u16);
+    let s = state as u16;
     let first = first_of(hops, s);
     let past = past_of(hops, s);
     part(hops, first, past)
@@ -95,7 +94,7 @@ fn span_in(hops: &[u16], state: u32) -> Span
     requires { ⌜ Ascending (now hops) × (count (now hops) ≤ most-hops) × (state < 65535) ⌝ }
     ensures { λ r. ⌜ r ≡ spanIn (now (hops .entry)) state ⌝ }
 {
-    let s = OldState(state as u16);
+    let s = state as u16;
     let first = first_of(hops, s);
     let past = past_of(hops, s);
     if first == past {

@@ -5,6 +5,8 @@ use graph::Shape;
 use graph::hops::from_at;
 use graph::hops::hop_count;
 use graph::hops::label_at;
+use graph::hops::new_from_at;
+use graph::hops::new_to_at;
 use graph::hops::to_at;
 use representatives::renumber::map_at;
 use text::put_line2;
@@ -66,25 +68,26 @@ fn put_map(out: &mut [u8], at: usize, map: &[u16], states: usize) -> usize
     next
 }
 
-fn put_hop(out: &mut [u8], at: usize, hops: &[u16], i: usize) -> usize
-    requires { ⌜ i < count (now hops) ⌝ ∗ ⌜ Room at (hopLine (now hops) i) (now out) ⌝ }
-    ensures { λ r. ⌜ Put (now (out .entry)) at (hopLine (now (hops .entry)) i) r (now (out .exit)) ⌝ }
+// The line of a short hop, by new numbers.
+fn put_hop(out: &mut [u8], at: usize, short: &[u16], i: usize) -> usize
+    requires { ⌜ i < count (now short) ⌝ ∗ ⌜ Room at (hopLine (now short) i) (now out) ⌝ }
+    ensures { λ r. ⌜ Put (now (out .entry)) at (hopLine (now (short .entry)) i) r (now (out .exit)) ⌝ }
 {
-    let from = from_at(hops, i).0 as usize;
-    let label = label_at(hops, i).0 as usize;
-    let to = to_at(hops, i).0 as usize;
+    let from = new_from_at(short, i).0 as usize;
+    let label = label_at(short, i).0 as usize;
+    let to = new_to_at(short, i).0 as usize;
     put_line3(out, at, b"hop", from, label, to)
 }
 
-fn put_hops(out: &mut [u8], at: usize, hops: &[u16]) -> usize
-    requires { ⌜ Room at (lines (count (now hops)) (hopLine (now hops))) (now out) ⌝ }
-    ensures { λ r. ⌜ Put (now (out .entry)) at (lines (count (now (hops .entry))) (hopLine (now (hops .entry)))) r (now (out .exit)) ⌝ }
+fn put_hops(out: &mut [u8], at: usize, short: &[u16]) -> usize
+    requires { ⌜ Room at (lines (count (now short)) (hopLine (now short))) (now out) ⌝ }
+    ensures { λ r. ⌜ Put (now (out .entry)) at (lines (count (now (short .entry))) (hopLine (now (short .entry)))) r (now (out .exit)) ⌝ }
 {
-    let n = hop_count(hops);
+    let n = hop_count(short);
     let mut next = at;
     let mut i = 0;
     while i < n {
-        next = put_hop(out, next, hops, i);
+        next = put_hop(out, next, short, i);
         i += 1;
     }
     next

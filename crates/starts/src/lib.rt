@@ -1,5 +1,6 @@
-// The table of first places: for each state the place where its hops begin, found once in a pass over the list.
-use graph::hops::from_at;
+// The table of first places: for each state the place where its hops begin, found once in a pass over the list. It serves either graph, so a state
+// is a bare number here.
+use graph::hops::hop_at;
 use graph::hops::hop_count;
 ghost use mathlib.Core.Path.{_≡_};
 ghost use Prim.Native.Nat.{_+_, _<_};
@@ -30,7 +31,7 @@ fn pass(hops: &[u16], at: usize, s: usize) -> usize
     let n = hop_count(hops);
     let mut i = at;
     while i < n {
-        if wide(from_at(hops, i).0) > s {
+        if wide(hop_at(hops, i).from) > s {
             return i;
         }
         i += 1;

@@ -5,8 +5,8 @@ use Rattle.graph.proofs.Lookup.{first-past, past-within}
 use Rattle.outgoing.proofs.out_of.Statement.{statement}
 use Rattle.outgoing.proofs.out_of.Tie as tie
 
-cast-t6 : tie.Need-cast-t6
-cast-t6 c = search needs
+cast-s : tie.Need-cast-s
+cast-s c = search needs
 
 first-of-requires : tie.Need-first-of-requires
 first-of-requires c κs = search needs
@@ -27,4 +27,4 @@ returns c =
     (c .part .ensures .0 ∙ rw (c .before .before .first-of .ensures, c .before .past-of .ensures), c .part .ensures .1 ∙ rw (c .before .before .first-of .ensures))
 
 pub out-of-spec : {M : Type 1} → statement M
-out-of-spec = tie.close (tie.spec cast-t6 first-of-requires past-of-requires part-requires returns)
+out-of-spec = tie.close (tie.spec cast-s first-of-requires past-of-requires part-requires returns)

@@ -7,8 +7,8 @@ use Rattle.outgoing.proofs.Spans.{span-none, span-some}
 use Rattle.outgoing.proofs.span_in.Statement.{statement}
 use Rattle.outgoing.proofs.span_in.Tie as tie
 
-cast-t8 : tie.Need-cast-t8
-cast-t8 c = search needs
+cast-s : tie.Need-cast-s
+cast-s c = search needs
 
 first-of-requires : tie.Need-first-of-requires
 first-of-requires c κs = search needs
@@ -34,8 +34,8 @@ number-place-requires-2 c κs =
     let hs = s .args .hops .now in
     omega (arith, c .before .before .past-of .ensures, past-within hs (s .pre .0) (s .args .state), s .pre .1)
 
-sub-t10 : tie.Need-sub-t10
-sub-t10 c =
+sub-t9 : tie.Need-sub-t9
+sub-t9 c =
     let s = c .before .before .before .before .before .before in
     omega (arith, c .before .before .before .before .first-of .ensures, c .before .before .before .past-of .ensures, first-past (s .args .hops .now) (s .pre .0) (s .args .state))
 
@@ -48,12 +48,12 @@ pub span-in-spec : {M : Type 1} → statement M
 span-in-spec =
     tie.close
     (tie.spec
-    cast-t8
+    cast-s
     first-of-requires
     past-of-requires
     no-span-requires
     returns
     number-place-requires
     number-place-requires-2
-    sub-t10
+    sub-t9
     returns-2)

@@ -6,8 +6,8 @@ use borrow.Author.Needs.{needs}
 use Rattle.rows.proofs.put_hop.Statement.{statement}
 use Rattle.rows.proofs.put_hop.Tie as tie
 
-from-at-requires : tie.Need-from-at-requires
-from-at-requires c κs = search needs
+new-from-at-requires : tie.Need-new-from-at-requires
+new-from-at-requires c κs = search needs
 
 cast-from : tie.Need-cast-from
 cast-from c = search needs
@@ -18,8 +18,8 @@ label-at-requires c κs = search needs
 cast-label : tie.Need-cast-label
 cast-label c = search needs
 
-to-at-requires : tie.Need-to-at-requires
-to-at-requires c κs = search needs
+new-to-at-requires : tie.Need-new-to-at-requires
+new-to-at-requires c κs = search needs
 
 cast-to : tie.Need-cast-to
 cast-to c = search needs
@@ -29,24 +29,24 @@ slice-aggregate-put-line3 c = search needs
 
 put-line3-requires : tie.Need-put-line3-requires
 put-line3-requires c κs =
-    room-same (hop-parts _ _ (c .before .before .before .before .before .before .before .from-at .ensures) (c .before .before .before .before .before .label-at .ensures) (c .before .before .before .to-at .ensures)) (c .before .before .before .before .before .before .before .before .before .before .pre .1)
+    room-same (hop-parts _ _ (c .before .before .before .before .before .before .before .new-from-at .ensures) (c .before .before .before .before .before .label-at .ensures) (c .before .before .before .new-to-at .ensures)) (c .before .before .before .before .before .before .before .before .before .before .pre .1)
 
 same-length : tie.Need-same-length
 same-length c = search needs
 
 returns : tie.Need-returns
 returns c =
-    put-same (sym (hop-parts _ _ (c .before .before .before .before .before .before .before .before .before .before .from-at .ensures) (c .before .before .before .before .before .before .before .before .label-at .ensures) (c .before .before .before .before .before .before .to-at .ensures))) (c .before .before .put-line3 .ensures)
+    put-same (sym (hop-parts _ _ (c .before .before .before .before .before .before .before .before .before .before .new-from-at .ensures) (c .before .before .before .before .before .before .before .before .label-at .ensures) (c .before .before .before .before .before .before .new-to-at .ensures))) (c .before .before .put-line3 .ensures)
 
 pub put-hop-spec : {M : Type 1} → statement M
 put-hop-spec =
     tie.close
     (tie.spec
-    from-at-requires
+    new-from-at-requires
     cast-from
     label-at-requires
     cast-label
-    to-at-requires
+    new-to-at-requires
     cast-to
     slice-aggregate-put-line3
     put-line3-requires

@@ -12,11 +12,11 @@ use Rattle.rows.proofs.put_hops.Statement.{statement}
 use Rattle.rows.proofs.put_hops.Tie as tie
 
 abbrev Inv-loop : tie.InvT-loop
-Inv-loop out₀ at hops n next₀ i₀ out next i =
-    (n ≡ count hops) × (i ≤ n) × (length out ≡ length out₀) × Put out₀ at (lines i (hopLine hops)) next out
+Inv-loop out₀ at short n next₀ i₀ out next i =
+    (n ≡ count short) × (i ≤ n) × (length out ≡ length out₀) × Put out₀ at (lines i (hopLine short)) next out
 
 abbrev μ-loop : tie.MeasureT-loop
-μ-loop out₀ at hops n next₀ i₀ out next i = n - i
+μ-loop out₀ at short n next₀ i₀ out next i = n - i
 
 hop-count-requires : tie.Need-hop-count-requires Inv-loop μ-loop
 hop-count-requires c κs = search needs

@@ -1,10 +1,11 @@
 -- `starts::pass` meets its contract: every hop passed is from s or an earlier state. Assumes nothing.
 use Prim.Native.Nat.{ℕ, _+_, _-_, _<_, _≤_}
-use mathlib.Core.Path.{_≡_}
+use mathlib.Core.Path.{_≡_, ap}
 use native.Mathlib.Omega.{arith}
 use borrow.Author.Needs.{needs}
 use borrow.Author.Count.{below-more}
 use Rattle.graph.specs.Hops.{count, from}
+use Rattle.graph.specs.declared.Hop.{Hop}
 use Rattle.graph.proofs.Lookup.{first-within}
 use Rattle.starts.proofs.Firsts.{first-below, first-is}
 use Rattle.starts.proofs.pass.Statement.{statement}
@@ -27,8 +28,8 @@ loop-holds c =
       λ j l. omega (arith, first-below (st .args .hops .now) (st .pre .0 .ascending) (st .args .s) {j = j} (omega (arith, l, st .pre .1))),
     )
 
-from-at-requires : tie.Need-from-at-requires Inv-loop μ-loop
-from-at-requires c κs = search needs
+hop-at-requires : tie.Need-hop-at-requires Inv-loop μ-loop
+hop-at-requires c κs = search needs
 
 wide-requires : tie.Need-wide-requires Inv-loop μ-loop
 wide-requires c κs = search needs
@@ -36,9 +37,8 @@ wide-requires c κs = search needs
 returns : tie.Need-returns Inv-loop μ-loop
 returns c =
     let st = c .before .before .before .before .before .before .before in
-    let i = c .before .before .before .before .loop .i in
     first-is (st .args .hops .now) (st .pre .0 .ascending) (st .args .s + 1) (omega arith) (c .before .before .before .before .loop .inv .2)
-    (λ l. omega arith)
+    (λ l. omega (arith, ap (λ (h : Hop). h .from) (c .before .before .hop-at .ensures)))
 
 add-i : tie.Need-add-i Inv-loop μ-loop
 add-i c = search needs
@@ -48,7 +48,7 @@ loop-less c = search needs
 
 loop-again : tie.Need-loop-again Inv-loop μ-loop
 loop-again c =
-    (omega arith, omega arith, below-more _ _ (c .before .before .before .before .loop .inv .2) (omega arith))
+    (omega arith, omega arith, below-more _ _ (c .before .before .before .before .loop .inv .2) (omega (arith, ap (λ (h : Hop). h .from) (c .before .before .hop-at .ensures))))
 
 returns-2 : tie.Need-returns-2 Inv-loop μ-loop
 returns-2 c =
@@ -63,7 +63,7 @@ pass-spec =
     μ-loop
     hop-count-requires
     loop-holds
-    from-at-requires
+    hop-at-requires
     wide-requires
     returns
     add-i

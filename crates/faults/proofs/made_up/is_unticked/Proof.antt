@@ -4,8 +4,14 @@ use Rattle.faults.proofs.Ticking.{unticked-hop}
 use Rattle.faults.proofs.made_up.is_unticked.Statement.{statement}
 use Rattle.faults.proofs.made_up.is_unticked.Tie as tie
 
-hop-at-requires : tie.Need-hop-at-requires
-hop-at-requires c κs = search needs
+new-from-at-requires : tie.Need-new-from-at-requires
+new-from-at-requires c κs = search needs
+
+label-at-requires : tie.Need-label-at-requires
+label-at-requires c κs = search needs
+
+new-to-at-requires : tie.Need-new-to-at-requires
+new-to-at-requires c κs = search needs
 
 mul-result : tie.Need-mul-result
 mul-result c = search needs
@@ -14,7 +20,9 @@ shared-slice-read-result : tie.Need-shared-slice-read-result
 shared-slice-read-result c = search needs
 
 returns : tie.Need-returns
-returns c = unticked-hop _ _ _ _ _ (c .before .before .before .before .before .hop-at .ensures)
+returns c =
+    let at = c .before .before .before .before .before .before in
+    unticked-hop _ _ _ _ _ (at .before .before .new-from-at .ensures) (at .before .label-at .ensures) (at .new-to-at .ensures)
 
 pub is-unticked-spec : {M : Type 1} → statement M
-is-unticked-spec = tie.close (tie.spec hop-at-requires mul-result shared-slice-read-result returns)
+is-unticked-spec = tie.close (tie.spec new-from-at-requires label-at-requires new-to-at-requires mul-result shared-slice-read-result returns)

@@ -4,8 +4,8 @@ use Rattle.graph.specs.Search.{pastOf}
 use Rattle.graph.proofs.search.past_of.Statement.{statement}
 use Rattle.graph.proofs.search.past_of.Tie as tie
 
-add-t3 : tie.Need-add-t3
-add-t3 c = search needs
+add-first-of : tie.Need-add-first-of
+add-first-of c = search needs
 
 first-of-requires : tie.Need-first-of-requires
 first-of-requires c κs = search needs
@@ -15,4 +15,4 @@ unfolding pastOf
 returns c = c .first-of .ensures
 
 pub past-of-spec : {M : Type 1} → statement M
-past-of-spec = tie.close (tie.spec add-t3 first-of-requires returns)
+past-of-spec = tie.close (tie.spec add-first-of first-of-requires returns)
