@@ -1,5 +1,5 @@
 -- What the tests `closing`, `answers` and `closes` say, and the other way round: `closes hs u` is document 01's condition with "in U" read as
--- `u s t ≡ true`. So it only grows with the set. Assumes nothing.
+-- `u s t ≡ true`. So they only grow with the set. Assumes nothing.
 use Prim.Native.Nat.{ℕ, _<_}
 use mathlib.Core.Path.{_≡_, refl, sym, _∙_}
 use mathlib.Core.Bool.{Bool, true, false, _&&_, _||_}
@@ -60,31 +60,31 @@ module _ (hs : List ℕ) where
 
   module _ (u : Pairs) where
     -- Y: s2 itself answers, or the hop at a place does
-    pub answers-still : (s2 a s3 : ℕ) → a ≡ 0 → closing u s3 s2 ≡ true → answers hs u s2 a s3 ≡ true
+    pub answers-still : (s2 a s3 : ℕ) → a ≡ 0 → closing u s3 s2 ≡ true → answers hs (closing u) s2 a s3 ≡ true
     unfolding answers
-    answers-still s2 a s3 q e = or-left (any (count hs) (answer hs u s2 a s3)) (and-yes (eq-eqb a 0 q) e)
+    answers-still s2 a s3 q e = or-left (any (count hs) (answer hs (closing u) s2 a s3)) (and-yes (eq-eqb a 0 q) e)
 
-    pub answers-hop : (s2 a s3 : ℕ) {j : ℕ} → j < count hs → leaves hs s2 a j ≡ true → closing u s3 (to hs j) ≡ true → answers hs u s2 a s3 ≡ true
+    pub answers-hop : (s2 a s3 : ℕ) {j : ℕ} → j < count hs → leaves hs s2 a j ≡ true → closing u s3 (to hs j) ≡ true → answers hs (closing u) s2 a s3 ≡ true
     unfolding answers answer
-    answers-hop s2 a s3 l h e = or-right (eqb a 0 && closing u s3 s2) (any-found (answer hs u s2 a s3) (count hs) l (and-yes h e))
+    answers-hop s2 a s3 l h e = or-right (eqb a 0 && closing u s3 s2) (any-found (answer hs (closing u) s2 a s3) (count hs) l (and-yes h e))
 
-    pub answers-yes : (s2 a s3 : ℕ) → Answered hs (In u) s2 a s3 → answers hs u s2 a s3 ≡ true
+    pub answers-yes : (s2 a s3 : ℕ) → Answered hs (In u) s2 a s3 → answers hs (closing u) s2 a s3 ≡ true
     answers-yes s2 a s3 (s4, inl h, z) =
         let p = has-place hs s2 a s4 h in
         answers-hop s2 a s3 (p .within) (leaves-yes (p .at) (p .from-is) (p .label-is)) (rw (p .to-is) (closing-yes u s3 s4 z))
     answers-yes s2 a s3 (s4, inr (q, e), z) = answers-still s2 a s3 q (rw e at (closing-yes u s3 s4 z))
 
-    pub answers-says : (s2 a s3 : ℕ) → answers hs u s2 a s3 ≡ true → Answered hs (In u) s2 a s3
+    pub answers-says : (s2 a s3 : ℕ) → answers hs (closing u) s2 a s3 ≡ true → Answered hs (In u) s2 a s3
     unfolding answers answer
-    answers-says s2 a s3 e = go (or-yes (eqb a 0 && closing u s3 s2) (any (count hs) (answer hs u s2 a s3)) e) where
-      go : ((eqb a 0 && closing u s3 s2) ≡ true) ⊎ (any (count hs) (answer hs u s2 a s3) ≡ true) → Answered hs (In u) s2 a s3
+    answers-says s2 a s3 e = go (or-yes (eqb a 0 && closing u s3 s2) (any (count hs) (answer hs (closing u) s2 a s3)) e) where
+      go : ((eqb a 0 && closing u s3 s2) ≡ true) ⊎ (any (count hs) (answer hs (closing u) s2 a s3) ≡ true) → Answered hs (In u) s2 a s3
       go (inl h) = (
         s2,
         inr (eqb-true a 0 (and-left (eqb a 0) (closing u s3 s2) h), refl),
         closing-says u s3 s2 (and-right (eqb a 0) (closing u s3 s2) h),
       )
       go (inr h) =
-          let (j, l, w) = any-at (answer hs u s2 a s3) (count hs) h in
+          let (j, l, w) = any-at (answer hs (closing u) s2 a s3) (count hs) h in
           let (f, g) = leaves-says s2 a j (and-left (leaves hs s2 a j) (closing u s3 (to hs j)) w) in
           (to hs j, inl (place-has hs s2 a (to hs j) (record { at = j; within = l; from-is = f; label-is = g; to-is = refl })), closing-says u s3 (to hs j) (and-right (leaves hs s2 a j) (closing u s3 (to hs j)) w))
 
@@ -94,10 +94,10 @@ module _ (hs : List ℕ) where
       unfolding answered
       answered-still z e = rw (← p, ← q) (answers-still s2 a s3 z e)
 
-      pub answered-else : (a ≡ 0 → closing u s3 s2 ≡ false) → any (count hs) (answer hs u s2 a s3) ≡ answered hs u s2 j
+      pub answered-else : (a ≡ 0 → closing u s3 s2 ≡ false) → any (count hs) (answer hs (closing u) s2 a s3) ≡ answered hs u s2 j
       unfolding answered answers
       answered-else f = rw (← p, ← q) (go (eqb a 0) refl) where
-        go : (t : Bool) → eqb a 0 ≡ t → any (count hs) (answer hs u s2 a s3) ≡ ((t && closing u s3 s2) || any (count hs) (answer hs u s2 a s3))
+        go : (t : Bool) → eqb a 0 ≡ t → any (count hs) (answer hs (closing u) s2 a s3) ≡ ((t && closing u s3 s2) || any (count hs) (answer hs (closing u) s2 a s3))
         go true e = rw (f (eqb-true a 0 e))
         go false e = refl
 
@@ -107,27 +107,27 @@ module _ (hs : List ℕ) where
 
     -- the hop at place j, if it leaves s1, is tried
     module _ (s1 s2 j : ℕ) where
-      pub tried-own : from hs j ≡ s1 → tried hs u s1 s2 j ≡ answered hs u s2 j
-      unfolding tried
+      pub tried-own : from hs j ≡ s1 → tried hs (answers hs (closing u)) s1 s2 j ≡ answered hs u s2 j
+      unfolding tried answered
       tried-own e = rw (eq-eqb (from hs j) s1 e)
 
-      pub tried-other : (from hs j ≡ s1 → ⊥) → tried hs u s1 s2 j ≡ true
+      pub tried-other : (from hs j ≡ s1 → ⊥) → tried hs (answers hs (closing u)) s1 s2 j ≡ true
       unfolding tried
       tried-other n = rw (ne-eqb (from hs j) s1 n)
 
-    -- X
+    -- X of a silent hop
     pub closes-says : (s1 s2 : ℕ) → closes hs u s1 s2 ≡ true → Closed hs (In u) s1 s2
     unfolding closes answered
     closes-says s1 s2 e a s3 h =
         let p = has-place hs s1 a s3 h in
         let y : answered hs u s2 (p .at) ≡ true =
-        sym (tried-own s1 s2 (p .at) (p .from-is)) ∙ all-at (tried hs u s1 s2) (count hs) e (p .within) in
+        sym (tried-own s1 s2 (p .at) (p .from-is)) ∙ all-at (tried hs (answers hs (closing u)) s1 s2) (count hs) e (p .within) in
         answers-says s2 a s3 (rw (p .label-is, p .to-is) at y)
 
     pub closes-yes : (s1 s2 : ℕ) → Closed hs (In u) s1 s2 → closes hs u s1 s2 ≡ true
     unfolding closes answered
-    closes-yes s1 s2 c = all-yes (tried hs u s1 s2) (count hs) (λ i l. go i l (eq-or-not (from hs i) s1)) where
-      go : (i : ℕ) → i < count hs → (from hs i ≡ s1) ⊎ (from hs i ≡ s1 → ⊥) → tried hs u s1 s2 i ≡ true
+    closes-yes s1 s2 c = all-yes (tried hs (answers hs (closing u)) s1 s2) (count hs) (λ i l. go i l (eq-or-not (from hs i) s1)) where
+      go : (i : ℕ) → i < count hs → (from hs i ≡ s1) ⊎ (from hs i ≡ s1 → ⊥) → tried hs (answers hs (closing u)) s1 s2 i ≡ true
       go i l (inl f) =
           tried-own s1 s2 i f ∙ answers-yes s2 (label hs i) (to hs i) (c (label hs i) (to hs i) (rw f at (has-at hs l)))
       go i l (inr n) = tried-other s1 s2 i n
@@ -137,12 +137,20 @@ module _ (hs : List ℕ) where
     closes-iff s1 s2 = (closes-says s1 s2, closes-yes s1 s2)
 
   -- the condition grows with the set
-  pub closed-mono : {U W : ℕ → ℕ → Type 0} → ((s t : ℕ) → U s t → W s t) → (s1 s2 : ℕ) → Closed hs U s1 s2 → Closed hs W s1 s2
-  closed-mono {U} {W} f s1 s2 c a s3 h = let (s4, x, y) = c a s3 h in (s4, x, more s4 y) where
-    more : (s4 : ℕ) → (s3 ≡ s4) ⊎ U s3 s4 → (s3 ≡ s4) ⊎ W s3 s4
-    more s4 (inl e) = inl e
-    more s4 (inr m) = inr (f s3 s4 m)
+  pub answered-mono : {U W : ℕ → ℕ → Type 0} → ((s t : ℕ) → U s t → W s t) → (s2 a s3 : ℕ) → Answered hs U s2 a s3 → Answered hs W s2 a s3
+  answered-mono f s2 a s3 (s4, x, inl e) = (s4, x, inl e)
+  answered-mono f s2 a s3 (s4, x, inr m) = (s4, x, inr (f s3 s4 m))
 
-  -- and so does the test
-  pub closes-mono : (u v : Pairs) → ((s t : ℕ) → In u s t → In v s t) → (s1 s2 : ℕ) → closes hs u s1 s2 ≡ true → closes hs v s1 s2 ≡ true
-  closes-mono u v f s1 s2 e = closes-yes v s1 s2 (closed-mono f s1 s2 (closes-says u s1 s2 e))
+  pub closed-mono : {U W : ℕ → ℕ → Type 0} → ((s t : ℕ) → U s t → W s t) → (s1 s2 : ℕ) → Closed hs U s1 s2 → Closed hs W s1 s2
+  closed-mono f s1 s2 c a s3 h = answered-mono f s2 a s3 (c a s3 h)
+
+  -- and so do the tests
+  module _ (u v : Pairs) (f : (s t : ℕ) → In u s t → In v s t) where
+    pub closing-mono : (s3 s4 : ℕ) → closing u s3 s4 ≡ true → closing v s3 s4 ≡ true
+    closing-mono s3 s4 e = closing-yes v s3 s4 (⊎-elim (λ h. inl h) (λ h. inr (f s3 s4 h)) (closing-says u s3 s4 e))
+
+    pub answers-mono : (s2 a s3 : ℕ) → answers hs (closing u) s2 a s3 ≡ true → answers hs (closing v) s2 a s3 ≡ true
+    answers-mono s2 a s3 e = answers-yes v s2 a s3 (answered-mono f s2 a s3 (answers-says u s2 a s3 e))
+
+    pub closes-mono : (s1 s2 : ℕ) → closes hs u s1 s2 ≡ true → closes hs v s1 s2 ≡ true
+    closes-mono s1 s2 e = closes-yes v s1 s2 (closed-mono f s1 s2 (closes-says u s1 s2 e))

@@ -1,29 +1,36 @@
--- The marked set is the greatest confluent set, the union of all of them, and what survives every number of rounds. Assumes nothing.
+-- The marked set is the greatest confluent set, the union of all of them, the greatest solution of the equations X, Y and Z, and what survives every
+-- number of rounds: the last round changes nothing, so the set is its own X. Assumes nothing.
 use Prim.Native.Nat.{ℕ, zero, suc, _+_}
-use mathlib.Core.Path.{_≡_, sym, _∙_}
-use mathlib.Core.Bool.{true}
+use mathlib.Core.Path.{_≡_, refl, sym, ap, _∙_}
+use mathlib.Core.Bool.{true, _&&_}
 use mathlib.Core.List.{List}
 use native.Mathlib.Omega.{arith}
 use Rattle.lts.specs.Sense.{R1}
-use Rattle.graph.specs.Hops.{count}
+use Rattle.graph.specs.Hops.{count, has}
+use Rattle.graph.proofs.Bools.{and-left, and-right}
 use Rattle.silent.specs.Silent.{HopOf}
-use Rattle.confluence.specs.Rounds.{survives, marked, ConfluentSet}
-use Rattle.confluence.proofs.Closing.{In, closes-says, closes-yes, closed-mono}
-use Rattle.confluence.proofs.Rounds.{survives-none, survives-silent, survives-closes, survives-yes, stable}
+use Rattle.confluence.specs.Rounds.{Pairs, Trials, closing, answers, closes, Solution, survives, marked, ConfluentSet}
+use Rattle.confluence.proofs.Closing.{In, closes-says, closes-yes, closed-mono, closing-mono, answers-mono}
+use Rattle.confluence.proofs.Rounds.{survives-none, survives-yes, stable}
 
 module _ (hs : List ℕ) where
-  pub marked-confluent : ConfluentSet hs (In (marked hs))
-  unfolding marked
-  marked-confluent =
-      record {
-        silent = survives-silent hs (count hs);
-        closed = λ s1 s2 e. closes-says hs (survives hs (count hs)) s1 s2 (survives-closes hs (count hs) s1 s2 (again s1 s2 e));
-      } where
-        one-more : 1 + count hs ≡ suc (count hs)
-        one-more = omega arith
+  -- the equation X of the marked set, with Y and Z put in, for every pair: one round more changes nothing
+  pub marked-fixed : (s1 s2 : ℕ) → marked hs s1 s2 ≡ (has hs s1 0 s2 && closes hs (marked hs) s1 s2)
+  unfolding marked survives
+  marked-fixed s1 s2 = rw one-more at (stable hs 1 s1 s2) where
+    one-more : 1 + count hs ≡ suc (count hs)
+    one-more = omega arith
 
-        again : (s t : ℕ) → survives hs (count hs) s t ≡ true → survives hs (suc (count hs)) s t ≡ true
-        again s t e = rw (← one-more) (sym (stable hs 1 s t) ∙ e)
+  -- a set that meets it is confluent
+  fixed-confluent : (x : Pairs) → ((s1 s2 : ℕ) → x s1 s2 ≡ (has hs s1 0 s2 && closes hs x s1 s2)) → ConfluentSet hs (In x)
+  fixed-confluent x f =
+      record {
+        silent = λ s1 s2 e. and-left (has hs s1 0 s2) (closes hs x s1 s2) (sym (f s1 s2) ∙ e);
+        closed = λ s1 s2 e. closes-says hs x s1 s2 (and-right (has hs s1 0 s2) (closes hs x s1 s2) (sym (f s1 s2) ∙ e));
+      }
+
+  pub marked-confluent : ConfluentSet hs (In (marked hs))
+  marked-confluent = fixed-confluent (marked hs) marked-fixed
 
   -- a hop of a confluent set survives every number of rounds
   pub confluent-survives : {U : ℕ → ℕ → Type 0} → ConfluentSet hs U → (k s t : ℕ) → U s t → survives hs k s t ≡ true
@@ -41,6 +48,32 @@ module _ (hs : List ℕ) where
       (marked hs s t ≡ true → (U : ℕ → ℕ → Type 0) × ConfluentSet hs U × U s t) ×
       ((U : ℕ → ℕ → Type 0) × ConfluentSet hs U × U s t → marked hs s t ≡ true)
   marked-iff s t = ((λ e. (In (marked hs), marked-confluent, e)), (λ (U, c, m). marked-greatest U c s t m))
+
+  -- "the greatest solution of three equations": it is one, with its Y and Z ..
+  pub marked-solution : Solution hs (marked hs) (answers hs (closing (marked hs))) (closing (marked hs))
+  unfolding closes
+  marked-solution = record { x-is = marked-fixed; y-is = λ s2 a s3. refl; z-is = λ s3 s4. refl }
+
+  -- .. and each solution's X, Y and Z are within them
+  module _ {X Z : Pairs} {Y : Trials} (sol : Solution hs X Y Z) where
+    z-put : Z ≡ closing X
+    z-put = λ k s3 s4. sol .z-is s3 s4 k
+
+    y-put : Y ≡ answers hs (closing X)
+    y-put = (λ k s2 a s3. sol .y-is s2 a s3 k) ∙ ap (answers hs) z-put
+
+    x-put : (s1 s2 : ℕ) → X s1 s2 ≡ (has hs s1 0 s2 && closes hs X s1 s2)
+    unfolding closes
+    x-put s1 s2 = sol .x-is s1 s2 ∙ rw y-put
+
+    pub solution-x : (s1 s2 : ℕ) → X s1 s2 ≡ true → marked hs s1 s2 ≡ true
+    solution-x = marked-greatest (In X) (fixed-confluent X x-put)
+
+    pub solution-y : (s2 a s3 : ℕ) → Y s2 a s3 ≡ true → answers hs (closing (marked hs)) s2 a s3 ≡ true
+    solution-y s2 a s3 e = answers-mono hs X (marked hs) solution-x s2 a s3 (rw y-put at e)
+
+    pub solution-z : (s3 s4 : ℕ) → Z s3 s4 ≡ true → closing (marked hs) s3 s4 ≡ true
+    solution-z s3 s4 e = closing-mono hs X (marked hs) solution-x s3 s4 (rw z-put at e)
 
   -- "The marked set is what survives every k"
   pub marked-every : (s t : ℕ) →

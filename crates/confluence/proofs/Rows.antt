@@ -15,7 +15,7 @@ use Rattle.graph.proofs.Bools.{and-yes, and-left, and-no-right, no-test, lt-or-
 use Rattle.graph.proofs.Tests.{all-yes, all-fails, any-found}
 use Rattle.graph.proofs.Ordered.{Below, before-below, ascending-lt}
 use Rattle.graph.proofs.Lookup.{first-within, range-holds, range-only, any-range}
-use Rattle.confluence.specs.Rounds.{Pairs, closing, leaves, answer, answered, tried, closes}
+use Rattle.confluence.specs.Rounds.{Pairs, closing, leaves, answer, answers, answered, tried, closes}
 use Rattle.starts.proofs.Firsts.{first-below, first-next}
 use Rattle.confluence.specs.Held.{Row, Skipped}
 use Rattle.confluence.proofs.Closing.{leaves-says, leaves-yes, tried-own, tried-other}
@@ -31,18 +31,18 @@ module _ (hs : List ℕ) (up : Ascending hs) where
 
   -- the walk over a row comes to a place k of the label that closes s3
   pub row-answers : (u : Pairs) (s a s3 : ℕ) {at past : ℕ} → Row hs s a at past → {k : ℕ} → at ≤ k → k < past → label hs k ≡ a →
-      closing u s3 (to hs k) ≡ true → any (count hs) (answer hs u s a s3) ≡ true
+      closing u s3 (to hs k) ≡ true → any (count hs) (answer hs (closing u) s a s3) ≡ true
   unfolding answer
   row-answers u s a s3 row {k} l m q e =
-      any-found (answer hs u s a s3) (count hs) (omega (arith, row .within)) (and-yes (leaves-yes hs k (row .own k l m) q) e)
+      any-found (answer hs (closing u) s a s3) (count hs) (omega (arith, row .within)) (and-yes (leaves-yes hs k (row .own k l m) q) e)
 
   -- the walk over a row stops at a place k: none before it closes s3, and the one there, if any, has another label. So no hop answers.
   pub row-ends : (u : Pairs) (s a s3 : ℕ) {at past : ℕ} → Row hs s a at past → (k : ℕ) → at ≤ k →
       ((j : ℕ) → at ≤ j → j < k → closing u s3 (to hs j) ≡ false) → (k < past → label hs k ≡ a → ⊥) →
-      any (count hs) (answer hs u s a s3) ≡ false
+      any (count hs) (answer hs (closing u) s a s3) ≡ false
   unfolding answer
-  row-ends u s a s3 {at} {past} row k l f g = any-range (answer hs u s a s3) (count hs) at past inside none where
-    inside : (j : ℕ) → j < count hs → answer hs u s a s3 j ≡ true → (at ≤ j) × (j < past)
+  row-ends u s a s3 {at} {past} row k l f g = any-range (answer hs (closing u) s a s3) (count hs) at past inside none where
+    inside : (j : ℕ) → j < count hs → answer hs (closing u) s a s3 j ≡ true → (at ≤ j) × (j < past)
     inside j m e =
         let (p, q) = leaves-says hs s a j (and-left (leaves hs s a j) (closing u s3 (to hs j)) e) in
         row .rest j m p (omega arith)
@@ -55,13 +55,13 @@ module _ (hs : List ℕ) (up : Ascending hs) where
         let h : label hs k ≤ label hs j = ascending-label n (omega (arith, row .within)) d in
         g w (omega (arith, row .low k l w))
 
-    none : (j : ℕ) → at ≤ j → j < past → answer hs u s a s3 j ≡ false
+    none : (j : ℕ) → at ≤ j → j < past → answer hs (closing u) s a s3 j ≡ false
     none j b m =
         ⊎-elim (λ n. and-no-right (leaves hs s a j) (f j b n))
-        (λ n. no-test (answer hs u s a s3 j) (λ e. late j b m n (and-left (leaves hs s a j) (closing u s3 (to hs j)) e))) (lt-or-le j k)
+        (λ n. no-test (answer hs (closing u) s a s3 j) (λ e. late j b m n (and-left (leaves hs s a j) (closing u s3 (to hs j)) e))) (lt-or-le j k)
 
   -- the hops before the first of s1 are not tried
-  pub tried-before : (u : Pairs) (s1 s2 : ℕ) {j : ℕ} → j ≡ firstOf hs s1 → (k : ℕ) → k < j → tried hs u s1 s2 k ≡ true
+  pub tried-before : (u : Pairs) (s1 s2 : ℕ) {j : ℕ} → j ≡ firstOf hs s1 → (k : ℕ) → k < j → tried hs (answers hs (closing u)) s1 s2 k ≡ true
   tried-before u s1 s2 e k l =
       tried-other hs u s1 s2 k (λ q. let h : from hs k < s1 = first-below hs up s1 (omega arith) in absurd (omega arith))
 
@@ -155,12 +155,12 @@ module _ (hs : List ℕ) (up : Ascending hs) (s1 s2 end past : ℕ) where
 
   module _ (u : Pairs) where
     -- no hop from `end` on is tried, and the one at j is
-    pub tried-done : {at j : ℕ} → Walk hs s1 s2 end past at j → end ≤ j → ((k : ℕ) → k < j → tried hs u s1 s2 k ≡ true) → closes hs u s1 s2 ≡ true
+    pub tried-done : {at j : ℕ} → Walk hs s1 s2 end past at j → end ≤ j → ((k : ℕ) → k < j → tried hs (answers hs (closing u)) s1 s2 k ≡ true) → closes hs u s1 s2 ≡ true
     unfolding closes pastOf
-    tried-done {at} {j} w l f = all-yes (tried hs u s1 s2) (count hs) (λ k m. ⊎-elim (λ a. f k a) (λ a. tried-other hs u s1 s2 k (after k m a)) (lt-or-le k j)) where
+    tried-done {at} {j} w l f = all-yes (tried hs (answers hs (closing u)) s1 s2) (count hs) (λ k m. ⊎-elim (λ a. f k a) (λ a. tried-other hs u s1 s2 k (after k m a)) (lt-or-le k j)) where
       after : (k : ℕ) → k < count hs → j ≤ k → from hs k ≡ s1 → ⊥
       after k m a q = let (x, y) = range-holds hs up s1 m q in omega (arith, w .end-is)
 
     pub tried-fails : {at j : ℕ} → Walk hs s1 s2 end past at j → j < end → answered hs u s2 j ≡ false → closes hs u s1 s2 ≡ false
     unfolding closes
-    tried-fails {at} {j} w l e = all-fails (tried hs u s1 s2) (count hs) (walk-in w l) (tried-own hs u s1 s2 j (walk-from w l) ∙ e)
+    tried-fails {at} {j} w l e = all-fails (tried hs (answers hs (closing u)) s1 s2) (count hs) (walk-in w l) (tried-own hs u s1 s2 j (walk-from w l) ∙ e)

@@ -12,9 +12,13 @@ use Rattle.graph.specs.Hops.{count, from, label, to, has}
 abbrev pub Pairs : Type 0
 Pairs = ℕ → ℕ → Bool
 
--- Z, the closing: "s3 = s4, or the silent hop s3 to s4 is in U"
-unfoldable pub closing : Pairs → ℕ → ℕ → Bool
-closing u s3 s4 = eqb s3 s4 || u s3 s4
+-- a set of trials: s2, a, s3 is the trial of a hop labelled a to s3 against a silent hop to s2
+abbrev pub Trials : Type 0
+Trials = ℕ → ℕ → ℕ → Bool
+
+-- Z, the closing, over X: "s3 = s4, or the silent hop s3 to s4 is in U"
+unfoldable pub closing : Pairs → Pairs
+closing x s3 s4 = eqb s3 s4 || x s3 s4
 
 -- the hop at place j is one from s labelled a
 unfoldable pub leaves : List ℕ → ℕ → ℕ → ℕ → Bool
@@ -22,22 +26,30 @@ leaves hs s a j = eqb (from hs j) s && eqb (label hs j) a
 
 -- "s2 has a hop labelled a to s4": the one at place j, and its end closes s3
 unfoldable pub answer : List ℕ → Pairs → ℕ → ℕ → ℕ → ℕ → Bool
-answer hs u s2 a s3 j = leaves hs s2 a j && closing u s3 (to hs j)
+answer hs z s2 a s3 j = leaves hs s2 a j && z s3 (to hs j)
 
--- Y, a hop labelled a to s3 tried against a silent hop to s2: "a is silent and s4 = s2", or a hop of s2 answers
-unfoldable pub answers : List ℕ → Pairs → ℕ → ℕ → ℕ → Bool
-answers hs u s2 a s3 = (eqb a 0 && closing u s3 s2) || any (count hs) (answer hs u s2 a s3)
+-- Y, a hop labelled a to s3 tried against a silent hop to s2, over Z: "a is silent and s4 = s2", or a hop of s2 answers
+unfoldable pub answers : List ℕ → Pairs → Trials
+answers hs z s2 a s3 = (eqb a 0 && z s3 s2) || any (count hs) (answer hs z s2 a s3)
 
+-- the hop at place i, if it leaves s1, passes its trial against a silent hop to s2
+unfoldable pub tried : List ℕ → Trials → ℕ → ℕ → ℕ → Bool
+tried hs y s1 s2 i = not (eqb (from hs i) s1) || y s2 (label hs i) (to hs i)
+
+-- What a solution is: "the greatest solution of three equations: X for a silent hop, Y for a hop tried against it, Z for the closing. X of a pair
+-- that is no silent hop is false." In RR-7000 they are the equations of strong confluence.
+pub record Solution (hs : List ℕ) (X : Pairs) (Y : Trials) (Z : Pairs) : Type 0 where
+  pub x-is : (s1 s2 : ℕ) → X s1 s2 ≡ (has hs s1 0 s2 && all (count hs) (tried hs Y s1 s2))
+  pub y-is : (s2 a s3 : ℕ) → Y s2 a s3 ≡ answers hs Z s2 a s3
+  pub z-is : (s3 s4 : ℕ) → Z s3 s4 ≡ closing X s3 s4
+
+-- the condition of a confluent set, with u for U. The hop at place i is answered from s2:
 unfoldable pub answered : List ℕ → Pairs → ℕ → ℕ → Bool
-answered hs u s2 i = answers hs u s2 (label hs i) (to hs i)
+answered hs u s2 i = answers hs (closing u) s2 (label hs i) (to hs i)
 
--- the hop at place i, if it leaves s1, is answered from s2
-unfoldable pub tried : List ℕ → Pairs → ℕ → ℕ → ℕ → Bool
-tried hs u s1 s2 i = not (eqb (from hs i) s1) || answered hs u s2 i
-
--- X, a silent hop s1 to s2: each hop from s1 is answered from s2
-unfoldable pub closes : List ℕ → Pairs → ℕ → ℕ → Bool
-closes hs u s1 s2 = all (count hs) (tried hs u s1 s2)
+-- and each hop from s1 is. With `has` beside it this is X over u: Y and Z are put in.
+unfoldable pub closes : List ℕ → Pairs → Pairs
+closes hs u s1 s2 = all (count hs) (tried hs (answers hs (closing u)) s1 s2)
 
 -- "Every silent hop survives 0 rounds. It survives k + 1 when the condition above holds with 'in U' read as 'survives k'."
 unfoldable pub survives : List ℕ → ℕ → Pairs

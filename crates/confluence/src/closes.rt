@@ -74,7 +74,7 @@ fn skip(hops: &[u16], at: usize, past: usize, a: Label) -> usize
 // Whether a hop labelled a of `rest` leads to an s4 that closes s3.
 fn hop_answers(hops: &[u16], marks: &[u8], rest: Rest, a: Label, s3: OldState) -> bool
     requires { ⌜ Ascending (now hops) ⌝ ∗ ⌜ count (now hops) ≤ length (now marks) ⌝ ∗ ⌜ Row (now hops) (rest .state .0) (a .0) (rest .at) (rest .past) ⌝ }
-    ensures { λ r. ⌜ r ≡ any (count (now (hops .entry))) (answer (now (hops .entry)) (heldBy (now (hops .entry)) (now (marks .entry))) (rest .state .0) (a .0) (s3 .0)) ⌝ }
+    ensures { λ r. ⌜ r ≡ any (count (now (hops .entry))) (answer (now (hops .entry)) (closing (heldBy (now (hops .entry)) (now (marks .entry)))) (rest .state .0) (a .0) (s3 .0)) ⌝ }
 {
     let past = rest.past;
     let mut k = rest.at;
@@ -106,7 +106,8 @@ fn is_answered(hops: &[u16], marks: &[u8], rest: Rest, j: usize) -> bool
     hop_answers(hops, marks, rest, a, s3)
 }
 
-// X: whether the silent hop at place i closes. The hops from both of its ends are walked side by side, labels ascending.
+// X of a silent hop, the one at place i: whether each hop from its start is answered from its end. The hops of both are walked side by side,
+// labels ascending.
 pub fn closes_at(hops: &[u16], starts: &[u16; 1025], marks: &[u8], i: usize) -> bool
     requires { ⌜ Ready (now hops) ⌝ ∗ ⌜ Table (now hops) (now starts) ⌝ ∗ ⌜ count (now hops) ≤ length (now marks) ⌝ ∗ ⌜ i < count (now hops) ⌝ }
     ensures { λ r. ⌜ r ≡ closes (now (hops .entry)) (heldBy (now (hops .entry)) (now (marks .entry))) (from (now (hops .entry)) i) (to (now (hops .entry)) i) ⌝ }

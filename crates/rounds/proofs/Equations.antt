@@ -23,13 +23,13 @@ use Rattle.rounds.specs.Index.{labelledFrom, labelledPast, silentHop}
 use Rattle.rounds.proofs.Firsts.{Through, labelled-holds, labelled-only, labelled-within}
 
 module _ (hs : List ℕ) (up : Ascending hs) (u : Pairs) where
-  -- X: each hop of s1 is answered from s2
+  -- X of a silent hop s1 to s2: each hop of s1 is answered from s2
   module _ (s1 s2 : ℕ) where
-    tried-own : (j : ℕ) → from hs j ≡ s1 → tried hs u s1 s2 j ≡ answered hs u s2 j
-    unfolding tried
+    tried-own : (j : ℕ) → from hs j ≡ s1 → tried hs (answers hs (closing u)) s1 s2 j ≡ answered hs u s2 j
+    unfolding tried answered
     tried-own j e = rw (eq-eqb _ _ e)
 
-    tried-fails : (j : ℕ) → tried hs u s1 s2 j ≡ false → from hs j ≡ s1
+    tried-fails : (j : ℕ) → tried hs (answers hs (closing u)) s1 s2 j ≡ false → from hs j ≡ s1
     unfolding tried
     tried-fails j e = go (eq-or-not (from hs j) s1) where
       go : (from hs j ≡ s1) ⊎ (from hs j ≡ s1 → ⊥) → from hs j ≡ s1
@@ -41,48 +41,48 @@ module _ (hs : List ℕ) (up : Ascending hs) (u : Pairs) where
       pub closes-yes : past ≤ j → Through (λ (q : ℕ). answered hs u s2 q ≡ true) (firstOf hs s1) j → true ≡ closes hs u s1 s2
       unfolding closes
       closes-yes m f =
-          sym (all-range (tried hs u s1 s2) (count hs) (firstOf hs s1) (pastOf hs s1) (λ q l d. range-holds hs up s1 l (tried-fails q d))
+          sym (all-range (tried hs (answers hs (closing u)) s1 s2) (count hs) (firstOf hs s1) (pastOf hs s1) (λ q l d. range-holds hs up s1 l (tried-fails q d))
           (λ q a b. tried-own q (range-only hs up s1 (omega (arith, past-within hs up s1)) a b) ∙ f q a (omega arith)))
 
       pub closes-no : j < past → firstOf hs s1 ≤ j → answered hs u s2 j ≡ false → false ≡ closes hs u s1 s2
       unfolding closes
       closes-no b a d =
           let l : j < count hs = omega (arith, past-within hs up s1) in
-          sym (all-fails (tried hs u s1 s2) (count hs) l (tried-own j (range-only hs up s1 l a (omega arith)) ∙ d))
+          sym (all-fails (tried hs (answers hs (closing u)) s1 s2) (count hs) l (tried-own j (range-only hs up s1 l a (omega arith)) ∙ d))
 
   -- Y: a hop of s2 labelled a answers, or s2 itself does where a is silent
   module _ (s2 a s3 : ℕ) where
     pub answers-hop : {past j s4 : ℕ} → past ≡ labelledPast hs s2 a → j < past → labelledFrom hs s2 a ≤ j → s4 ≡ to hs j → closing u s3 s4 ≡ true →
-        true ≡ answers hs u s2 a s3
+        true ≡ answers hs (closing u) s2 a s3
     unfolding answers answer leaves
     answers-hop {past} {j} p hi lo q e =
         let l : j < count hs = omega (arith, labelled-within hs up s2 a) in
         let (f, g) = labelled-only hs up s2 a l lo (omega arith) in
-        sym (or-right (eqb a 0 && closing u s3 s2) (any-found (answer hs u s2 a s3) (count hs) l (rw (eq-eqb _ _ f, eq-eqb _ _ g, ← q, e))))
+        sym (or-right (eqb a 0 && closing u s3 s2) (any-found (answer hs (closing u) s2 a s3) (count hs) l (rw (eq-eqb _ _ f, eq-eqb _ _ g, ← q, e))))
 
     -- a walk over the hops of s2 labelled a has passed all of them, and none closes
     module _ {past : ℕ} (p : past ≡ labelledPast hs s2 a) {j : ℕ} (m : past ≤ j)
         (f : Through (λ (q : ℕ). closing u s3 (to hs q) ≡ false) (labelledFrom hs s2 a) j) where
-      none-answers : any (count hs) (answer hs u s2 a s3) ≡ false
+      none-answers : any (count hs) (answer hs (closing u) s2 a s3) ≡ false
       unfolding answer leaves
       none-answers =
-          any-range (answer hs u s2 a s3) (count hs) (labelledFrom hs s2 a) (labelledPast hs s2 a)
+          any-range (answer hs (closing u) s2 a s3) (count hs) (labelledFrom hs s2 a) (labelledPast hs s2 a)
           (λ q l e. labelled-holds hs up s2 a l (own q e .0) (own q e .1)) (λ q lo hi. and-no-right (leaves hs s2 a q) (f q lo (omega arith))) where
-            own : (q : ℕ) → answer hs u s2 a s3 q ≡ true → (from hs q ≡ s2) × (label hs q ≡ a)
+            own : (q : ℕ) → answer hs (closing u) s2 a s3 q ≡ true → (from hs q ≡ s2) × (label hs q ≡ a)
             own q e =
                 let d = and-left (leaves hs s2 a q) _ e in
                 (eqb-true _ _ (and-left (eqb (from hs q) s2) _ d), eqb-true _ _ (and-right (eqb (from hs q) s2) _ d))
 
-      pub answers-still : a ≡ 0 → closing u s3 s2 ≡ answers hs u s2 a s3
+      pub answers-still : a ≡ 0 → closing u s3 s2 ≡ answers hs (closing u) s2 a s3
       unfolding answers
       answers-still z = rw (eq-eqb _ _ z, none-answers) (sym (or-false (closing u s3 s2)))
 
-      pub answers-no : (a ≡ 0 → ⊥) → false ≡ answers hs u s2 a s3
+      pub answers-no : (a ≡ 0 → ⊥) → false ≡ answers hs (closing u) s2 a s3
       unfolding answers
       answers-no n = rw (ne-eqb _ _ n, none-answers)
 
 -- the answer for the hop at place i, from that for its label a and its end s3
-pub answered-at : (hs : List ℕ) (u : Pairs) (s2 i : ℕ) {a s3 : ℕ} {v : Bool} → a ≡ label hs i → s3 ≡ to hs i → v ≡ answers hs u s2 a s3 → v ≡ answered hs u s2 i
+pub answered-at : (hs : List ℕ) (u : Pairs) (s2 i : ℕ) {a s3 : ℕ} {v : Bool} → a ≡ label hs i → s3 ≡ to hs i → v ≡ answers hs (closing u) s2 a s3 → v ≡ answered hs u s2 i
 unfolding answered
 answered-at hs u s2 i p q h = h ∙ rw (p, q)
 

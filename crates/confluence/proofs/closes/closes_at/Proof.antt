@@ -9,7 +9,7 @@ use borrow.Author.Count.{below-more}
 use borrow.Author.Tests.{not-true, not-false}
 use Rattle.graph.specs.Hops.{from, label, to}
 use Rattle.graph.specs.Check.{most-states}
-use Rattle.confluence.specs.Rounds.{tried}
+use Rattle.confluence.specs.Rounds.{closing, answers, tried}
 use Rattle.confluence.specs.Held.{heldBy, Skipped}
 use Rattle.confluence.proofs.Closing.{tried-own}
 use Rattle.starts.proofs.Firsts.{start-is}
@@ -19,7 +19,7 @@ use Rattle.confluence.proofs.closes.closes_at.Tie as tie
 
 abbrev Inv-loop : tie.InvT-loop
 Inv-loop hops starts marks i s1 s2 t2 end past at₀ j₀ at j =
-    Walk hops (from hops i) (to hops i) end past at j × ((k : ℕ) → k < j → tried hops (heldBy hops marks) (from hops i) (to hops i) k ≡ true)
+    Walk hops (from hops i) (to hops i) end past at j × ((k : ℕ) → k < j → tried hops (answers hops (closing (heldBy hops marks))) (from hops i) (to hops i) k ≡ true)
 
 abbrev μ-loop : tie.MeasureT-loop
 μ-loop hops starts marks i s1 s2 t2 end past at₀ j₀ at j = end - j
