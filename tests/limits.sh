@@ -7,7 +7,7 @@ archive=target/staticlib/libcapi.a
 work=$(mktemp -d)
 trap 'rm -rf "$work"' EXIT
 
-if [ ! -e "$archive" ] || [ -n "$(find crates crates.txt -newer "$archive" -type f -print -quit)" ]; then rt staticlib capi; fi
+tests/archive
 
 strict=(-O2 -Wall -Wextra -Werror -pedantic -I include)
 gcc -std=c99 "${strict[@]}" tests/limits.c "$archive" -o "$work/c"

@@ -11,7 +11,7 @@ promised=512
 work=$(mktemp -d)
 trap 'rm -rf "$work"' EXIT
 
-if [ ! -e "$archive" ] || [ -n "$(find crates crates.txt -newer "$archive" -type f -print -quit)" ]; then rt staticlib capi; fi
+tests/archive
 [ -x "$program" ] || rt check zundrafipo >/dev/null
 
 # bound when it starts, so that no entry's stack has the loader's on it
