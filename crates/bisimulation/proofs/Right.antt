@@ -47,6 +47,8 @@ module _ {sh : Shape} {hs : List ℕ} (red : Reducible sh hs) where
       (sym (audited-answer sh (shortShape sh hs) hs (flat (shortHops sh hs)) (mapList sh hs) reduced-audited)) refl (sym reduced-zero))
 
   -- so the map is one of Definition 2.4
-  pub reduce-bisimulation : BranchingBisimulation hs (flat (shortHops sh hs)) (MapRelation sh (mapList sh hs)) × JoinsInitial sh (shortShape sh hs) (MapRelation sh (mapList sh hs))
+  pub reduce-bisimulation :
+      BranchingBisimulation sh (shortShape sh hs) hs (flat (shortHops sh hs)) (MapRelation sh (mapList sh hs)) ×
+      JoinsInitial sh (shortShape sh hs) (MapRelation sh (mapList sh hs))
   reduce-bisimulation =
       zero-means sh (shortShape sh hs) hs (flat (shortHops sh hs)) (mapList sh hs) (reduced-audited .first) (reduced-audited .second) (reduced-audited .map) .0 reduced-zero
