@@ -1,5 +1,3 @@
 pub mod Meaning
 pub mod Bound
 pub mod Answering
-pub mod Right
-pub mod Fronts
