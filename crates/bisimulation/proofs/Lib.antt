@@ -1,3 +1,4 @@
 pub mod Meaning
+pub mod Relations
 pub mod Bound
 pub mod Answering
