@@ -1,5 +1,4 @@
 pub mod Meaning
+pub mod Relations
 pub mod Bound
 pub mod Answering
-pub mod Right
-pub mod Fronts

@@ -157,8 +157,9 @@ module _ (sh1 sh2 : Shape) (h1 h2 m : List ℕ) (ranged : InRange sh1 h1) where
         third : (j s : ℕ) → j < count h2 → s < sh1 .states → madeUp sh1 h1 h2 m j s ≡ false
         third j s l k = matched-unmade j s (λ e. says-matched j s e (f .back s (label h2 j) (to h2 j) k (rw e (has-at h2 l))))
 
-  faultless-bisimulation : Faultless sh1 sh2 h1 h2 m → BranchingBisimulation h1 h2 (MapRelation sh1 m)
-  faultless-bisimulation f = record {
+  faultless-bisimulation : AdmittedMap sh1 sh2 m → Faultless sh1 sh2 h1 h2 m → BranchingBisimulation sh1 sh2 h1 h2 (MapRelation sh1 m)
+  faultless-bisimulation fit f = record {
+    pairs = λ s r b. (b .0, rw (b .1) at (fit .entries-in s (b .0)));
     there = λ s r b a t h. there s r b a t h (f .fore s a t h);
     back = λ s r b a q h. again s r b a q (f .back s a q (b .0) (rw (b .1) h));
   }
@@ -174,7 +175,7 @@ module _ (sh1 sh2 : Shape) (h1 h2 m : List ℕ) (ranged : InRange sh1 h1) where
       again s r (l, e) a q (inl (z, d)) = inl (z, (l, d))
       again s r (l, e) a q (inr (u, t, su, d, h, x)) = inr (u, t, su, h, (hop-from ranged u a t h, d ∙ e), (hop-to ranged u a t h, x))
 
-  bisimulation-faultless : BranchingBisimulation h1 h2 (MapRelation sh1 m) × JoinsInitial sh1 sh2 (MapRelation sh1 m) → Faultless sh1 sh2 h1 h2 m
+  bisimulation-faultless : BranchingBisimulation sh1 sh2 h1 h2 (MapRelation sh1 m) × JoinsInitial sh1 sh2 (MapRelation sh1 m) → Faultless sh1 sh2 h1 h2 m
   bisimulation-faultless (b, i) = record {
     joins = i .1;
     fore = λ s a t h. ahead s a t (b .there s (mapped m s) (hop-from ranged s a t h, refl) a t h);
@@ -197,9 +198,9 @@ module _ (sh1 sh2 : Shape) (h1 h2 m : List ℕ) (ranged : InRange sh1 h1) where
 
 -- the audit's count is 0 exactly when the map is a branching bisimulation that joins the initial states
 pub zero-means : (sh1 sh2 : Shape) (h1 h2 m : List ℕ) → Admitted sh1 h1 → Admitted sh2 h2 → AdmittedMap sh1 sh2 m →
-    (faultsOf sh1 sh2 h1 h2 m ≡ 0) ↔ (BranchingBisimulation h1 h2 (MapRelation sh1 m) × JoinsInitial sh1 sh2 (MapRelation sh1 m))
+    (faultsOf sh1 sh2 h1 h2 m ≡ 0) ↔ (BranchingBisimulation sh1 sh2 h1 h2 (MapRelation sh1 m) × JoinsInitial sh1 sh2 (MapRelation sh1 m))
 zero-means sh1 sh2 h1 h2 m a1 a2 fit = (
-  λ z. (let f = zero-faultless sh1 sh2 h1 h2 m (a1 .range) z in (faultless-bisimulation sh1 sh2 h1 h2 m (a1 .range) f, (a1 .initial-in, f .joins))),
+  λ z. (let f = zero-faultless sh1 sh2 h1 h2 m (a1 .range) z in (faultless-bisimulation sh1 sh2 h1 h2 m (a1 .range) fit f, (a1 .initial-in, f .joins))),
   λ b. faultless-zero sh1 sh2 h1 h2 m (a1 .range) (bisimulation-faultless sh1 sh2 h1 h2 m (a1 .range) b),
 )
 

@@ -1,3 +1,2 @@
 pub mod Bisimulation
 pub mod Auditing
-pub mod Together

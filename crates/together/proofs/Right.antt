@@ -4,7 +4,6 @@ use Prim.Native.Nat.{ℕ, _<_}
 use mathlib.Core.Path.{_≡_, refl, sym}
 use mathlib.Core.List.{List}
 use Rattle.graph.specs.Hops.{flat}
-use Rattle.graph.specs.Check.{accepted}
 use Rattle.graph.specs.declared.Shape.{Shape}
 use Rattle.graph.proofs.Tests.{length-listed, getD-listed}
 use Rattle.representatives.specs.Representative.{mapOf}
@@ -12,11 +11,11 @@ use Rattle.representatives.specs.Tables.{Reducible}
 use Rattle.short.specs.Short.{shortHops, shortShape, mapList}
 use Rattle.short.proofs.Reduced.{map-inside, short-admitted, short-reduces}
 use Rattle.faults.specs.Faults.{mapped, faultsOf}
 use Rattle.bisimulation.specs.Bisimulation.{BranchingBisimulation, MapRelation, JoinsInitial}
 use Rattle.bisimulation.specs.Auditing.{auditOf}
-use Rattle.bisimulation.specs.declared.Audit.{Audit}
 use Rattle.bisimulation.proofs.Meaning.{zero-means, reduces-zero}
 use Rattle.bisimulation.proofs.Answering.{Audited, audited-answer, audit-counts}
+use Rattle.together.specs.Together.{faultless}
 
 module _ {sh : Shape} {hs : List ℕ} (red : Reducible sh hs) where
   list-maps : (s : ℕ) → s < sh .states → mapped (mapList sh hs) s ≡ mapOf sh hs s
@@ -41,12 +40,14 @@ module _ {sh : Shape} {hs : List ℕ} (red : Reducible sh hs) where
         joins = list-maps (sh .initial) (red .admitted .initial-in)
 
   -- the audit accepts what `reduce` makes, and finds no fault
-  pub reduce-right : _≡_ {A = Audit} (auditOf sh (shortShape sh hs) hs (flat (shortHops sh hs)) (mapList sh hs)) (record { answer = accepted; faults = 0 })
+  pub reduce-right : auditOf sh (shortShape sh hs) hs (flat (shortHops sh hs)) (mapList sh hs) ≡ faultless
   reduce-right =
       sym (audit-counts sh (shortShape sh hs) hs (flat (shortHops sh hs)) (mapList sh hs)
       (sym (audited-answer sh (shortShape sh hs) hs (flat (shortHops sh hs)) (mapList sh hs) reduced-audited)) refl (sym reduced-zero))
 
   -- so the map is one of Definition 2.4
-  pub reduce-bisimulation : BranchingBisimulation hs (flat (shortHops sh hs)) (MapRelation sh (mapList sh hs)) × JoinsInitial sh (shortShape sh hs) (MapRelation sh (mapList sh hs))
+  pub reduce-bisimulation :
+      BranchingBisimulation sh (shortShape sh hs) hs (flat (shortHops sh hs)) (MapRelation sh (mapList sh hs)) ×
+      JoinsInitial sh (shortShape sh hs) (MapRelation sh (mapList sh hs))
   reduce-bisimulation =
       zero-means sh (shortShape sh hs) hs (flat (shortHops sh hs)) (mapList sh hs) (reduced-audited .first) (reduced-audited .second) (reduced-audited .map) .0 reduced-zero

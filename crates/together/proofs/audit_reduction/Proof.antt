@@ -1,10 +1,12 @@
--- `bisimulation::together::audit_reduction` meets its contract: the two parts are the fronts. Assumes nothing.
+-- `together::audit_reduction` meets its contract: the reduction was accepted, and the two parts are the fronts. Assumes nothing.
 use borrow.Author.Needs.{needs}
 use Prim.Native.Nat.{_-_}
 use mathlib.Core.Path.{_≡_}
 use native.Mathlib.Omega.{arith}
-use Rattle.bisimulation.proofs.together.audit_reduction.Statement.{statement}
-use Rattle.bisimulation.proofs.together.audit_reduction.Tie as tie
+use borrow.Author.Tests.{eq-eqb}
+use Rattle.together.specs.Together.{auditLeft}
+use Rattle.together.proofs.audit_reduction.Statement.{statement}
+use Rattle.together.proofs.audit_reduction.Tie as tie
 
 cast-states : tie.Need-cast-states
 cast-states c = search needs
@@ -25,9 +27,10 @@ audit-requires : tie.Need-audit-requires
 audit-requires c κs = search needs
 
 returns : tie.Need-returns
+unfolding auditLeft
 returns c = let s = c .before .before .before .before .before .before .before .before in
     let e : s .args .shape .states - 0 ≡ s .args .shape .states = omega arith in
-    rw (c .before .before .part .ensures .0, e) at (c .audit .ensures)
+    rw (eq-eqb _ 0 (s .pre .0)) (rw (c .before .before .part .ensures .0, e) at (c .audit .ensures))
 
 pub audit-reduction-spec : {M : Type 1} → statement M
 audit-reduction-spec =

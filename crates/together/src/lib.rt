@@ -1,20 +1,24 @@
 // Reduce and audit together: demand 3 as one function, whose contract says that the audit of what an accepted `reduce` left finds no fault.
-use super::Audit;
-use super::AuditedReduction;
-use super::auditing::audit;
+use bisimulation::Audit;
+use bisimulation::auditing::audit;
 use graph::Shape;
 use graph::hops::part;
 use quotient::Reduction;
 use quotient::entry::reduce;
 ghost use mathlib.Core.Path.{_≡_};
 ghost use Prim.Native.Nat.{_≤_};
-ghost use lib.ListN.{length, take};
-ghost use Rattle.graph.specs.Hops.{count, between};
-ghost use Rattle.quotient.specs.Reduce.{mapOutput, shortOutput};
-ghost use Rattle.bisimulation.specs.Auditing.{auditOf};
-ghost use Rattle.bisimulation.specs.Together.{togetherOf};
+ghost use lib.ListN.{length};
+ghost use Rattle.graph.specs.Hops.{count};
+ghost use Rattle.quotient.specs.Reduce.{reduceOf, mapOutput, shortOutput};
+ghost use Rattle.together.specs.Together.{auditLeft, faultless};
 
-// The audit of the given graph with the front of the map and the front of the short hops.
+// What reducing and then auditing returns: the results of both.
+pub struct AuditedReduction {
+    pub reduction: Reduction,
+    pub audit: Audit,
+}
+
+// The audit of the given graph with the front of the map and the front of the short hops, which are there.
 fn audit_reduction(
     shape: Shape,
     hops: &[u16],
@@ -22,8 +26,8 @@ fn audit_reduction(
     map: &[u16],
     short: &[u16],
 ) -> Audit
-    requires { ⌜ shape .states ≤ length (now map) ⌝ ∗ ⌜ reduction .hops ≤ count (now short) ⌝ }
-    ensures { λ r. ⌜ r ≡ auditOf shape (reduction .shape) (now (hops .entry)) (between (now (short .entry)) 0 (reduction .hops)) (take (shape .states) (now (map .entry))) ⌝ }
+    requires { ⌜ reduction .answer .number ≡ 0 ⌝ ∗ ⌜ shape .states ≤ length (now map) ⌝ ∗ ⌜ reduction .hops ≤ count (now short) ⌝ }
+    ensures { λ r. ⌜ r ≡ auditLeft shape (now (hops .entry)) reduction (now (map .entry)) (now (short .entry)) ⌝ }
 {
     let states = shape.states as usize;
     let short_shape = reduction.shape;
@@ -38,7 +42,9 @@ pub fn reduce_and_audit(
     map: &mut [u16],
     short: &mut [u16],
 ) -> AuditedReduction
-    ensures returned { λ r. ⌜ r ≡ togetherOf shape (now (hops .entry)) (length (now (map .entry))) (length (now (short .entry))) ⌝ }
+    ensures reduced { λ r. ⌜ r .reduction ≡ reduceOf shape (now (hops .entry)) (length (now (map .entry))) (length (now (short .entry))) ⌝ }
+    ensures audited { λ r. ⌜ r .audit ≡ auditLeft shape (now (hops .entry)) (r .reduction) (now (map .exit)) (now (short .exit)) ⌝ }
+    ensures right { λ r. ⌜ (r .reduction .answer .number ≡ 0 → r .audit ≡ faultless) ⌝ }
     ensures mapped { λ r. ⌜ now (map .exit) ≡ mapOutput shape (now (hops .entry)) (now (map .entry)) (now (short .entry)) ⌝ }
     ensures shortened { λ r. ⌜ now (short .exit) ≡ shortOutput shape (now (hops .entry)) (now (map .entry)) (now (short .entry)) ⌝ }
 {

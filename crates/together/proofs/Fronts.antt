@@ -1,0 +1,78 @@
+-- Demand 3 over the outputs themselves. The fronts of the two outputs of an accepted `reduce` are the map and the short hops, whatever the outputs
+-- held before, so the audit of them is that of `reduce-right`. Assumes nothing.
+use Prim.Native.Nat.{ℕ, _-_, _*_, _≤_}
+use mathlib.Core.Path.{_≡_, refl, _∙_}
+use mathlib.Core.Bool.{Bool, true, false, cond}
+use mathlib.Core.List.{List}
+use native.Mathlib.Omega.{arith}
+use lib.ListN.{length, take}
+use lib.Seq.{take-at}
+use lib.Dec.{eqb}
+use Rattle.graph.specs.Hops.{count, flat, between}
+use Rattle.graph.specs.Check.{accepted}
+use Rattle.graph.specs.declared.Shape.{Shape}
+use Rattle.graph.specs.declared.Answer.{Answer}
+use Rattle.graph.proofs.Tests.{length-listed}
+use Rattle.graph.proofs.Places.{length-flat}
+use Rattle.representatives.specs.Representative.{mapOf}
+use Rattle.short.specs.Short.{shortHops, shortShape, mapList}
+use Rattle.short.proofs.Images.{short-within}
+use Rattle.quotient.specs.Reduce.{noShape, reduceAnswer, reduction, reduceOf, mapOutput, shortOutput}
+use Rattle.quotient.specs.declared.Reduction.{Reduction}
+use Rattle.quotient.proofs.Answering.{reduce-reducible, reduce-map-room, reduce-short-room, accepted-returns, accepted-map, accepted-short}
+use Rattle.bisimulation.specs.declared.Audit.{Audit}
+use Rattle.together.specs.Together.{auditLeft, faultless}
+use Rattle.together.proofs.Right.{reduce-right}
+
+module _ (sh : Shape) (hs map short : List ℕ) where
+  abbrev answer : Answer
+  answer = reduceAnswer sh hs (length map) (length short)
+
+  answers : reduceOf sh hs (length map) (length short) .answer ≡ answer
+  unfolding reduceOf
+  answers = go (eqb (answer .number) 0) where
+    go : (x : Bool) →
+        cond {A = Reduction} x (record { answer = answer; shape = shortShape sh hs; hops = length (shortHops sh hs) })
+        (record { answer = answer; shape = noShape; hops = 0 }) .answer ≡ answer
+    go true = refl
+    go false = refl
+
+  module _ (z : reduceOf sh hs (length map) (length short) .answer .number ≡ 0) where
+    zero : answer .number ≡ 0
+    zero = rw answers at z
+
+    figures : reduction sh hs accepted ≡ reduceOf sh hs (length map) (length short)
+    figures = accepted-returns sh hs map short refl zero
+
+    front-map : take (sh .states) (mapOutput sh hs map short) ≡ mapList sh hs
+    unfolding mapList
+    front-map = rw (← accepted-map sh hs map short refl zero) (take-at (mapList sh hs) _ (sh .states) (length-listed (mapOf sh hs) (sh .states)))
+
+    front-short : between (shortOutput sh hs map short) 0 (length (shortHops sh hs)) ≡ flat (shortHops sh hs)
+    front-short =
+        rw (← accepted-short sh hs map short refl zero)
+        (take-at (flat (shortHops sh hs)) _ (3 * length (shortHops sh hs) - 3 * 0) (omega (arith, length-flat (shortHops sh hs))))
+
+    -- demand 3: the audit of what an accepted `reduce` left, whatever the outputs held before, accepts and finds no fault
+    pub left-right : auditLeft sh hs (reduceOf sh hs (length map) (length short)) (mapOutput sh hs map short) (shortOutput sh hs map short) ≡ faultless
+    unfolding auditLeft
+    left-right = rw (← figures, front-map, front-short) (reduce-right (reduce-reducible sh hs (length map) (length short) zero))
+
+  -- what the code has in hand: the reduction that was returned, accepted
+  module _ {red : Reduction} (e : red ≡ reduceOf sh hs (length map) (length short)) (z : red .answer .number ≡ 0) where
+    accepts : reduceOf sh hs (length map) (length short) .answer .number ≡ 0
+    accepts = rw e at z
+
+    -- both fronts are there
+    pub map-there : sh .states ≤ length map
+    map-there = reduce-map-room sh hs (length map) (length short) (zero accepts)
+
+    pub short-there : red .hops ≤ count short
+    short-there =
+        let few : length (shortHops sh hs) ≤ count hs = short-within sh hs in
+        let room : length hs ≤ length short = reduce-short-room sh hs (length map) (length short) (zero accepts) in
+        rw (e, ← figures accepts) (omega arith)
+
+    pub left-faultless : {x : Audit} {map-after short-after : List ℕ} → x ≡ auditLeft sh hs red map-after short-after →
+        map-after ≡ mapOutput sh hs map short → short-after ≡ shortOutput sh hs map short → x ≡ faultless
+    left-faultless a p q = (rw (e, p, q) at a) ∙ left-right accepts
