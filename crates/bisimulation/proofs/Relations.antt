@@ -7,7 +7,7 @@ use mathlib.Core.Logic.{_⊎_, inl, inr, _↔_}
 use Rattle.graph.specs.declared.Shape.{Shape}
 use Rattle.lts.specs.Branching.{Answers, Branching}
 use Rattle.silent.specs.Silent.{HopOf, Leads}
-use Rattle.bisimulation.specs.Bisimulation.{Pairs, BranchingBisimulation}
+use Rattle.bisimulation.specs.Bisimulation.{StatePairs, BranchingBisimulation}
 
 -- a step that answers, as document 01 names its parts and as the theory does
 module _ (hs : List ℕ) (R : ℕ → ℕ → Type 0) (s n a t : ℕ) where
@@ -23,7 +23,7 @@ module _ (hs : List ℕ) (R : ℕ → ℕ → Type 0) (s n a t : ℕ) where
   answers-step (inr (u, q, nu, x, h, y)) = inr (u, q, nu, h, x, y)
 
 pub branching-iff : (sh1 sh2 : Shape) (h1 h2 : List ℕ) (B : ℕ → ℕ → Type 0) →
-    BranchingBisimulation sh1 sh2 h1 h2 B ↔ (Pairs sh1 sh2 B × Branching (HopOf h1) (HopOf h2) B)
+    BranchingBisimulation sh1 sh2 h1 h2 B ↔ (StatePairs sh1 sh2 B × Branching (HopOf h1) (HopOf h2) B)
 branching-iff sh1 sh2 h1 h2 B = (
   λ b. (
     b .pairs,

@@ -9,12 +9,12 @@ use Rattle.silent.specs.Silent.{HopOf, Leads}
 use Rattle.faults.specs.Faults.{mapped}
 
 -- "Let B be any set of pairs, each a state of graph 1 with a state of graph 2."
-abbrev pub Pairs : Shape → Shape → (ℕ → ℕ → Type 0) → Type 0
-Pairs sh1 sh2 B = (s r : ℕ) → B s r → (s < sh1 .states) × (r < sh2 .states)
+abbrev pub StatePairs : Shape → Shape → (ℕ → ℕ → Type 0) → Type 0
+StatePairs sh1 sh2 B = (s r : ℕ) → B s r → (s < sh1 .states) × (r < sh2 .states)
 
 -- "B is a branching bisimulation when for each pair s, r in B .."
 pub record BranchingBisimulation (sh1 sh2 : Shape) (h1 h2 : List ℕ) (B : ℕ → ℕ → Type 0) : Type 0 where
-  pub pairs : Pairs sh1 sh2 B
+  pub pairs : StatePairs sh1 sh2 B
   -- "for each hop s, a, t of graph 1, a is silent and t, r is in B, or r leads by zero or more silent hops of graph 2 to some u that has a hop
   -- labelled a to some v, with s, u and t, v both in B"
   pub there :
