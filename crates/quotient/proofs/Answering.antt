@@ -29,7 +29,7 @@ module _ (sh : Shape) (hs : List ℕ) (m k : ℕ) where
   -- the ways out of the code, in order
   pub answer-checked : {c : Answer} → c ≡ checkOf sh hs → (c .number ≡ 0 → ⊥) → c ≡ reduceAnswer sh hs m k
   unfolding reduceAnswer
-  answer-checked e n = e ∙ sym (then-first (checkOf sh hs) (andThen (ringless sh hs) room) (rw e at n))
+  answer-checked e n = e ∙ sym (then-first (checkOf sh hs) _ (rw e at n))
 
   module _ {c : Answer} (e : c ≡ checkOf sh hs) (z : c .number ≡ 0) where
     rest : andThen (ringless sh hs) room ≡ reduceAnswer sh hs m k

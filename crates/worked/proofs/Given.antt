@@ -9,7 +9,7 @@ use Rattle.confluence.specs.Rounds.{survives, marked, closes, tried, answered, 
 use Rattle.marks.specs.Mark.{marksOf, markOf, markAnswer}
 use Rattle.representatives.specs.Representative.{markedFrom, resting, onward, followed, repOf, newOf, mapOf}
 use Rattle.short.specs.Short.{insert, gathered, shortHops, shortShape, mapList}
-use Rattle.quotient.specs.Reduce.{reduceAnswer}
+use Rattle.quotient.specs.Reduce.{reduceAnswer, reduceOf}
 use Rattle.faults.specs.Faults.{initialFault, kept, lostFaults, offers, backed, matched, madeUp, madeUpFaults, faultsOf}
 use Rattle.bisimulation.specs.Auditing.{firstHigh, mapFits, auditAnswer, auditOf}
 use Rattle.worked.specs.Table.{tableOf, table, outcomeOf, fallsIn}
@@ -18,5 +18,5 @@ pub given : tableOf table ≡ table
 unfolding
     all any least listed tally total flat is has before checkOf countsFit inside firstOutside rises firstFalling leads silentFrom onRing lowestOnRing ringless
     survives marked closes tried answered answers answer leaves closing marksOf markOf markAnswer markedFrom resting onward followed repOf newOf mapOf
-    insert gathered shortHops shortShape mapList initialFault kept lostFaults offers backed matched madeUp madeUpFaults faultsOf reduceAnswer firstHigh mapFits auditAnswer auditOf outcomeOf fallsIn
+    insert gathered shortHops shortShape mapList initialFault kept lostFaults offers backed matched madeUp madeUpFaults faultsOf reduceAnswer reduceOf firstHigh mapFits auditAnswer auditOf outcomeOf fallsIn
 given = refl

@@ -1,4 +1,5 @@
--- "Graphs worked by hand": P1 to P10 as one table, and what the definitions give for the same graphs. Assumes nothing: these are definitions.
+-- "Graphs worked by hand": P1 to P10 as one table, and what the definitions give for the same graphs. Two rows are ours, and say so. Assumes nothing:
+-- these are definitions.
 use Prim.Native.Nat.{ℕ}
 use mathlib.Core.Bool.{cond, not, _&&_}
 use mathlib.Core.List.{List, [], _∷_, map}
@@ -12,27 +13,30 @@ use Rattle.graph.specs.declared.Shape.{Shape}
 use Rattle.graph.specs.declared.Answer.{Answer}
 use Rattle.confluence.specs.Rounds.{survives}
 use Rattle.marks.specs.Mark.{marksOf, markAnswer}
-use Rattle.short.specs.Short.{mapList, shortHops, shortShape}
-use Rattle.quotient.specs.Reduce.{reduceAnswer}
+use Rattle.short.specs.Short.{mapList, shortHops}
+use Rattle.quotient.specs.Reduce.{reduceOf}
+use Rattle.quotient.specs.declared.Reduction.{Reduction}
 use Rattle.bisimulation.specs.Auditing.{auditOf}
 use Rattle.bisimulation.specs.declared.Audit.{Audit}
 
--- a hop as document 01 writes it, and a shape with initial state 0
+-- a hop as document 01 writes it; a state count, a label count and an initial state, and the same with initial state 0
 abbrev pub hop : ℕ → ℕ → ℕ → Hop
 hop s a t = record { from = s; label = a; to = t }
 
-abbrev pub shape : ℕ → ℕ → Shape
-shape n l = record { states = n; labels = l; initial = 0 }
+abbrev pub shapeFrom : ℕ → ℕ → ℕ → Shape
+shapeFrom n l i = record { states = n; labels = l; initial = i }
 
--- what is said of a graph: the answers of `mark` and of `reduce` to outputs that are long enough, the marks, for each hop the round in which it falls
--- (0: it is visible, or survives every round), the map, the short graph's state count and its hops
+abbrev pub shape : ℕ → ℕ → Shape
+shape n l = shapeFrom n l 0
+
+-- what is said of a graph: what `mark` and `reduce` return for outputs that are long enough ("Reduce .. returns the short graph's state, label and hop
+-- counts and initial state"), the marks, for each hop the round in which it falls (0: it is visible, or survives every round), the map and the short hops
 pub record Outcome : Type 0 where
   pub answer : Answer
-  pub reduced : Answer
+  pub reduced : Reduction
   pub marks : List ℕ
   pub falls : List ℕ
   pub map : List ℕ
-  pub states : ℕ
   pub short : List Hop
 
 -- what is said of an audit: graph 1, graph 2, the map, and what the audit returns
@@ -60,21 +64,20 @@ fallsIn hs i =
     (least (count hs) (λ (k : ℕ). not (survives hs k (from hs i) (to hs i)))) 0
 
 abbrev pub refusedWith : Answer → Outcome
-refusedWith a = record { answer = a; reduced = a; marks = []; falls = []; map = []; states = 0; short = [] }
+refusedWith a = record { answer = a; reduced = record { answer = a; shape = shape 0 0; hops = 0 }; marks = []; falls = []; map = []; short = [] }
 
 unfoldable pub outcomeOf : Shape → List ℕ → Outcome
 outcomeOf sh hs =
     cond (eqb (markAnswer sh hs hs .number) 0)
     (record {
       answer = markAnswer sh hs hs;
-      reduced = reduceAnswer sh hs (sh .states) (length hs);
+      reduced = reduceOf sh hs (sh .states) (length hs);
       marks = marksOf hs;
       falls = listed (count hs) (fallsIn hs);
       map = mapList sh hs;
-      states = shortShape sh hs .states;
       short = shortHops sh hs;
     })
-    (record { answer = markAnswer sh hs hs; reduced = reduceAnswer sh hs (sh .states) (length hs); marks = []; falls = []; map = []; states = 0; short = [] })
+    (record { answer = markAnswer sh hs hs; reduced = reduceOf sh hs (sh .states) (length hs); marks = []; falls = []; map = []; short = [] })
 
 abbrev pub entryOf : Entry → Entry
 entryOf e = record { graph = e .graph; hops = e .hops; outcome = outcomeOf (e .graph) (flat (e .hops)) }
@@ -120,8 +123,16 @@ p8 = hop 0 0 1 ∷ hop 1 0 2 ∷ hop 2 0 1 ∷ []
 abbrev p10 : List Hop
 p10 = hop 0 0 1 ∷ hop 0 1 2 ∷ hop 1 1 3 ∷ hop 2 0 3 ∷ hop 2 2 4 ∷ []
 
-abbrev accepts : List ℕ → List ℕ → List ℕ → ℕ → List Hop → Outcome
-accepts m f t n s = record { answer = accepted; reduced = accepted; marks = m; falls = f; map = t; states = n; short = s }
+-- the marks, the falls, the map, the short graph's shape, its hop count and its hops
+abbrev accepts : List ℕ → List ℕ → List ℕ → Shape → ℕ → List Hop → Outcome
+accepts m f t sh n s = record {
+  answer = accepted;
+  reduced = record { answer = accepted; shape = sh; hops = n };
+  marks = m;
+  falls = f;
+  map = t;
+  short = s;
+}
 
 abbrev finds : ℕ → Audit
 finds n = record { answer = accepted; faults = n }
@@ -133,40 +144,46 @@ table = record {
       record {
         graph = shape 4 2;
         hops = p1;
-        outcome = accepts (1 ∷ 0 ∷ 0 ∷ 1 ∷ []) (0 ∷ 0 ∷ 0 ∷ 0 ∷ []) (0 ∷ 0 ∷ 1 ∷ 1 ∷ []) 2 (hop 0 1 1 ∷ []);
+        outcome = accepts (1 ∷ 0 ∷ 0 ∷ 1 ∷ []) (0 ∷ 0 ∷ 0 ∷ 0 ∷ []) (0 ∷ 0 ∷ 1 ∷ 1 ∷ []) (shape 2 2) 1 (hop 0 1 1 ∷ []);
       } ∷
       record {
         graph = shape 4 2;
         hops = p2;
-        outcome = accepts (0 ∷ 0 ∷ 0 ∷ []) (1 ∷ 0 ∷ 0 ∷ []) (0 ∷ 1 ∷ 2 ∷ 3 ∷ []) 4 p2;
+        outcome = accepts (0 ∷ 0 ∷ 0 ∷ []) (1 ∷ 0 ∷ 0 ∷ []) (0 ∷ 1 ∷ 2 ∷ 3 ∷ []) (shape 4 2) 3 p2;
       } ∷
       record {
         graph = shape 3 1;
         hops = p3;
-        outcome = accepts (0 ∷ 0 ∷ []) (1 ∷ 1 ∷ []) (0 ∷ 1 ∷ 2 ∷ []) 3 p3;
+        outcome = accepts (0 ∷ 0 ∷ []) (1 ∷ 1 ∷ []) (0 ∷ 1 ∷ 2 ∷ []) (shape 3 1) 2 p3;
       } ∷
       record {
         graph = shape 3 1;
         hops = p4;
-        outcome = accepts (1 ∷ 1 ∷ 1 ∷ []) (0 ∷ 0 ∷ 0 ∷ []) (0 ∷ 0 ∷ 0 ∷ []) 1 [];
+        outcome = accepts (1 ∷ 1 ∷ 1 ∷ []) (0 ∷ 0 ∷ 0 ∷ []) (0 ∷ 0 ∷ 0 ∷ []) (shape 1 1) 0 [];
       } ∷
       record {
         graph = shape 5 2;
         hops = p5;
         outcome =
-            accepts (1 ∷ 0 ∷ 0 ∷ 0 ∷ 1 ∷ []) (0 ∷ 2 ∷ 1 ∷ 0 ∷ 0 ∷ []) (0 ∷ 0 ∷ 1 ∷ 1 ∷ 2 ∷ []) 3 (hop 0 0 1 ∷ hop 0 1 2 ∷ []);
+            accepts (1 ∷ 0 ∷ 0 ∷ 0 ∷ 1 ∷ []) (0 ∷ 2 ∷ 1 ∷ 0 ∷ 0 ∷ []) (0 ∷ 0 ∷ 1 ∷ 1 ∷ 2 ∷ []) (shape 3 2) 2 (hop 0 0 1 ∷ hop 0 1 2 ∷ []);
       } ∷
       record {
         graph = shape 2 2;
         hops = p6;
-        outcome = accepts (1 ∷ 0 ∷ 0 ∷ []) (0 ∷ 0 ∷ 0 ∷ []) (0 ∷ 0 ∷ []) 1 (hop 0 1 0 ∷ []);
+        outcome = accepts (1 ∷ 0 ∷ 0 ∷ []) (0 ∷ 0 ∷ 0 ∷ []) (0 ∷ 0 ∷ []) (shape 1 2) 1 (hop 0 1 0 ∷ []);
       } ∷
       record { graph = shape 1 1; hops = p7; outcome = refusedWith (refused 5 0) } ∷
       record { graph = shape 3 1; hops = p8; outcome = refusedWith (refused 5 1) } ∷
       record {
         graph = shape 5 3;
         hops = p10;
-        outcome = accepts (0 ∷ 0 ∷ 0 ∷ 0 ∷ 0 ∷ []) (2 ∷ 0 ∷ 0 ∷ 1 ∷ 0 ∷ []) (0 ∷ 1 ∷ 2 ∷ 3 ∷ 4 ∷ []) 5 p10;
+        outcome = accepts (0 ∷ 0 ∷ 0 ∷ 0 ∷ 0 ∷ []) (2 ∷ 0 ∷ 0 ∷ 1 ∷ 0 ∷ []) (0 ∷ 1 ∷ 2 ∷ 3 ∷ 4 ∷ []) (shape 5 3) 5 p10;
+      } ∷
+      -- ours: P1 begun in state 2, whose representative is state 3, of new number 1 ("Its initial state is the map of the old one")
+      record {
+        graph = shapeFrom 4 2 2;
+        hops = p1;
+        outcome = accepts (1 ∷ 0 ∷ 0 ∷ 1 ∷ []) (0 ∷ 0 ∷ 0 ∷ 0 ∷ []) (0 ∷ 0 ∷ 1 ∷ 1 ∷ []) (shapeFrom 2 2 1) 1 (hop 0 1 1 ∷ []);
       } ∷
       [];
   -- P9: P1 with its result; with the short hop taken out; with (1,1,1) added to the short graph
@@ -181,5 +198,7 @@ table = record {
         map = 0 ∷ 0 ∷ 1 ∷ 1 ∷ [];
         audit = finds 2;
       } ∷
+      -- ours: the same begun in state 2, with a short graph that begins in its state 0 and not in 1, the map of 2
+      record { shape1 = shapeFrom 4 2 2; hops1 = p1; shape2 = shape 2 2; hops2 = hop 0 1 1 ∷ []; map = 0 ∷ 0 ∷ 1 ∷ 1 ∷ []; audit = finds 1 } ∷
       [];
 }
