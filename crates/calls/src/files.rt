@@ -1,0 +1,145 @@
+// `copy_file` and `graph_back`. An element of an output that was not written is 7.
+use super::show::answer;
+use super::show::bytes;
+use super::show::number;
+use super::show::numbers;
+use super::show::shape;
+use super::show::shape_of;
+use super::show::text;
+use file::round_trip::copy_file;
+use file::round_trip::graph_back;
+use graph::Shape;
+use reader::Contents;
+use writer::Written;
+
+fn print_written(w: Written) {
+    let a = w.answer;
+    text(b": copy");
+    answer(a);
+    text(b", length");
+    number(w.length as u64);
+    text(b", bytes");
+}
+
+fn copy_front(file: &[u8], out: &mut [u8], room: usize) {
+    if out.len() < room {
+        return;
+    }
+    print_written(copy_file(file, &mut out[..room]));
+}
+
+// What is answered and how many bytes were written, and 33 elements, of which the first `room` were lent.
+fn copied(name: &[u8], file: &[u8], room: usize) {
+    let mut out = [7u8; 33];
+    text(name);
+    copy_front(file, &mut out, room);
+    bytes(&out);
+    text(b"\n");
+}
+
+fn print_contents(c: Contents) {
+    let a = c.answer;
+    let s = c.shape;
+    text(b": back");
+    answer(a);
+    text(b", shape");
+    shape(s);
+    text(b", hops");
+    number(c.hops as u64);
+    text(b", names");
+    number(c.names_place as u64);
+    number(c.names_len as u64);
+    text(b", bytes");
+}
+
+fn back_front(
+    shape1: Shape,
+    hops: &[u16],
+    names: &[u8],
+    file: &mut [u8],
+    room: usize,
+    again: &mut [u16],
+    hop_room: usize,
+) {
+    if file.len() < room {
+        return;
+    }
+    if again.len() < hop_room {
+        return;
+    }
+    print_contents(graph_back(
+        shape1,
+        hops,
+        names,
+        &mut file[..room],
+        &mut again[..hop_room],
+    ));
+}
+
+// What is answered, and 38 bytes and 14 numbers, of which the first `room` and the first `hop_room` were lent.
+fn back(name: &[u8], shape1: Shape, hops: &[u16], names: &[u8], room: usize, hop_room: usize) {
+    let mut file = [7u8; 38];
+    let mut again = [7u16; 14];
+    text(name);
+    back_front(shape1, hops, names, &mut file, room, &mut again, hop_room);
+    bytes(&file);
+    text(b", numbers");
+    numbers(&again);
+    text(b"\n");
+}
+
+fn copies() {
+    let p1 =
+        b"\x02\x04\x00\x02\x00\x04\x00\x00\x00\x00\x00\x01\x00\x00\x00\x01\x00\x02\x00\x01\x00\x01\x00\x03\x00\x02\x00\x00\x00\x03\x00";
+    copied(b"P1 as a file", p1, 33);
+    copied(b"P1 as a file, just room", p1, 31);
+    copied(b"P1 as a file, too short", p1, 30);
+    copied(
+        b"the first 30 bytes",
+        b"\x02\x04\x00\x02\x00\x04\x00\x00\x00\x00\x00\x01\x00\x00\x00\x01\x00\x02\x00\x01\x00\x01\x00\x03\x00\x02\x00\x00\x00\x03",
+        33,
+    );
+    copied(b"an empty file", b"", 33);
+    copied(
+        b"initial state, a hop and names",
+        b"\x07\x03\x00\x03\x00\x02\x00\x01\x00\x02\x00\x01\x00\x00\x00\x01a\x02bc",
+        33,
+    );
+}
+
+fn backs() {
+    let p1 = [0u16, 0, 1, 0, 1, 2, 1, 1, 3, 2, 0, 3];
+    let name = b"\x04open";
+    back(b"P1 with a name", shape_of(4, 2, 0), &p1, name, 38, 14);
+    back(b"P1 with no names", shape_of(4, 2, 0), &p1, b"", 38, 14);
+    back(b"an initial state", shape_of(4, 2, 3), &p1, name, 38, 14);
+    back(b"just room", shape_of(4, 2, 0), &p1, name, 36, 12);
+    back(b"the file too short", shape_of(4, 2, 0), &p1, name, 35, 14);
+    back(b"the hops too short", shape_of(4, 2, 0), &p1, name, 38, 11);
+    back(
+        b"a name too many",
+        shape_of(4, 2, 0),
+        &p1,
+        b"\x01a\x01b",
+        38,
+        14,
+    );
+}
+
+fn bad_back() {
+    let falling = [0u16, 0, 1, 0, 1, 2, 2, 0, 3, 1, 1, 3];
+    back(
+        b"a hop below the one before",
+        shape_of(4, 2, 0),
+        &falling,
+        b"\x04open",
+        38,
+        14,
+    );
+}
+
+pub fn run() {
+    copies();
+    backs();
+    bad_back();
+}

@@ -1,0 +1,166 @@
+// `check_records` and `mark_records`. An element of the output for marks that was not written is 7.
+use super::show::answer;
+use super::show::bytes;
+use super::show::number;
+use super::show::shape_of;
+use super::show::text;
+use graph::Answer;
+use graph::Hop;
+use graph::Shape;
+use graph::hops::hop_at;
+use graph::hops::hop_count;
+use records::check_records;
+use records::mark_records;
+ghost use Prim.Native.Nat.{_<_, _≤_};
+ghost use Rattle.graph.specs.Hops.{count};
+
+fn print_both(checked: Answer, marked: Answer) {
+    text(b": check");
+    answer(checked);
+    text(b", mark");
+    answer(marked);
+    text(b", marks");
+}
+
+// Both entries over the first n records, lent.
+fn ask(shape: Shape, hops: [Hop; 4097], n: usize, marks: &mut [u8])
+    requires { ⌜ n ≤ 4097 ⌝ }
+{
+    let list = &hops[..n];
+    print_both(check_records(shape, list), mark_records(shape, list, marks));
+}
+
+// The records of a flat list, and records of zeros behind them.
+fn records_of(nums: &[u16]) -> [Hop; 4097]
+    requires { ⌜ count (now nums) ≤ 4097 ⌝ }
+{
+    let mut hops = [Hop {
+        from: 0,
+        label: 0,
+        to: 0,
+    }; 4097];
+    let n = hop_count(nums);
+    let mut i = 0;
+    while i < n {
+        hops[i] = hop_at(nums, i);
+        i += 1;
+    }
+    hops
+}
+
+// Both entries over the records of a flat list, with the first `room` elements for marks.
+fn ask_list(shape: Shape, nums: &[u16], marks: &mut [u8], room: usize) {
+    let n = hop_count(nums);
+    if 4097 < n {
+        return;
+    }
+    if marks.len() < room {
+        return;
+    }
+    ask(shape, records_of(nums), n, &mut marks[..room]);
+}
+
+// A list of few records, and six elements, of which the first `room` were lent.
+fn few(name: &[u8], shape: Shape, nums: &[u16], room: usize) {
+    let mut marks = [7u8; 6];
+    text(name);
+    ask_list(shape, nums, &mut marks, room);
+    bytes(&marks);
+    text(b"\n");
+}
+
+fn ones(marks: &[u8]) -> usize {
+    let mut n = 0;
+    let mut i = 0;
+    while i < marks.len() {
+        if marks[i] == 1 {
+            n += 1;
+        }
+        i += 1;
+    }
+    n
+}
+
+// A list of many records, and of 4,098 elements, of which the first `room` were lent: the first six, the last thirteen, and how many are 1.
+fn many(name: &[u8], nums: &[u16], room: usize) {
+    let mut marks = [7u8; 4098];
+    text(name);
+    ask_list(shape_of(1024, 5, 0), nums, &mut marks, room);
+    bytes(&marks[0..6]);
+    text(b" ..");
+    bytes(&marks[4085..4098]);
+    text(b", ones");
+    number(ones(&marks) as u64);
+    text(b"\n");
+}
+
+// A list at the limit of 4,096 hops, five a state: the silent one leads to the next state, the others to the state itself. So each silent hop is
+// marked but that of state 818, since 4,096 hops end with the silent hop of state 819, which has no other to answer with.
+fn stair(i: usize) -> Hop
+    requires { ⌜ i < 4097 ⌝ }
+{
+    let from = (i / 5) as u16;
+    let label = (i % 5) as u16;
+    if label == 0 {
+        return Hop {
+            from,
+            label,
+            to: from + 1,
+        };
+    }
+    Hop {
+        from,
+        label,
+        to: from,
+    }
+}
+
+fn stairs() -> [u16; 12291] {
+    let mut nums = [0u16; 12291];
+    let mut i = 0;
+    while i < 4097 {
+        let h = stair(i);
+        nums[3 * i] = h.from;
+        nums[3 * i + 1] = h.label;
+        nums[3 * i + 2] = h.to;
+        i += 1;
+    }
+    nums
+}
+
+fn small() {
+    let p1 = [0u16, 0, 1, 0, 1, 2, 1, 1, 3, 2, 0, 3];
+    few(b"P1", shape_of(4, 2, 0), &p1, 6);
+    few(b"P1, just room", shape_of(4, 2, 0), &p1, 4);
+    few(b"P1, too short", shape_of(4, 2, 0), &p1, 3);
+    few(b"no records", shape_of(1, 1, 0), &p1[0..0], 6);
+    few(b"no states", shape_of(0, 2, 0), &p1, 6);
+    few(b"initial state at the count", shape_of(4, 2, 4), &p1, 6);
+    few(b"a state out of range", shape_of(3, 2, 0), &p1, 6);
+}
+
+fn bad() {
+    let p8 = [0u16, 0, 1, 1, 0, 2, 2, 0, 1];
+    let falling = [0u16, 0, 1, 1, 1, 3, 0, 1, 2];
+    few(b"P8", shape_of(3, 1, 0), &p8, 6);
+    few(
+        b"a hop below the one before",
+        shape_of(4, 2, 0),
+        &falling,
+        6,
+    );
+}
+
+fn limits() {
+    let nums = stairs();
+    many(b"4096 records", &nums[0..12288], 4098);
+    many(b"4096 records, just room", &nums[0..12288], 4096);
+    many(b"4096 records, too short", &nums[0..12288], 4095);
+    many(b"4097 records", &nums, 4098);
+}
+
+pub fn run() {
+    small();
+    bad();
+    limits();
+}
