@@ -88,12 +88,22 @@ fn back(name: &[u8], shape1: Shape, hops: &[u16], names: &[u8], room: usize, hop
     text(b"\n");
 }
 
+// P1 as a file.
+fn p1(name: &[u8], room: usize) {
+    copied(
+        name,
+        b"\x02\x04\x00\x02\x00\x04\x00\x00\x00\x00\x00\x01\x00\x00\x00\x01\x00\x02\x00\x01\x00\x01\x00\x03\x00\x02\x00\x00\x00\x03\x00",
+        room,
+    );
+}
+
 fn copies() {
-    let p1 =
-        b"\x02\x04\x00\x02\x00\x04\x00\x00\x00\x00\x00\x01\x00\x00\x00\x01\x00\x02\x00\x01\x00\x01\x00\x03\x00\x02\x00\x00\x00\x03\x00";
-    copied(b"P1 as a file", p1, 33);
-    copied(b"P1 as a file, just room", p1, 31);
-    copied(b"P1 as a file, too short", p1, 30);
+    p1(b"P1 as a file", 33);
+    p1(b"P1 as a file, just room", 31);
+    p1(b"P1 as a file, too short", 30);
+}
+
+fn other_copies() {
     copied(
         b"the first 30 bytes",
         b"\x02\x04\x00\x02\x00\x04\x00\x00\x00\x00\x00\x01\x00\x00\x00\x01\x00\x02\x00\x01\x00\x01\x00\x03\x00\x02\x00\x00\x00\x03",
@@ -107,27 +117,24 @@ fn copies() {
     );
 }
 
-fn backs() {
-    let p1 = [0u16, 0, 1, 0, 1, 2, 1, 1, 3, 2, 0, 3];
-    let name = b"\x04open";
-    back(b"P1 with a name", shape_of(4, 2, 0), &p1, name, 38, 14);
-    back(b"P1 with no names", shape_of(4, 2, 0), &p1, b"", 38, 14);
-    back(b"an initial state", shape_of(4, 2, 3), &p1, name, 38, 14);
-    back(b"just room", shape_of(4, 2, 0), &p1, name, 36, 12);
-    back(b"the file too short", shape_of(4, 2, 0), &p1, name, 35, 14);
-    back(b"the hops too short", shape_of(4, 2, 0), &p1, name, 38, 11);
-    back(
-        b"a name too many",
-        shape_of(4, 2, 0),
-        &p1,
-        b"\x01a\x01b",
-        38,
-        14,
-    );
+// P1 with an initial state and a block of names.
+fn p1_back(name: &[u8], initial: u32, names: &[u8], room: usize, hop_room: usize) {
+    let hops = [0u16, 0, 1, 0, 1, 2, 1, 1, 3, 2, 0, 3];
+    back(name, shape_of(4, 2, initial), &hops, names, room, hop_room);
 }
 
-fn bad_back() {
+fn backs() {
+    p1_back(b"P1 with a name", 0, b"\x04open", 38, 14);
+    p1_back(b"P1 with no names", 0, b"", 38, 14);
+    p1_back(b"an initial state", 3, b"\x04open", 38, 14);
+    p1_back(b"just room", 0, b"\x04open", 36, 12);
+}
+
+fn bad_backs() {
     let falling = [0u16, 0, 1, 0, 1, 2, 2, 0, 3, 1, 1, 3];
+    p1_back(b"the file too short", 0, b"\x04open", 35, 14);
+    p1_back(b"the hops too short", 0, b"\x04open", 38, 11);
+    p1_back(b"a name too many", 0, b"\x01a\x01b", 38, 14);
     back(
         b"a hop below the one before",
         shape_of(4, 2, 0),
@@ -140,6 +147,7 @@ fn bad_back() {
 
 pub fn run() {
     copies();
+    other_copies();
     backs();
-    bad_back();
+    bad_backs();
 }
