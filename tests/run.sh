@@ -114,7 +114,7 @@ little_stack() (
     ./run $p1.in
 )
 try little_stack
-check little_stack 2 "$work/nothing" "run: signal 11 ended the program; it needs 435 KB of stack*"
+check little_stack 2 "$work/nothing" "run: signal 11 ended the program; it needs 512 KiB of stack (ulimit -s)"
 
 # A copy, in a folder with spaces, and an rt that has the program as this one has proved it
 copy="$work/a copy of it"
