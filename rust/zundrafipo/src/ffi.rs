@@ -1,8 +1,8 @@
 //! The archive's functions as `include/zundrafipo.h` declares them.
 //!
 //! Each writes its answer, number, table and place and then its own figures, to `answer` and returns the number. An answer too short speaks last, as
-//! an output too short does: 6, and nothing is written at all. Pointers must not be null, lengths count elements, and no output may overlap
-//! anything else that is lent in the same call. The functions of the crate's root keep all that by themselves.
+//! an output too short does: 6, and nothing is written at all. Lengths count elements, a pointer has that many elements behind it (beside a length of 0 it
+//! may be null), and no output may overlap anything else that is lent in the same call. The functions of the crate's root keep all that by themselves.
 
 extern "C" {
     /// Checks a graph for 1 to 4. Answer: 3.
