@@ -126,7 +126,6 @@ fn minutes() {
     for Named { name, graph } in &inputs::long_markings() {
         let name = format!("{name} (minutes)");
         row("mark", &name, &|e, o| e.mark(graph, &mut o.marks, &mut o.answer));
-        row("reduce", &name, &|e, o| e.reduce(graph, &mut o.map, &mut o.hops, &mut o.answer));
     }
 }
 
