@@ -10,15 +10,16 @@ use native.Mathlib.Omega.{arith}
 use borrow.Author.Tests.{eq-eqb, ne-eqb, eqb-true, eqb-false, lt-ltb, le-ltb, ltb-true, ltb-false, not-false}
 use lib.ListN.{length}
 use lib.Dec.{eqb, ltb}
-use Rattle.graph.specs.Tests.{least}
+use Rattle.below.specs.Tests.{least}
 use Rattle.graph.specs.Check.{accepted, refused, inTable, andThen, checkOf, Admitted}
 use Rattle.graph.specs.declared.Shape.{Shape}
 use Rattle.graph.specs.declared.Answer.{Answer}
-use Rattle.graph.proofs.Bools.{not-yes}
-use Rattle.graph.proofs.Tests.{least-is, least-before}
+use Rattle.below.proofs.Bools.{not-yes}
+use Rattle.below.proofs.Tests.{least-is, least-before}
 use Rattle.graph.proofs.Checked.{check-admitted, admitted-check}
 use Rattle.starts.proofs.Firsts.{admitted-ready}
-use Rattle.faults.specs.Faults.{mapped, faultsOf}
+use Rattle.graph.specs.Map.{mapped}
+use Rattle.faults.specs.Faults.{faultsOf}
 use Rattle.bisimulation.specs.Bisimulation.{AdmittedMap}
 use Rattle.bisimulation.specs.Auditing.{firstHigh, mapFits, auditAnswer, auditOf}
 use Rattle.faults.specs.Ticks.{Auditable}

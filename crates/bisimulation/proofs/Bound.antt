@@ -6,12 +6,13 @@ use mathlib.Core.List.{List}
 use native.Mathlib.Nat.{mul-le-mul}
 use native.Mathlib.Omega.{arith}
 use lib.Dec.{eqb}
-use Rattle.graph.specs.Tests.{tally}
+use Rattle.below.specs.Tests.{tally}
 use Rattle.graph.specs.Hops.{count}
 use Rattle.graph.specs.Check.{most-states, most-hops, Admitted}
 use Rattle.graph.specs.declared.Shape.{Shape}
-use Rattle.graph.proofs.Tests.{tally-within, total-most}
-use Rattle.faults.specs.Faults.{mapped, initialFault, kept, lostFaults, madeUp, madeUpFaults, faultsOf}
+use Rattle.below.proofs.Tests.{tally-within, total-most}
+use Rattle.graph.specs.Map.{mapped}
+use Rattle.faults.specs.Faults.{initialFault, kept, lostFaults, madeUp, madeUpFaults, faultsOf}
 
 pub initial-most : (sh1 sh2 : Shape) (m : List ℕ) → initialFault sh1 sh2 m ≤ 1
 unfolding initialFault

@@ -8,18 +8,19 @@ use mathlib.Core.Logic.{_⊎_, inl, inr, ⊎-elim, _↔_}
 use native.Mathlib.Omega.{arith}
 use borrow.Author.Tests.{eq-eqb, eqb-true, not-false}
 use lib.Dec.{eqb}
-use Rattle.graph.specs.Tests.{tally}
+use Rattle.below.specs.Tests.{tally}
 use Rattle.graph.specs.Hops.{count, from, label, to}
 use Rattle.graph.specs.Check.{InRange, Admitted}
 use Rattle.graph.specs.declared.Shape.{Shape}
-use Rattle.graph.proofs.Bools.{decided, not-yes, and-yes, and-left, and-right, and-no-left, and-no-right, or-left, or-right, or-yes}
-use Rattle.graph.proofs.Tests.{any-found, any-at, tally-zero, tally-each, total-zero, total-each}
+use Rattle.below.proofs.Bools.{decided, not-yes, and-yes, and-left, and-right, and-no-left, and-no-right, or-left, or-right, or-yes}
+use Rattle.below.proofs.Tests.{any-found, any-at, tally-zero, tally-each, total-zero, total-each}
 use Rattle.graph.proofs.Places.{has-at, has-place, place-has}
 use Rattle.lts.specs.Star.{stay}
 use Rattle.lts.specs.Reduction.{Back, Reduces}
 use Rattle.silent.specs.Silent.{HopOf, Leads, leads}
 use Rattle.silent.proofs.Leads.{leads-iff}
-use Rattle.faults.specs.Faults.{mapped, initialFault, kept, lostFaults, offers, backed, matched, madeUp, madeUpFaults, faultsOf}
+use Rattle.graph.specs.Map.{mapped}
+use Rattle.faults.specs.Faults.{initialFault, kept, lostFaults, offers, backed, matched, madeUp, madeUpFaults, faultsOf}
 use Rattle.bisimulation.specs.Bisimulation.{BranchingBisimulation, MapRelation, JoinsInitial, AdmittedMap}
 
 -- the map loses no hop of graph 1 and makes no hop of graph 2 up, and leads from the one initial state to the other

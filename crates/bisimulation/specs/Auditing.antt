@@ -4,11 +4,12 @@ use mathlib.Core.Bool.{cond, not}
 use mathlib.Core.List.{List}
 use lib.ListN.{length}
 use lib.Dec.{eqb, ltb}
-use Rattle.graph.specs.Tests.{least}
+use Rattle.below.specs.Tests.{least}
 use Rattle.graph.specs.Check.{accepted, refused, inTable, andThen, checkOf}
 use Rattle.graph.specs.declared.Shape.{Shape}
 use Rattle.graph.specs.declared.Answer.{Answer}
-use Rattle.faults.specs.Faults.{mapped, faultsOf}
+use Rattle.graph.specs.Map.{mapped}
+use Rattle.faults.specs.Faults.{faultsOf}
 use Rattle.bisimulation.specs.declared.Audit.{Audit}
 
 -- row 7: "label counts of graphs 1 and 2 differ"

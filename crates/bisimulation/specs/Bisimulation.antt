@@ -6,7 +6,7 @@ use mathlib.Core.List.{List}
 use lib.ListN.{length}
 use Rattle.graph.specs.declared.Shape.{Shape}
 use Rattle.silent.specs.Silent.{HopOf, Leads}
-use Rattle.faults.specs.Faults.{mapped}
+use Rattle.graph.specs.Map.{mapped}
 
 -- "Let B be any set of pairs, each a state of graph 1 with a state of graph 2."
 abbrev pub StatePairs : Shape → Shape → (ℕ → ℕ → Type 0) → Type 0

@@ -7,11 +7,11 @@ use mathlib.Core.List.{List}
 use mathlib.Core.Logic.{_⊎_, inl, inr, ⊎-elim}
 use lib.Dec.{eqb}
 use borrow.Author.Tests.{eq-eqb, ne-eqb, eqb-true}
-use Rattle.graph.specs.Tests.{any}
+use Rattle.below.specs.Tests.{any}
 use Rattle.graph.specs.Hops.{count, from, label, to, has}
-use Rattle.graph.proofs.Bools.{and-yes, and-left, and-right, or-left, or-right, or-yes, eq-or-not}
+use Rattle.below.proofs.Bools.{and-yes, and-left, and-right, or-left, or-right, or-yes, eq-or-not}
 use Rattle.graph.proofs.Places.{has-at, has-place, place-has}
-use Rattle.graph.proofs.Tests.{all-at, all-yes, any-at, any-found}
+use Rattle.below.proofs.Tests.{all-at, all-yes, any-at, any-found}
 use Rattle.confluence.specs.Rounds.{Pairs, closing, leaves, answer, answers, answered, tried, closes}
 
 -- a set of Bool tests as a set of types

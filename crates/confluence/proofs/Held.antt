@@ -9,8 +9,8 @@ use Rattle.graph.specs.Order.{Ascending}
 use Rattle.graph.specs.Search.{placed}
 use Rattle.graph.specs.declared.Hop.{Hop}
 use Rattle.graph.specs.declared.Found.the-variants.{At, Gap}
-use Rattle.graph.proofs.Bools.{clash, and-yes, and-left, and-right, same-test, no-test}
-use Rattle.graph.proofs.Tests.{any-at, any-found}
+use Rattle.below.proofs.Bools.{clash, and-yes, and-left, and-right, same-test, no-test}
+use Rattle.below.proofs.Tests.{any-at, any-found}
 use Rattle.graph.proofs.Places.{is-from, is-label, is-to}
 use Rattle.graph.proofs.Ordered.{ascending-place}
 use Rattle.graph.proofs.Lookup.{at-place, gap-has}

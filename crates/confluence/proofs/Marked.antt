@@ -7,7 +7,7 @@ use mathlib.Core.List.{List}
 use native.Mathlib.Omega.{arith}
 use Rattle.lts.specs.Sense.{R1}
 use Rattle.graph.specs.Hops.{count, has}
-use Rattle.graph.proofs.Bools.{and-left, and-right}
+use Rattle.below.proofs.Bools.{and-left, and-right}
 use Rattle.silent.specs.Silent.{HopOf}
 use Rattle.confluence.specs.Rounds.{Pairs, Trials, closing, answers, closes, Solution, survives, marked, ConfluentSet}
 use Rattle.confluence.proofs.Closing.{In, closes-says, closes-yes, closed-mono, closing-mono, answers-mono}

@@ -7,9 +7,9 @@ use mathlib.Core.List.{List}
 use lib.Dec.{eqb}
 use borrow.Author.Tests.{eq-eqb}
 use Rattle.graph.specs.Hops.{count, from, label, to, has}
-use Rattle.graph.proofs.Bools.{and-yes, and-left, and-right, same-test}
+use Rattle.below.proofs.Bools.{and-yes, and-left, and-right, same-test}
 use Rattle.graph.proofs.Places.{has-place}
-use Rattle.graph.proofs.Chains.{Still, same-from}
+use Rattle.below.proofs.Chains.{Still, same-from}
 use Rattle.confluence.specs.Rounds.{closes, survives}
 use Rattle.confluence.proofs.Closing.{In, closes-mono}
 

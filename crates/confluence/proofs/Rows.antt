@@ -7,12 +7,12 @@ use mathlib.Core.List.{List}
 use mathlib.Core.Logic.{_⊎_, inl, inr, ⊎-elim}
 use native.Mathlib.Nat.{eq-or-lt-of-le, le-refl}
 use native.Mathlib.Omega.{arith}
-use Rattle.graph.specs.Tests.{any}
+use Rattle.below.specs.Tests.{any}
 use Rattle.graph.specs.Hops.{count, from, label, to, hopAt}
 use Rattle.graph.specs.Order.{Ascending}
 use Rattle.graph.specs.Search.{firstOf, pastOf}
-use Rattle.graph.proofs.Bools.{and-yes, and-left, and-no-right, no-test, lt-or-le}
-use Rattle.graph.proofs.Tests.{all-yes, all-fails, any-found}
+use Rattle.below.proofs.Bools.{and-yes, and-left, and-no-right, no-test, lt-or-le}
+use Rattle.below.proofs.Tests.{all-yes, all-fails, any-found}
 use Rattle.graph.proofs.Ordered.{Below, before-below, ascending-lt}
 use Rattle.graph.proofs.Lookup.{first-within, range-holds, range-only, any-range}
 use Rattle.confluence.specs.Rounds.{Pairs, closing, leaves, answer, answers, answered, tried, closes}

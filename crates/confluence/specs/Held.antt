@@ -5,7 +5,7 @@ use mathlib.Core.Bool.{Bool, _&&_}
 use mathlib.Core.List.{List}
 use lib.ListN.{getD}
 use lib.Dec.{eqb}
-use Rattle.graph.specs.Tests.{any}
+use Rattle.below.specs.Tests.{any}
 use Rattle.graph.specs.Hops.{count, from, label, is}
 use Rattle.confluence.specs.Rounds.{Pairs}
 

@@ -5,7 +5,7 @@ use mathlib.Core.Bool.{Bool, true, not, _&&_, _||_}
 use mathlib.Core.Logic.{_⊎_}
 use mathlib.Core.List.{List}
 use lib.Dec.{eqb}
-use Rattle.graph.specs.Tests.{all, any}
+use Rattle.below.specs.Tests.{all, any}
 use Rattle.graph.specs.Hops.{count, from, label, to, has}
 
 -- a set of pairs of states

@@ -13,7 +13,7 @@ use starts::wide;
 ghost use mathlib.Core.Path.{_≡_};
 ghost use Prim.Native.Nat.{_+_, _<_, _≤_};
 ghost use lib.ListN.{length};
-ghost use Rattle.graph.specs.Tests.{any};
+ghost use Rattle.below.specs.Tests.{any};
 ghost use Rattle.graph.specs.Hops.{count, from, label, to};
 ghost use Rattle.graph.specs.Order.{Ascending};
 ghost use Rattle.confluence.specs.Rounds.{closing, answer, answered, closes};

@@ -7,7 +7,8 @@ use borrow.Author.Tests.{eq-eqb, ne-eqb}
 use lib.Dec.{eqb}
 use Rattle.graph.specs.Hops.{from, label, to, has}
 use Rattle.graph.specs.declared.Shape.{Shape}
-use Rattle.faults.specs.Faults.{mapped, initialFault, kept}
+use Rattle.graph.specs.Map.{mapped}
+use Rattle.faults.specs.Faults.{initialFault, kept}
 
 module _ (sh1 sh2 : Shape) (m : List ℕ) {r : ℕ} (e : r ≡ mapped m (sh1 .initial)) where
   pub initial-joined : r ≡ sh2 .initial → 0 ≡ initialFault sh1 sh2 m

@@ -8,7 +8,7 @@ use Rattle.graph.specs.declared.Hop.{Hop}
 use Rattle.graph.specs.declared.Found.{Found}
 use Rattle.graph.specs.declared.Found.the-variants.{At}
 use Rattle.graph.proofs.Lookup.{at-place}
-use Rattle.faults.specs.Faults.{mapped}
+use Rattle.graph.specs.Map.{mapped}
 use Rattle.faults.specs.Ticks.{placeOf, imageOf}
 
 -- a place that was found is one

@@ -10,19 +10,19 @@ use native.Mathlib.Omega.{arith}
 use borrow.Author.Tests.{ne-eqb, ltb-false, le-ltb}
 use lib.ListN.{length, getD, set}
 use lib.Dec.{eqb}
-use Rattle.graph.specs.Tests.{any, tally}
+use Rattle.below.specs.Tests.{any, tally}
 use Rattle.graph.specs.Hops.{count, from}
 use Rattle.graph.specs.Order.{Ascending}
 use Rattle.graph.specs.Search.{firstOf, pastOf}
 use Rattle.graph.specs.Check.{InRange}
 use Rattle.graph.specs.declared.Shape.{Shape}
-use Rattle.graph.proofs.Bools.{clash, lt-or-le, same-test, and-no-left}
-use Rattle.graph.proofs.Tests.{any-found, any-at, tally-zero}
+use Rattle.below.proofs.Bools.{clash, lt-or-le, same-test, and-no-left}
+use Rattle.below.proofs.Tests.{any-found, any-at, tally-zero}
 use Rattle.graph.proofs.Lookup.{first-law, first-within, range-only}
 use Rattle.starts.proofs.Firsts.{first-below, first-is, first-next}
 use Rattle.starts.specs.Starts.{Ready}
 use Rattle.silent.specs.Reach.{noted}
-use Rattle.faults.specs.Faults.{mapped}
+use Rattle.graph.specs.Map.{mapped}
 use Rattle.faults.specs.Ticks.{Imaged, leaves, ticks, TickedBy, TickedOn, unticked}
 use Rattle.faults.proofs.Ticking.{ticked-none, ticked-more}
 

@@ -12,7 +12,7 @@ use borrow.Author.Tests.{eq-eqb, ne-eqb, eqb-true}
 use lib.ListN.{length, getD, set, replicate, getD-replicate, List·getD-append}
 use lib.Seq.{getD-set-same, getD-set-other}
 use lib.Dec.{eqb}
-use Rattle.graph.specs.Tests.{any, tally, listed, total}
+use Rattle.below.specs.Tests.{any, tally, listed, total}
 use Rattle.graph.specs.Hops.{count, from, label, to, hopAt, is, has}
 use Rattle.graph.specs.Search.{placed}
 use Rattle.graph.specs.Check.{InRange}
@@ -20,15 +20,16 @@ use Rattle.graph.specs.declared.Hop.{Hop}
 use Rattle.graph.specs.declared.Shape.{Shape}
 use Rattle.graph.specs.declared.Found.{Found}
 use Rattle.graph.specs.declared.Found.the-variants.{At, Gap}
-use Rattle.graph.proofs.Bools.{decided, eq-or-not, no-test, same-test, and-yes, and-left, and-right}
-use Rattle.graph.proofs.Tests.{any-found, any-at, any-never, length-listed, getD-listed, tally-same, tally-within, total-most, total-exchange}
+use Rattle.below.proofs.Bools.{decided, eq-or-not, no-test, same-test, and-yes, and-left, and-right}
+use Rattle.below.proofs.Tests.{any-found, any-at, any-never, length-listed, getD-listed, tally-same, tally-within, total-most, total-exchange}
 use Rattle.graph.proofs.Places.{is-yes, is-from, is-label, is-to}
 use Rattle.graph.proofs.Ordered.{ascending-place}
 use Rattle.graph.proofs.Lookup.{at-place, gap-has}
 use Rattle.starts.specs.Starts.{Ready}
 use Rattle.silent.specs.Silent.{leads}
 use Rattle.silent.specs.Reach.{noted, reached}
-use Rattle.faults.specs.Faults.{mapped, offers, backed, matched, madeUp, madeUpFaults}
+use Rattle.graph.specs.Map.{mapped}
+use Rattle.faults.specs.Faults.{offers, backed, matched, madeUp, madeUpFaults}
 use Rattle.faults.specs.Ticks.{mappedHop, nowhere, placeOf, imageOf, leaves, ticks, TickedBy, unticked, Fresh, madeUpOf}
 
 -- the hop at a place where `is` passes

@@ -3,15 +3,12 @@
 use Prim.Native.Nat.{ℕ, _+_}
 use mathlib.Core.Bool.{Bool, cond, not, _&&_, _||_}
 use mathlib.Core.List.{List}
-use lib.ListN.{getD}
 use lib.Dec.{eqb}
-use Rattle.graph.specs.Tests.{any, tally, total}
+use Rattle.below.specs.Tests.{any, tally, total}
 use Rattle.graph.specs.Hops.{count, from, label, to, has}
+use Rattle.graph.specs.Map.{mapped}
 use Rattle.graph.specs.declared.Shape.{Shape}
 use Rattle.silent.specs.Silent.{leads}
-
-abbrev pub mapped : List ℕ → ℕ → ℕ
-mapped m s = getD m s 0
 
 -- "1 if the map of initial state 1 is not initial state 2"
 unfoldable pub initialFault : Shape → Shape → List ℕ → ℕ

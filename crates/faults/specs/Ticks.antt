@@ -6,7 +6,7 @@ use mathlib.Core.Bool.{Bool, cond, not, _&&_, _||_}
 use mathlib.Core.List.{List}
 use lib.ListN.{length, getD}
 use lib.Dec.{eqb}
-use Rattle.graph.specs.Tests.{any, tally}
+use Rattle.below.specs.Tests.{any, tally}
 use Rattle.graph.specs.Hops.{count, from, label, to, is}
 use Rattle.graph.specs.Search.{placed}
 use Rattle.graph.specs.Check.{most-states, most-hops, Admitted}
@@ -16,7 +16,8 @@ use Rattle.graph.specs.declared.Found.{Found}
 use Rattle.graph.specs.declared.Found.the-variants.{At, Gap}
 use Rattle.starts.specs.Starts.{Ready}
 use Rattle.silent.specs.Reach.{noted}
-use Rattle.faults.specs.Faults.{mapped, madeUp}
+use Rattle.graph.specs.Map.{mapped}
+use Rattle.faults.specs.Faults.{madeUp}
 
 -- what the count asks of the two hop lists and the map, once the audit has admitted them
 pub record Auditable (sh1 : Shape) (h1 h2 m : List ℕ) : Type 0 where

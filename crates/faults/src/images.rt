@@ -7,7 +7,7 @@ use graph::hops::hop_count;
 use graph::hops::label_at;
 use graph::hops::to_at;
 use graph::search::find;
-use representatives::renumber::map_at;
+use graph::map::map_at;
 ghost use mathlib.Core.Path.{_≡_};
 ghost use Prim.Native.Nat.{_<_};
 ghost use Rattle.graph.specs.Hops.{count};

@@ -12,9 +12,9 @@ use borrow.Author.Tests.{eq-eqb, ne-eqb, eqb-true, eqb-false}
 use lib.ListN.{length, getD, drop, length-drop}
 use lib.Seq.{drop-cons, take-all, drop-length}
 use lib.Dec.{eqb}
-use Rattle.graph.specs.Tests.{listed}
+use Rattle.below.specs.Tests.{listed}
 use Rattle.graph.specs.Hops.{count}
-use Rattle.graph.proofs.Bools.{decided}
+use Rattle.below.proofs.Bools.{decided}
 use Rattle.names.specs.Block.{nameAt}
 use Rattle.names.proofs.Blocks.{name-first, name-later}
 use Rattle.fields.specs.Format.{numberAt, bitMap, hasInitial, hasHops, hasNames, statesIn, labelsIn, initialIn, hopsPlace, hopsIn, namesPlace, namesIn, restOf, need, shapeIn, hopListIn, blockIn}

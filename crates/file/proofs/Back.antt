@@ -15,8 +15,8 @@ use Rattle.graph.specs.Hops.{count}
 use Rattle.graph.specs.Check.{accepted, checkOf, Admitted}
 use Rattle.graph.specs.declared.Shape.{Shape}
 use Rattle.graph.specs.declared.Answer.{Answer}
-use Rattle.graph.proofs.Bools.{eq-or-not, lt-or-le, or-no}
-use Rattle.graph.proofs.Tests.{getD-listed}
+use Rattle.below.proofs.Bools.{eq-or-not, lt-or-le, or-no}
+use Rattle.below.proofs.Tests.{getD-listed}
 use Rattle.graph.proofs.Checked.{check-admitted, admitted-check}
 use Rattle.graph.proofs.Accepts.{both-accept}
 use Rattle.names.specs.Block.{nameAt, firstBad}

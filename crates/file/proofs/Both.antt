@@ -13,11 +13,11 @@ use lib.Dec.{eqb, leb}
 use Rattle.graph.specs.Check.{accepted, refused, roomFor, Admitted}
 use Rattle.graph.specs.declared.Shape.{Shape}
 use Rattle.graph.specs.declared.Answer.{Answer}
-use Rattle.graph.proofs.Bools.{decided}
+use Rattle.below.proofs.Bools.{decided}
 use Rattle.graph.proofs.Checked.{check-admitted, admitted-check}
 use Rattle.graph.proofs.Accepts.{both-accept}
 use Rattle.names.proofs.Blocks.{name-later}
-use Rattle.fields.specs.Front.{onFront}
+use Rattle.outputs.specs.Output.{onFront}
 use Rattle.fields.specs.Format.{hasNames, labelsIn, hopsIn, namesPlace, namesIn, restOf, need, shapeIn, hopListIn, blockPlace, blockLength, blockIn}
 use Rattle.reader.specs.Read.{readAnswer, nothing, contentsOf, readOf, readHops}
 use Rattle.writer.specs.Encode.{encode}

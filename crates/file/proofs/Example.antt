@@ -3,7 +3,7 @@ use Prim.Native.Nat.{ℕ}
 use mathlib.Core.Path.{_≡_, refl}
 use mathlib.Core.List.{List, [], _∷_}
 use lib.ListN.{length}
-use Rattle.graph.specs.Tests.{listed, all, any, least}
+use Rattle.below.specs.Tests.{listed, all, any, least}
 use Rattle.graph.specs.Order.{before}
 use Rattle.graph.specs.Check.{accepted, refused, countsFit, inside, firstOutside, rises, firstFalling, checkOf}
 use Rattle.graph.specs.declared.Shape.{Shape}

@@ -10,13 +10,13 @@ use native.Mathlib.Omega.{arith}
 use borrow.Author.Tests.{eq-eqb, ne-eqb, eqb-true, lt-ltb}
 use lib.ListN.{length, getD}
 use lib.Dec.{eqb, ltb}
-use Rattle.graph.specs.Tests.{listed}
+use Rattle.below.specs.Tests.{listed}
 use Rattle.graph.specs.Hops.{from, label, to}
 use Rattle.graph.specs.Order.{before, Ascending}
 use Rattle.graph.specs.Check.{accepted, Admitted}
 use Rattle.graph.specs.declared.Shape.{Shape}
-use Rattle.graph.proofs.Bools.{and-right, or-right, lt-or-le, no-test}
-use Rattle.graph.proofs.Tests.{length-listed, getD-listed, all-at, any-no, least-is}
+use Rattle.below.proofs.Bools.{and-right, or-right, lt-or-le, no-test}
+use Rattle.below.proofs.Tests.{length-listed, getD-listed, all-at, any-no, least-is}
 use Rattle.graph.proofs.Checked.{admitted-check}
 use Rattle.names.specs.Block.{nameAt, sameByte, sameName, repeated, lengthFits, bad, firstBad}
 use Rattle.writer.specs.Encode.{encode}

@@ -8,7 +8,7 @@ use Rattle.graph.specs.Hops.{count}
 use Rattle.graph.specs.Check.{accepted, andThen, roomFor}
 use Rattle.graph.specs.declared.Shape.{Shape}
 use Rattle.graph.specs.declared.Answer.{Answer}
-use Rattle.fields.specs.Front.{onFront}
+use Rattle.outputs.specs.Output.{onFront}
 use Rattle.reader.specs.Read.{readAnswer, nothing}
 use Rattle.reader.specs.declared.Contents.{Contents}
 use Rattle.writer.specs.Encode.{encode}

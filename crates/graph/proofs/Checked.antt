@@ -11,15 +11,15 @@ use native.Mathlib.Omega.{arith}
 use borrow.Author.Tests.{ltb-true, ltb-false, leb-true, leb-false, eqb-true, lt-ltb, le-ltb, le-leb, lt-leb, eq-eqb, not-true, not-false}
 use lib.ListN.{length}
 use lib.Dec.{eqb, leb, ltb}
-use Rattle.graph.specs.Tests.{least, FirstFailing}
+use Rattle.below.specs.Tests.{least, FirstFailing}
 use Rattle.graph.specs.Hops.{count, from, label, to, hopAt}
 use Rattle.graph.specs.Order.{before, Ascending}
 use Rattle.graph.specs.Check.{most-states, most-labels, most-hops, accepted, refused, countsFit, inside, firstOutside, rises, firstFalling, checkOf, InRange, Admitted}
 use Rattle.graph.specs.declared.Hop.{Hop}
 use Rattle.graph.specs.declared.Shape.{Shape}
 use Rattle.graph.specs.declared.Answer.{Answer}
-use Rattle.graph.proofs.Bools.{not-yes, and-left, and-right, or-yes, or-right}
-use Rattle.graph.proofs.Tests.{least-is, least-passes, least-before}
+use Rattle.below.proofs.Bools.{not-yes, and-left, and-right, or-yes, or-right}
+use Rattle.below.proofs.Tests.{least-is, least-passes, least-before}
 
 -- row 3 of the hop that stands at a place
 pub inside-hop : (sh : Shape) (hs : List ℕ) (i : ℕ) {h : Hop} → h ≡ hopAt hs i →

@@ -1,6 +1,3 @@
-pub mod Bools
-pub mod Tests
-pub mod Chains
 pub mod Places
 pub mod Ordered
 pub mod Lookup

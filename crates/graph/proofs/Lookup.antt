@@ -9,15 +9,15 @@ use native.Mathlib.Nat.{eq-or-lt-of-le, le-refl}
 use native.Mathlib.Omega.{arith}
 use borrow.Author.Tests.{ltb-true, ltb-false, lt-ltb, le-ltb, not-true, not-false}
 use lib.Dec.{ltb}
-use Rattle.graph.specs.Tests.{any, all, least}
+use Rattle.below.specs.Tests.{any, all, least}
 use Rattle.graph.specs.Hops.{count, from, label, to, hopAt, is, has}
 use Rattle.graph.specs.Order.{before, Ascending}
 use Rattle.graph.specs.Search.{lower, Bracket, found, placed, isAt, firstOf, pastOf}
 use Rattle.graph.specs.declared.Hop.{Hop}
 use Rattle.graph.specs.declared.Found.{Found}
 use Rattle.graph.specs.declared.Found.the-variants.{At, Gap}
-use Rattle.graph.proofs.Bools.{clash, decided, not-yes, not-no, no-test, and-left, and-right, and-no-right, same-test, lt-or-le}
-use Rattle.graph.proofs.Tests.{least-is, least-passes, least-before, least-within, any-found, any-no, all-yes}
+use Rattle.below.proofs.Bools.{clash, decided, not-yes, not-no, no-test, and-left, and-right, and-no-right, same-test, lt-or-le}
+use Rattle.below.proofs.Tests.{least-is, least-passes, least-before, least-within, any-found, any-no, all-yes}
 use Rattle.graph.proofs.Places.{is-yes, has-place}
 use Rattle.graph.proofs.Ordered.{Below, before-below, below-before, before-trans, before-itself, ascending-lt}
 

@@ -8,11 +8,11 @@ use native.Mathlib.Omega.{arith}
 use borrow.Author.Tests.{eq-eqb, eqb-true}
 use lib.ListN.{length, getD}
 use lib.Dec.{eqb}
-use Rattle.graph.specs.Tests.{any}
+use Rattle.below.specs.Tests.{any}
 use Rattle.graph.specs.Hops.{count, from, label, to, hopAt, noHop, flat, is, has}
 use Rattle.graph.specs.declared.Hop.{Hop}
-use Rattle.graph.proofs.Bools.{and-left, and-right}
-use Rattle.graph.proofs.Tests.{any-found, any-at}
+use Rattle.below.proofs.Bools.{and-left, and-right}
+use Rattle.below.proofs.Tests.{any-found, any-at}
 
 module _ (hs : List ℕ) (s a t i : ℕ) where
   pub is-yes : from hs i ≡ s → label hs i ≡ a → to hs i ≡ t → is hs s a t i ≡ true

@@ -5,7 +5,7 @@ use mathlib.Core.Bool.{Bool, cond, not, _&&_, _||_}
 use mathlib.Core.List.{List}
 use lib.ListN.{length}
 use lib.Dec.{eqb, leb, ltb}
-use Rattle.graph.specs.Tests.{least}
+use Rattle.below.specs.Tests.{least}
 use Rattle.graph.specs.Hops.{count, whole, from, label, to, hopAt}
 use Rattle.graph.specs.Order.{before, Ascending}
 use Rattle.graph.specs.declared.Shape.{Shape}

@@ -2,42 +2,57 @@
 -- Hops are looked at through this file, the accessors and their laws; elsewhere three stands only where document 01 says it: in the room that an output has and in
 -- the length of a file. Assumes nothing: these are definitions.
 use Prim.Native.Nat.{ℕ, zero, suc, _+_, _-_, _*_, _/_, _%_}
+use mathlib.Core.Path.{_≡_}
 use mathlib.Core.Bool.{Bool, _&&_}
 use mathlib.Core.List.{List, [], _∷_, _++_}
 use lib.ListN.{length, getD, set, take, drop}
 use lib.Dec.{eqb}
 use denote.Ref.{RefT, ptr}
-use Rattle.graph.specs.Tests.{any}
+use Rattle.below.specs.Tests.{any}
 use Rattle.graph.specs.declared.Hop.{Hop}
+
+-- "three a hop"
+abbrev pub numbers-a-hop : ℕ
+numbers-a-hop = 3
 
 -- how many hops a list holds; a list whose length is no multiple of three is not whole, and refused
 abbrev pub count : List ℕ → ℕ
-count hs = length hs / 3
+count hs = length hs / numbers-a-hop
 
 abbrev pub whole : List ℕ → Bool
-whole hs = eqb (length hs % 3) 0
+whole hs = eqb (length hs % numbers-a-hop) 0
 
 -- where the hop at a place begins, in numbers of the list
 abbrev pub numberPlace : ℕ → ℕ
-numberPlace i = 3 * i
+numberPlace i = numbers-a-hop * i
 
 -- the three numbers of the hop at a place
 abbrev pub from : List ℕ → ℕ → ℕ
-from hs i = getD hs (3 * i) 0
+from hs i = getD hs (numberPlace i) 0
 
 abbrev pub label : List ℕ → ℕ → ℕ
-label hs i = getD hs (3 * i + 1) 0
+label hs i = getD hs (numberPlace i + 1) 0
 
 abbrev pub to : List ℕ → ℕ → ℕ
-to hs i = getD hs (3 * i + 2) 0
+to hs i = getD hs (numberPlace i + 2) 0
+
+-- the hop s, a, t
+abbrev pub hopOf : ℕ → ℕ → ℕ → Hop
+hopOf s a t = record { from = s; label = a; to = t }
 
 -- the hop at a place
 abbrev pub hopAt : List ℕ → ℕ → Hop
-hopAt hs i = record { from = from hs i; label = label hs i; to = to hs i }
+hopAt hs i = hopOf (from hs i) (label hs i) (to hs i)
 
 -- what stands past the end of a list of hops
 abbrev pub noHop : Hop
-noHop = record { from = 0; label = 0; to = 0 }
+noHop = hopOf 0 0 0
+
+-- two hops are alike: the same from, label and to. Order, search and meaning look at no more of a hop
+pub record Alike (a b : Hop) : Type 0 where
+  pub same-from : a .from ≡ b .from
+  pub same-label : a .label ≡ b .label
+  pub same-to : a .to ≡ b .to
 
 -- the flat list of a list of hops
 unfoldable pub flat : List Hop → List ℕ
@@ -46,7 +61,7 @@ flat (h ∷ hs) = h .from ∷ h .label ∷ h .to ∷ flat hs
 
 -- the list with h for the hop at place i
 abbrev pub put : List ℕ → ℕ → Hop → List ℕ
-put hs i h = set (set (set hs (3 * i) (h .from)) (3 * i + 1) (h .label)) (3 * i + 2) (h .to)
+put hs i h = set (set (set hs (numberPlace i) (h .from)) (numberPlace i + 1) (h .label)) (numberPlace i + 2) (h .to)
 
 -- the first n hops of a list
 unfoldable pub front : ℕ → List ℕ → List Hop
@@ -61,13 +76,17 @@ over xs hs = flat xs ++ drop (length (flat xs)) hs
 unfoldable pub is : List ℕ → ℕ → ℕ → ℕ → ℕ → Bool
 is hs s a t i = eqb (from hs i) s && (eqb (label hs i) a && eqb (to hs i) t)
 
+-- the hop at place i is one of s labelled a; label 0 is silent
+unfoldable pub labelled : List ℕ → ℕ → ℕ → ℕ → Bool
+labelled hs s a i = eqb (from hs i) s && eqb (label hs i) a
+
 -- the graph has the hop s, a, t
 unfoldable pub has : List ℕ → ℕ → ℕ → ℕ → Bool
 has hs s a t = any (count hs) (is hs s a t)
 
 -- the part of a list from one place up to another, and where it stands in the lent list itself: in the same block, two bytes a number
 abbrev pub between : List ℕ → ℕ → ℕ → List ℕ
-between hs first past = take (3 * past - 3 * first) (drop (3 * first) hs)
+between hs first past = take (numberPlace past - numberPlace first) (drop (numberPlace first) hs)
 
 abbrev pub standsAt : RefT (List ℕ) → ℕ → ℕ × ℕ
-standsAt t first = (ptr t .0, 3 * first * 2 + ptr t .1)
+standsAt t first = (ptr t .0, numberPlace first * 2 + ptr t .1)

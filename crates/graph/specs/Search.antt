@@ -4,8 +4,8 @@ use mathlib.Core.Path.{_≡_}
 use mathlib.Core.Bool.{Bool, true, false, not, _&&_}
 use mathlib.Core.List.{List}
 use lib.Dec.{ltb}
-use Rattle.graph.specs.Tests.{least}
-use Rattle.graph.specs.Hops.{count, hopAt, is}
+use Rattle.below.specs.Tests.{least}
+use Rattle.graph.specs.Hops.{count, hopOf, hopAt, is}
 use Rattle.graph.specs.Order.{before}
 use Rattle.graph.specs.declared.Hop.{Hop}
 use Rattle.graph.specs.declared.Found.{Found}
@@ -37,7 +37,14 @@ isAt (Gap i) = false
 
 -- the places of the hops of a state: the first place, and the one past the last
 unfoldable pub firstOf : List ℕ → ℕ → ℕ
-firstOf hs s = lower hs (record { from = s; label = 0; to = 0 })
+firstOf hs s = lower hs (hopOf s 0 0)
 
 unfoldable pub pastOf : List ℕ → ℕ → ℕ
 pastOf hs s = firstOf hs (s + 1)
+
+-- the places of its hops labelled a
+unfoldable pub labelledFrom : List ℕ → ℕ → ℕ → ℕ
+labelledFrom hs s a = lower hs (hopOf s a 0)
+
+unfoldable pub labelledPast : List ℕ → ℕ → ℕ → ℕ
+labelledPast hs s a = labelledFrom hs s (a + 1)

@@ -1,8 +1,21 @@
 // Mode graphs as flat hop lists: their types, the accessors, the order of hops, the one search, and the entry `check`.
 pub mod hops; // hops.rt: what stands at a place of a flat list
+pub mod map; // map.rt: a map at a state
 pub mod order; // order.rt: the one comparison of hops
 pub mod search; // search.rt: the one search, and the places of a state's hops
 pub mod limits; // limits.rt: the entry `check` and its tests
+
+// The limits of document 01, for code and for the lengths of arrays.
+pub const MOST_STATES: usize = 1024;
+
+pub const MOST_LABELS: usize = 1024;
+
+pub const MOST_HOPS: usize = 4096;
+
+// "three a hop", and how many numbers a graph's list has at most.
+pub const NUMBERS_A_HOP: usize = 3;
+
+pub const MOST_NUMBERS: usize = NUMBERS_A_HOP * MOST_HOPS;
 
 // A hop: from one state, by a label, to another. Label 0 is silent.
 pub struct Hop {

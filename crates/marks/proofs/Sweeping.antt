@@ -11,11 +11,11 @@ use lib.Seq.{getD-set-same, getD-set-other, drop-set-lt, drop-at, getD-take, len
 use lib.Dec.{eqb}
 use borrow.Author.Tests.{eqb-true, eq-eqb, ne-eqb}
 use borrow.Author.Count.{below-more}
-use Rattle.graph.specs.Tests.{listed}
+use Rattle.below.specs.Tests.{listed}
 use Rattle.graph.specs.Hops.{count, from, label, to, is, has}
 use Rattle.graph.specs.Order.{Ascending}
-use Rattle.graph.proofs.Bools.{clash, and-yes, and-left, and-right, no-test, eq-or-not}
-use Rattle.graph.proofs.Tests.{any-found, tally-within, tally-less, length-listed, getD-listed}
+use Rattle.below.proofs.Bools.{clash, and-yes, and-left, and-right, no-test, eq-or-not}
+use Rattle.below.proofs.Tests.{any-found, tally-within, tally-less, length-listed, getD-listed}
 use Rattle.graph.proofs.Places.{is-yes, is-from, is-to, has-place}
 use Rattle.confluence.specs.Rounds.{closes, marked, ConfluentSet}
 use Rattle.marks.specs.Mark.{markOf, marksOf}

@@ -6,8 +6,8 @@ use native.Mathlib.Numerals.{add-one}
 use native.Mathlib.Omega.{arith}
 use lib.ListN.{length, getD, set, drop, length-append, length-drop}
 use lib.Seq.{drop-cons, set-at}
-use Rattle.graph.specs.Tests.{listed}
-use Rattle.graph.proofs.Tests.{length-listed}
+use Rattle.below.specs.Tests.{listed}
+use Rattle.below.proofs.Tests.{length-listed}
 
 -- one element more of a list that is written from the front
 pub listed-more : (f : ℕ → ℕ) (ms : List ℕ) {old new : List ℕ} {i v : ℕ} → i < length ms → old ≡ listed i f ++ drop i ms → v ≡ f i →

@@ -6,7 +6,7 @@ use mathlib.Core.Logic.{_⊎_}
 use mathlib.Core.List.{List}
 use lib.ListN.{length, getD, drop}
 use lib.Dec.{eqb}
-use Rattle.graph.specs.Tests.{tally}
+use Rattle.below.specs.Tests.{tally}
 use Rattle.graph.specs.Hops.{count, from, label, to}
 use Rattle.confluence.specs.Rounds.{closes, marked}
 use Rattle.confluence.specs.Held.{isMarked, heldBy}

@@ -9,7 +9,7 @@ ghost use mathlib.Core.Path.{_≡_};
 ghost use mathlib.Core.List.{_++_};
 ghost use Prim.Native.Nat.{_<_, _≤_};
 ghost use lib.ListN.{length, drop};
-ghost use Rattle.graph.specs.Tests.{listed};
+ghost use Rattle.below.specs.Tests.{listed};
 ghost use Rattle.graph.specs.Hops.{count};
 ghost use Rattle.marks.specs.Mark.{marksOf};
 ghost use Rattle.marks.specs.Sweep.{Marking, Tested, Swept, firstMark};

@@ -9,7 +9,7 @@ use lib.Dec.{eqb, ltb}
 use Rattle.graph.specs.Check.{checkOf, Admitted}
 use Rattle.graph.specs.declared.Shape.{Shape}
 use Rattle.graph.specs.declared.Answer.{Answer}
-use Rattle.graph.proofs.Bools.{and-left, and-right}
+use Rattle.below.proofs.Bools.{and-left, and-right}
 use Rattle.graph.proofs.Checked.{check-admitted}
 use Rattle.outgoing.specs.Outgoing.{bothPass, chosen}
 

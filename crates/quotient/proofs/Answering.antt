@@ -12,7 +12,7 @@ use Rattle.graph.specs.Check.{checkOf, accepted, refused, andThen, roomFor}
 use Rattle.graph.specs.Hops.{flat}
 use Rattle.graph.specs.declared.Shape.{Shape}
 use Rattle.graph.specs.declared.Answer.{Answer}
-use Rattle.graph.proofs.Bools.{clash, or-yes, lt-or-le}
+use Rattle.below.proofs.Bools.{clash, or-yes, lt-or-le}
 use Rattle.graph.proofs.Checked.{check-admitted}
 use Rattle.silent.specs.Silent.{ringless}
 use Rattle.graph.proofs.Accepts.{then-first, then-next, both-accept, room-accepts}

@@ -4,13 +4,13 @@ use mathlib.Core.Path.{_≡_, ap, _∙_}
 use mathlib.Core.List.{List, _++_}
 use native.Mathlib.Omega.{arith}
 use lib.ListN.{length, getD, drop, List·getD-append}
-use Rattle.graph.specs.Tests.{tally, listed}
+use Rattle.below.specs.Tests.{tally, listed}
 use Rattle.graph.specs.Hops.{count, flat, over}
 use Rattle.graph.specs.Check.{most-states, accepted}
 use Rattle.graph.specs.declared.Answer.{Answer}
 use Rattle.graph.specs.declared.Hop.{Hop}
 use Rattle.graph.specs.declared.Shape.{Shape}
-use Rattle.graph.proofs.Tests.{length-listed, getD-listed}
+use Rattle.below.proofs.Tests.{length-listed, getD-listed}
 use Rattle.representatives.specs.Representative.{mapOf}
 use Rattle.representatives.specs.Tables.{Reducible, Onward, stays, numbered}
 use Rattle.representatives.proofs.Tabled.{tabled-new}

@@ -9,7 +9,7 @@ use graph::limits::refuse;
 use marks::sweep::mark_all;
 use representatives::follow::next_states;
 use representatives::renumber::fill_map;
-use representatives::renumber::map_at;
+use graph::map::map_at;
 use representatives::renumber::new_numbers;
 use short::shorten::shorten;
 use silent::ring::ring_answer;

@@ -8,17 +8,17 @@ use borrow.Author.Tests.{lt-leb, le-leb, eq-eqb, ne-eqb}
 use lib.ListN.{length, take, drop}
 use lib.Seq.{take-at}
 use lib.Dec.{leb}
-use Rattle.graph.specs.Tests.{listed}
+use Rattle.below.specs.Tests.{listed}
 use Rattle.graph.specs.Hops.{count, whole}
 use Rattle.graph.specs.Check.{most-states, most-labels, most-hops, accepted, refused, andThen, roomFor, countsFit, checkOf}
 use Rattle.graph.specs.declared.Shape.{Shape}
 use Rattle.graph.specs.declared.Answer.{Answer}
-use Rattle.graph.proofs.Bools.{and-no-left, and-no-right, not-no}
-use Rattle.graph.proofs.Tests.{length-listed}
+use Rattle.below.proofs.Bools.{and-no-left, and-no-right, not-no}
+use Rattle.below.proofs.Tests.{length-listed}
 use Rattle.graph.proofs.Checked.{check-counts, check-admitted}
 use Rattle.graph.proofs.Accepts.{both-accept, second-accepts, room-accepts}
 use Rattle.fields.specs.Format.{numberAt, hopsPlace, hopsIn, shapeIn, hopListIn}
-use Rattle.fields.specs.Front.{onFront}
+use Rattle.outputs.specs.Output.{onFront}
 use Rattle.reader.specs.Read.{formatAnswer, readAnswer, readOf, readHops, nothing, contentsOf}
 
 -- a graph with too many hops is refused whatever they are

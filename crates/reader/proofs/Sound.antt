@@ -10,7 +10,7 @@ use lib.ListN.{length}
 use lib.Dec.{eqb, leb, ltb}
 use Rattle.graph.specs.Check.{andThen, roomFor, checkOf}
 use Rattle.graph.specs.declared.Answer.{Answer}
-use Rattle.graph.proofs.Bools.{clash}
+use Rattle.below.proofs.Bools.{clash}
 use Rattle.graph.proofs.Accepts.{both-accept}
 use Rattle.names.specs.Block.{firstBad}
 use Rattle.fields.specs.Format.{bitMap, hasInitial, hasHops, hasNames, labelsIn, initialIn, hopsIn, namesIn, restOf, need, shapeIn, hopListIn, idleBit}

@@ -9,7 +9,7 @@ use Rattle.graph.specs.Check.{accepted, refused, andThen, roomFor, checkOf}
 use Rattle.graph.specs.declared.Answer.{Answer}
 use Rattle.names.specs.Block.{nameAt, firstBad}
 use Rattle.fields.specs.Format.{bitMap, hopsIn, namesPlace, namesIn, restOf, need, shapeIn, hopListIn, blockPlace, blockLength, idleBit}
-use Rattle.fields.specs.Front.{onFront}
+use Rattle.outputs.specs.Output.{onFront}
 use Rattle.reader.specs.declared.Contents.{Contents}
 
 -- "The longest legal file has 58,344 bytes"

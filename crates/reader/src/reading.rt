@@ -21,10 +21,10 @@ use names::first_bad;
 ghost use mathlib.Core.Path.{_≡_};
 ghost use Prim.Native.Nat.{ℕ, _+_, _*_, _<_, _≤_};
 ghost use lib.ListN.{length};
-ghost use Rattle.graph.specs.Tests.{listed};
+ghost use Rattle.below.specs.Tests.{listed};
 ghost use Rattle.graph.specs.Check.{checkOf};
 ghost use Rattle.fields.specs.Format.{numberAt, shapeIn, hopListIn};
-ghost use Rattle.fields.specs.Front.{onFront};
+ghost use Rattle.outputs.specs.Output.{onFront};
 ghost use Rattle.reader.specs.Read.{RestAt, formatAnswer, readAnswer, readOf, readHops, nothing, contentsOf};
 
 const MOST_BYTES: usize = 58344;

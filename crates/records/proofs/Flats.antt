@@ -15,7 +15,7 @@ use Rattle.graph.specs.Hops.{count, whole, hopAt, noHop, flat, put, front, over
 use Rattle.graph.specs.Check.{most-states, most-labels, most-hops, refused, countsFit, checkOf}
 use Rattle.graph.specs.declared.Hop.{Hop}
 use Rattle.graph.specs.declared.Shape.{Shape}
-use Rattle.graph.proofs.Bools.{not-no, and-no-left, and-no-right}
+use Rattle.below.proofs.Bools.{not-no, and-no-left, and-no-right}
 use Rattle.graph.proofs.Checked.{check-counts}
 use Rattle.graph.proofs.Fronts.{length-front, over-front, put-over, length-over, front-over, over-over}
 use Rattle.graph.proofs.Places.{length-flat, count-flat}

@@ -8,14 +8,14 @@ use borrow.Author.Tests.{eq-eqb, ne-eqb, eqb-true, le-leb, lt-leb}
 use lib.ListN.{length, getD, drop, length-append, List·getD-append}
 use lib.Seq.{take-at}
 use lib.Dec.{eqb}
-use Rattle.graph.specs.Tests.{listed}
+use Rattle.below.specs.Tests.{listed}
 use Rattle.graph.specs.Hops.{count, flat, between}
 use Rattle.graph.specs.Check.{checkOf, andThen, roomFor}
 use Rattle.graph.specs.declared.Shape.{Shape}
 use Rattle.graph.specs.declared.Answer.{Answer}
 use Rattle.graph.proofs.Checked.{check-admitted, admitted-check}
 use Rattle.graph.proofs.Places.{length-flat}
-use Rattle.graph.proofs.Tests.{length-listed, getD-listed}
+use Rattle.below.proofs.Tests.{length-listed, getD-listed}
 use Rattle.silent.specs.Silent.{ringless}
 use Rattle.marks.specs.Mark.{markOf, markAnswer, markOutput}
 use Rattle.graph.proofs.Accepts.{both-accept}
@@ -28,7 +28,7 @@ use Rattle.short.proofs.Images.{short-within}
 use Rattle.quotient.specs.Reduce.{reduceAnswer, reduceOf, mapOutput, shortOutput}
 use Rattle.quotient.specs.declared.Reduction.{Reduction}
 use Rattle.fields.specs.Format.{hopsIn, shapeIn, hopListIn}
-use Rattle.fields.specs.Front.{onFront}
+use Rattle.outputs.specs.Output.{onFront}
 use Rattle.reader.specs.Read.{formatAnswer, readAnswer, readOf, readHops, contentsOf, nothing}
 use Rattle.reader.specs.declared.Contents.{Contents}
 use Rattle.reader.proofs.Entry.{length-hop-list, count-hop-list}

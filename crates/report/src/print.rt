@@ -10,7 +10,7 @@ ghost use mathlib.Core.Path.{_≡_};
 ghost use Prim.Native.Nat.{_≤_};
 ghost use lib.ListN.{length};
 ghost use Rattle.representatives.specs.Tables.{Reducible, Marks};
-ghost use Rattle.fields.specs.Front.{onFront};
+ghost use Rattle.outputs.specs.Output.{onFront};
 ghost use Rattle.text.specs.Text.{Put};
 ghost use Rattle.report.specs.Report.{most-text, reportOf, printedGraph, printedOf, shownIn};
 

@@ -12,8 +12,8 @@ use lib.ListN.{length, getD, set, length-set}
 use lib.Seq.{getD-set-same, getD-set-other}
 use lib.Dec.{eqb}
 use Rattle.graph.specs.Hops.{count, from, label, to}
-use Rattle.graph.proofs.Bools.{eq-or-not, not-yes, not-no, and-yes, and-no-left, and-no-right}
-use Rattle.graph.proofs.Tests.{any-no, any-found, least-is}
+use Rattle.below.proofs.Bools.{eq-or-not, not-yes, not-no, and-yes, and-no-left, and-no-right}
+use Rattle.below.proofs.Tests.{any-no, any-found, least-is}
 use Rattle.confluence.specs.Rounds.{marked}
 use Rattle.marks.specs.Mark.{markOf}
 use Rattle.representatives.specs.Representative.{markedFrom, resting, onward}

@@ -7,8 +7,8 @@ use mathlib.Core.Logic.{_⊎_, inl, inr, ⊎-elim}
 use native.Mathlib.Nat.{eq-or-lt-of-le, le-of-suc-le-suc}
 use native.Mathlib.Numerals.{add-one}
 use native.Mathlib.Omega.{arith}
-use Rattle.graph.specs.Tests.{tally}
-use Rattle.graph.proofs.Bools.{lt-or-le}
+use Rattle.below.specs.Tests.{tally}
+use Rattle.below.proofs.Bools.{lt-or-le}
 use Rattle.representatives.specs.Representative.{resting, newOf}
 
 module _ (p : ℕ → Bool) where

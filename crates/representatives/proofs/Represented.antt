@@ -6,7 +6,7 @@ use mathlib.Core.List.{List}
 use mathlib.Core.Logic.{_↔_}
 use lib.Dec.{eqb}
 use Rattle.graph.specs.declared.Shape.{Shape}
-use Rattle.graph.proofs.Tests.{tally-within}
+use Rattle.below.proofs.Tests.{tally-within}
 use Rattle.lts.specs.Sense.{Normal}
 use Rattle.silent.specs.Silent.{HopOf, leads}
 use Rattle.silent.proofs.Rings.{rank, rank-falls-accepted}

@@ -8,12 +8,12 @@ use mathlib.Core.Logic.{_⊎_, inl, inr, ⊎-elim}
 use native.Mathlib.Omega.{arith}
 use borrow.Author.Tests.{eqb-true, eq-eqb, ne-eqb, not-true, not-false}
 use lib.Dec.{eqb}
-use Rattle.graph.specs.Tests.{any, least}
+use Rattle.below.specs.Tests.{any, least}
 use Rattle.graph.specs.Hops.{count, from, label, to}
 use Rattle.graph.specs.Check.{InRange}
 use Rattle.graph.specs.declared.Shape.{Shape}
-use Rattle.graph.proofs.Bools.{clash, decided, and-yes, and-left, and-right, lt-or-le}
-use Rattle.graph.proofs.Tests.{any-at, any-found, least-passes, least-before, least-within}
+use Rattle.below.proofs.Bools.{clash, decided, and-yes, and-left, and-right, lt-or-le}
+use Rattle.below.proofs.Tests.{any-at, any-found, least-passes, least-before, least-within}
 use Rattle.graph.proofs.Places.{has-place}
 use Rattle.lts.specs.Star.{Star, stay, go}
 use Rattle.lts.specs.Sense.{Normal}

@@ -5,11 +5,11 @@ use mathlib.Core.Path.{_≡_, refl, sym, _∙_}
 use mathlib.Core.List.{List, _++_}
 use native.Mathlib.Omega.{arith}
 use lib.ListN.{getD, length-append, List·getD-append}
-use Rattle.graph.specs.Tests.{tally, listed}
+use Rattle.below.specs.Tests.{tally, listed}
 use Rattle.graph.specs.Hops.{count}
 use Rattle.graph.specs.Check.{most-states}
 use Rattle.graph.specs.declared.Shape.{Shape}
-use Rattle.graph.proofs.Tests.{tally-same, length-listed, getD-listed}
+use Rattle.below.proofs.Tests.{tally-same, length-listed, getD-listed}
 use Rattle.marks.specs.Mark.{markOf, marksOf}
 use Rattle.representatives.specs.Representative.{resting, onward, followed, newOf, repOf, mapOf}
 use Rattle.representatives.specs.Tables.{Reducible, Marks, Onward, Closed, stays, stepped, numbered}

@@ -1,23 +1,14 @@
 // New numbers: "Representatives are renumbered 0, 1, 2 in ascending old order", and the map.
 use super::follow::follow;
 use super::follow::is_at_rest;
-use graph::NewState;
 use graph::OldState;
+use graph::map::map_at;
 ghost use mathlib.Core.Path.{_≡_};
 ghost use mathlib.Core.List.{_++_};
 ghost use Prim.Native.Nat.{ℕ, _<_, _≤_};
 ghost use lib.ListN.{length, getD, drop};
-ghost use Rattle.graph.specs.Tests.{tally, listed};
+ghost use Rattle.below.specs.Tests.{tally, listed};
 ghost use Rattle.representatives.specs.Tables.{Closed, stays, numbered};
-
-// The only way from an old number to a new one.
-pub fn map_at(map: &[u16], s: OldState) -> NewState
-    requires { ⌜ s .0 < length (now map) ⌝ }
-    ensures { λ r. ⌜ r .0 ≡ getD (now (map .entry)) (s .0) 0 ⌝ }
-{
-    let at = s.0 as usize;
-    NewState(map[at])
-}
 
 // How many states below s rest, for each s up to 1,024: the new number of s where s rests.
 pub fn new_numbers(next: &[u16; 1024]) -> [u16; 1025]

@@ -9,13 +9,13 @@ use native.Mathlib.Numerals.{sub-one}
 use native.Mathlib.Omega.{arith}
 use borrow.Author.Tests.{eq-eqb, ne-eqb, eqb-true}
 use lib.Dec.{eqb}
-use Rattle.graph.specs.Tests.{any}
+use Rattle.below.specs.Tests.{any}
 use Rattle.graph.specs.Hops.{count, from, label, to, has}
 use Rattle.graph.specs.Order.{Ascending}
 use Rattle.graph.specs.Search.{firstOf, pastOf, placed}
 use Rattle.graph.specs.declared.Found.the-variants.{At, Gap}
-use Rattle.graph.proofs.Bools.{clash, eq-or-not, and-left, and-right, and-no-right, or-right}
-use Rattle.graph.proofs.Tests.{all-fails, any-found}
+use Rattle.below.proofs.Bools.{clash, eq-or-not, and-left, and-right, and-no-right, or-right}
+use Rattle.below.proofs.Tests.{all-fails, any-found}
 use Rattle.graph.proofs.Places.{has-at, is-from, is-label, is-to}
 use Rattle.graph.proofs.Lookup.{range-holds, range-only, past-within, all-range, any-range, at-place, gap-has}
 use Rattle.confluence.specs.Rounds.{Pairs, closing, leaves, answer, answers, answered, tried, closes, survives}

@@ -14,7 +14,7 @@ use Rattle.graph.specs.Search.{Bracket, firstOf, pastOf}
 use Rattle.graph.specs.Check.{Admitted}
 use Rattle.graph.specs.declared.Hop.{Hop}
 use Rattle.graph.specs.declared.Shape.{Shape}
-use Rattle.graph.proofs.Bools.{clash, lt-or-le, eq-or-not, no-test}
+use Rattle.below.proofs.Bools.{clash, lt-or-le, eq-or-not, no-test}
 use Rattle.graph.proofs.Ordered.{Below, before-below, below-before}
 use Rattle.graph.proofs.Lookup.{lower-law, lower-within, first-law, first-within, first-past, past-within}
 use Rattle.rounds.specs.Index.{Indexed, labelledFrom, labelledPast}

@@ -8,7 +8,7 @@ use native.Mathlib.Omega.{arith}
 use lib.ListN.{length, getD, set, replicate}
 use lib.Seq.{getD-set-same, getD-set-other}
 use Rattle.graph.specs.Hops.{from, to}
-use Rattle.graph.proofs.Bools.{eq-or-not}
+use Rattle.below.proofs.Bools.{eq-or-not}
 use Rattle.confluence.specs.Rounds.{survives}
 use Rattle.rounds.specs.Known.{value, noted, Right}
 

@@ -11,7 +11,7 @@ use Rattle.graph.specs.Hops.{count, from, label, to}
 use Rattle.graph.specs.Check.{accepted, refused, checkOf, Admitted}
 use Rattle.graph.specs.declared.Shape.{Shape}
 use Rattle.graph.specs.declared.Answer.{Answer}
-use Rattle.graph.proofs.Bools.{and-left, and-right, and-no-right}
+use Rattle.below.proofs.Bools.{and-left, and-right, and-no-right}
 use Rattle.graph.proofs.Checked.{check-admitted}
 use Rattle.graph.proofs.Accepts.{both-accept}
 use Rattle.confluence.specs.Rounds.{survives}

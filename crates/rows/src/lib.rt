@@ -8,7 +8,7 @@ use graph::hops::label_at;
 use graph::hops::new_from_at;
 use graph::hops::new_to_at;
 use graph::hops::to_at;
-use representatives::renumber::map_at;
+use graph::map::map_at;
 use text::put_line2;
 use text::put_line3;
 ghost use Prim.Native.Nat.{ℕ, _<_, _≤_};

@@ -5,11 +5,11 @@ use mathlib.Core.Bool.{true}
 use mathlib.Core.List.{List}
 use mathlib.Core.Logic.{_⊎_, inl, inr}
 use native.Mathlib.Omega.{arith}
-use Rattle.graph.specs.Tests.{tally}
+use Rattle.below.specs.Tests.{tally}
 use Rattle.graph.specs.Hops.{count, from, label, to, flat, has}
 use Rattle.graph.specs.Check.{Admitted}
 use Rattle.graph.specs.declared.Shape.{Shape}
-use Rattle.graph.proofs.Tests.{tally-within}
+use Rattle.below.proofs.Tests.{tally-within}
 use Rattle.graph.proofs.Places.{has-at, has-place, length-flat, count-flat}
 use Rattle.lts.specs.Reduction.{Confluent, Rests, Kept, Back, Reduces}
 use Rattle.lts.proofs.Star.{wider}

@@ -5,7 +5,7 @@ use mathlib.Core.Bool.{Bool, true, false, cond}
 use mathlib.Core.List.{List}
 use native.Mathlib.Omega.{arith}
 use lib.ListN.{getD}
-use Rattle.graph.specs.Tests.{tally, listed}
+use Rattle.below.specs.Tests.{tally, listed}
 use Rattle.graph.specs.Hops.{count, from, label, to}
 use Rattle.graph.specs.Check.{most-states}
 use Rattle.graph.specs.declared.Hop.{Hop}

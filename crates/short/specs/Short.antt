@@ -3,7 +3,7 @@
 use Prim.Native.Nat.{ℕ, zero, suc}
 use mathlib.Core.Bool.{cond}
 use mathlib.Core.List.{List, [], _∷_}
-use Rattle.graph.specs.Tests.{tally, listed}
+use Rattle.below.specs.Tests.{tally, listed}
 use Rattle.graph.specs.Hops.{count, from, label, to}
 use Rattle.graph.specs.Order.{before}
 use Rattle.graph.specs.declared.Hop.{Hop}

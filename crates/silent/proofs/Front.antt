@@ -9,9 +9,9 @@ use native.Mathlib.Omega.{arith}
 use borrow.Author.Tests.{eqb-true, eq-eqb, ne-eqb}
 use lib.ListN.{length, getD, set, drop, replicate, length-append, length-drop, length-set, length-replicate}
 use lib.Seq.{drop-cons, set-at, getD-set-same, getD-set-other, drop-set-lt}
-use Rattle.graph.specs.Tests.{tally}
-use Rattle.graph.proofs.Bools.{clash, eq-or-not}
-use Rattle.graph.proofs.Tests.{tally-less, tally-within}
+use Rattle.below.specs.Tests.{tally}
+use Rattle.below.proofs.Bools.{clash, eq-or-not}
+use Rattle.below.proofs.Tests.{tally-less, tally-within}
 use Rattle.silent.specs.Silent.{SilentOf}
 use Rattle.silent.specs.Reach.{noted, seenWith, queueWith, tailWith, Front, Grown}
 

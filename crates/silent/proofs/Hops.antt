@@ -13,7 +13,7 @@ use Rattle.graph.specs.Search.{firstOf, pastOf}
 use Rattle.graph.specs.Check.{InRange}
 use Rattle.graph.specs.declared.Hop.{Hop}
 use Rattle.graph.specs.declared.Shape.{Shape}
-use Rattle.graph.proofs.Bools.{and-left, and-right, and-yes, lt-or-le}
+use Rattle.below.proofs.Bools.{and-left, and-right, and-yes, lt-or-le}
 use Rattle.graph.proofs.Places.{has-place, place-has}
 use Rattle.graph.proofs.Ordered.{Below, before-below, below-before}
 use Rattle.graph.proofs.Lookup.{lower-law, lower-within, first-law, first-within, range-holds, range-only}

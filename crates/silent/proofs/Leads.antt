@@ -7,13 +7,13 @@ use mathlib.Core.List.{List}
 use mathlib.Core.Logic.{_⊎_, inl, inr, ⊎-elim, _↔_}
 use borrow.Author.Tests.{eqb-true, eq-eqb, not-false}
 use lib.Dec.{eqb}
-use Rattle.graph.specs.Tests.{any}
+use Rattle.below.specs.Tests.{any}
 use Rattle.graph.specs.Hops.{count, to}
 use Rattle.graph.specs.Check.{InRange}
 use Rattle.graph.specs.declared.Shape.{Shape}
-use Rattle.graph.proofs.Bools.{and-left, and-right, and-yes, or-left, or-right, or-yes, not-yes}
-use Rattle.graph.proofs.Tests.{any-at, any-found, any-same}
-use Rattle.graph.proofs.Chains.{Falling, Still, still-at-last}
+use Rattle.below.proofs.Bools.{and-left, and-right, and-yes, or-left, or-right, or-yes, not-yes}
+use Rattle.below.proofs.Tests.{any-at, any-found, any-same}
+use Rattle.below.proofs.Chains.{Falling, Still, still-at-last}
 use Rattle.lts.specs.Star.{stay, go}
 use Rattle.silent.specs.Silent.{Leads, silentFrom, leads}
 use Rattle.silent.proofs.Hops.{silent-here, silent-place, silent-start}

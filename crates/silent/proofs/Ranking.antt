@@ -8,12 +8,12 @@ use mathlib.Core.Logic.{_⊎_, inl, inr, ⊎-elim}
 use native.Mathlib.Omega.{arith}
 use borrow.Author.Tests.{not-true}
 use lib.ListN.{length, set, replicate, getD-replicate}
-use Rattle.graph.specs.Tests.{all}
+use Rattle.below.specs.Tests.{all}
 use Rattle.graph.specs.Hops.{count, to}
 use Rattle.graph.specs.Check.{InRange}
 use Rattle.graph.specs.declared.Shape.{Shape}
-use Rattle.graph.proofs.Bools.{clash, decided, or-left, or-right, or-no, or-yes, not-yes, not-no}
-use Rattle.graph.proofs.Tests.{all-at, all-fails, tally-less, tally-within}
+use Rattle.below.proofs.Bools.{clash, decided, or-left, or-right, or-no, or-yes, not-yes, not-no}
+use Rattle.below.proofs.Tests.{all-at, all-fails, tally-less, tally-within}
 use Rattle.graph.proofs.Lookup.{all-range}
 use Rattle.lts.specs.Star.{stay, go}
 use Rattle.lts.proofs.Star.{one, join}

@@ -8,12 +8,12 @@ use mathlib.Core.Logic.{⊎-elim, _↔_}
 use native.Mathlib.Omega.{arith}
 use borrow.Author.Tests.{ltb-false, le-ltb}
 use lib.Dec.{ltb}
-use Rattle.graph.specs.Tests.{tally}
+use Rattle.below.specs.Tests.{tally}
 use Rattle.graph.specs.Hops.{count, to}
 use Rattle.graph.specs.Check.{InRange, refused, accepted}
 use Rattle.graph.specs.declared.Shape.{Shape}
-use Rattle.graph.proofs.Bools.{clash, and-left, and-right, and-yes, no-test, lt-or-le}
-use Rattle.graph.proofs.Tests.{any-at, any-found, least-passes, least-before, least-is, tally-less}
+use Rattle.below.proofs.Bools.{clash, and-left, and-right, and-yes, no-test, lt-or-le}
+use Rattle.below.proofs.Tests.{any-at, any-found, least-passes, least-before, least-is, tally-less}
 use Rattle.lts.specs.Star.{go}
 use Rattle.silent.specs.Silent.{SilentOf, OnRing, silentFrom, leads, onRing, lowestOnRing, ringless}
 use Rattle.silent.proofs.Hops.{silent-here, silent-place, silent-start}

@@ -11,7 +11,7 @@ use Rattle.graph.specs.Hops.{count, to}
 use Rattle.graph.specs.Search.{firstOf}
 use Rattle.graph.specs.Check.{Admitted}
 use Rattle.graph.specs.declared.Shape.{Shape}
-use Rattle.graph.proofs.Bools.{eq-or-not}
+use Rattle.below.proofs.Bools.{eq-or-not}
 use Rattle.silent.specs.Silent.{silentFrom}
 use Rattle.silent.specs.Reach.{noted, silentPast, seenWith, queueWith, tailWith, Front, Grown, Spread}
 use Rattle.silent.proofs.Hops.{silent-here, silent-place, silent-within, silent-only, silent-past-within}

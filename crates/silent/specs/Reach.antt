@@ -7,7 +7,7 @@ use mathlib.Core.List.{List}
 use mathlib.Core.Logic.{_⊎_}
 use lib.ListN.{length, getD, set, drop}
 use lib.Dec.{eqb}
-use Rattle.graph.specs.Tests.{tally, listed}
+use Rattle.below.specs.Tests.{tally, listed}
 use Rattle.graph.specs.Search.{lower}
 use Rattle.silent.specs.Silent.{SilentOf, leads}
 

@@ -5,7 +5,7 @@ use mathlib.Core.Path.{_≡_}
 use mathlib.Core.Bool.{Bool, true, not, _&&_, _||_}
 use mathlib.Core.List.{List}
 use lib.Dec.{eqb}
-use Rattle.graph.specs.Tests.{all, tally}
+use Rattle.below.specs.Tests.{all, tally}
 use Rattle.graph.specs.Hops.{count, from, label, to}
 use Rattle.silent.specs.Silent.{OnRing, silentFrom}
 use Rattle.silent.specs.Reach.{noted}

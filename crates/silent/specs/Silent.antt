@@ -4,7 +4,7 @@ use mathlib.Core.Path.{_≡_}
 use mathlib.Core.Bool.{Bool, true, cond, _&&_, _||_}
 use mathlib.Core.List.{List}
 use lib.Dec.{eqb, ltb}
-use Rattle.graph.specs.Tests.{any, least}
+use Rattle.below.specs.Tests.{any, least}
 use Rattle.graph.specs.Hops.{count, from, label, to, has}
 use Rattle.graph.specs.Check.{accepted, refused}
 use Rattle.graph.specs.declared.Shape.{Shape}

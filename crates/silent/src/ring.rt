@@ -12,7 +12,7 @@ use starts::starts_of;
 ghost use mathlib.Core.Path.{_≡_};
 ghost use Prim.Native.Nat.{_<_, _≤_};
 ghost use lib.ListN.{length};
-ghost use Rattle.graph.specs.Tests.{any};
+ghost use Rattle.below.specs.Tests.{any};
 ghost use Rattle.graph.specs.Hops.{count};
 ghost use Rattle.graph.specs.Check.{Admitted};
 ghost use Rattle.starts.specs.Starts.{Tabled};

@@ -12,7 +12,7 @@ use Rattle.graph.specs.Order.{Ascending}
 use Rattle.graph.specs.Check.{most-states, Admitted}
 use Rattle.graph.specs.Search.{firstOf}
 use Rattle.graph.specs.declared.Shape.{Shape}
-use Rattle.graph.proofs.Bools.{lt-or-le}
+use Rattle.below.proofs.Bools.{lt-or-le}
 use Rattle.graph.proofs.Lookup.{first-law, first-within}
 use Rattle.starts.specs.Starts.{Table, Ready}
 

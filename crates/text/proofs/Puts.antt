@@ -9,11 +9,11 @@ use native.Mathlib.Omega.{arith}
 use borrow.Author.Tests.{lt-ltb, le-ltb}
 use lib.ListN.{length, set, length-append, length-drop}
 use lib.Seq.{set-split, length-take-le}
-use Rattle.fields.specs.Front.{over}
-use Rattle.fields.proofs.Front.{over-none, over-then}
+use Rattle.outputs.specs.Output.{overAt}
+use Rattle.outputs.proofs.Front.{over-none, over-then}
 use Rattle.text.specs.Text.{digits, decimal, spaced, ending, line, lines, Room, Put}
 
-length-over : (at : ℕ) (text old : List ℕ) → at + length text ≤ length old → length (over at text old) ≡ length old
+length-over : (at : ℕ) (text old : List ℕ) → at + length text ≤ length old → length (overAt at text old) ≡ length old
 length-over at text old l = rw (length-append, length-append, length-drop, length-take-le at old (omega arith)) (omega arith)
 
 pub put-none : (old : List ℕ) (at : ℕ) → Put old at [] at old
@@ -44,7 +44,7 @@ module _ (a b : List ℕ) {old : List ℕ} {at : ℕ} (room : Room at (a ++ b) o
     pub put-then : {new : List ℕ} {r : ℕ} → Put mid k b r new → Put old at (a ++ b) r new
     put-then {r = r} q = record {
       follows = omega (arith, length-append a b);
-      stands = q .stands ∙ ap (over k b) (p .stands) ∙ over-then at a b old (p .follows) (omega (arith, room-first .fits));
+      stands = q .stands ∙ ap (overAt k b) (p .stands) ∙ over-then at a b old (p .follows) (omega (arith, room-first .fits));
     }
 
 -- the digits of a number

@@ -6,7 +6,7 @@ use mathlib.Core.Bool.{cond}
 use mathlib.Core.List.{List, [], _∷_, _++_}
 use lib.ListN.{length}
 use lib.Dec.{ltb}
-use Rattle.fields.specs.Front.{over}
+use Rattle.outputs.specs.Output.{overAt}
 
 -- the last k digits of a number at most, and no zero in front (48 is the digit 0)
 unfoldable pub digits : ℕ → ℕ → List ℕ
@@ -66,4 +66,4 @@ pub record Room (at : ℕ) (text buffer : List ℕ) : Type 0 where
 -- the text was put into the buffer from place `at` on, over what was there and over nothing else; `next` is the place behind it
 pub record Put (old : List ℕ) (at : ℕ) (text : List ℕ) (next : ℕ) (new : List ℕ) : Type 0 where
   pub follows : next ≡ at + length text
-  pub stands : new ≡ over at text old
+  pub stands : new ≡ overAt at text old

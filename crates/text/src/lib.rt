@@ -1,5 +1,5 @@
 // Text put into a buffer: each function puts one text at a place, over what was there, and returns the place behind it.
-use writer::writing::put_bytes;
+use outputs::put_bytes;
 ghost use mathlib.Core.List.{[], _∷_};
 ghost use Rattle.text.specs.Text.{digits, spaced, line, Room, Put};
 

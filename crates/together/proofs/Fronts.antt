@@ -12,7 +12,7 @@ use Rattle.graph.specs.Hops.{count, flat, between}
 use Rattle.graph.specs.Check.{accepted}
 use Rattle.graph.specs.declared.Shape.{Shape}
 use Rattle.graph.specs.declared.Answer.{Answer}
-use Rattle.graph.proofs.Tests.{length-listed}
+use Rattle.below.proofs.Tests.{length-listed}
 use Rattle.graph.proofs.Places.{length-flat}
 use Rattle.representatives.specs.Representative.{mapOf}
 use Rattle.short.specs.Short.{shortHops, shortShape, mapList}

@@ -5,12 +5,13 @@ use mathlib.Core.Path.{_≡_, refl, sym}
 use mathlib.Core.List.{List}
 use Rattle.graph.specs.Hops.{flat}
 use Rattle.graph.specs.declared.Shape.{Shape}
-use Rattle.graph.proofs.Tests.{length-listed, getD-listed}
+use Rattle.below.proofs.Tests.{length-listed, getD-listed}
 use Rattle.representatives.specs.Representative.{mapOf}
 use Rattle.representatives.specs.Tables.{Reducible}
 use Rattle.short.specs.Short.{shortHops, shortShape, mapList}
 use Rattle.short.proofs.Reduced.{map-inside, short-admitted, short-reduces}
-use Rattle.faults.specs.Faults.{mapped, faultsOf}
+use Rattle.graph.specs.Map.{mapped}
+use Rattle.faults.specs.Faults.{faultsOf}
 use Rattle.bisimulation.specs.Bisimulation.{BranchingBisimulation, MapRelation, JoinsInitial}
 use Rattle.bisimulation.specs.Auditing.{auditOf}
 use Rattle.bisimulation.proofs.Meaning.{zero-means, reduces-zero}

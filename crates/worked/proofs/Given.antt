@@ -1,6 +1,6 @@
 -- The definitions give every figure of the table of graphs worked by hand: one proof, by computation. Assumes nothing.
 use mathlib.Core.Path.{_≡_, refl}
-use Rattle.graph.specs.Tests.{all, any, least, listed, tally, total}
+use Rattle.below.specs.Tests.{all, any, least, listed, tally, total}
 use Rattle.graph.specs.Hops.{flat, is, has}
 use Rattle.graph.specs.Order.{before}
 use Rattle.graph.specs.Check.{checkOf, countsFit, inside, firstOutside, rises, firstFalling}

@@ -5,7 +5,7 @@ use mathlib.Core.Bool.{cond, not, _&&_}
 use mathlib.Core.List.{List, [], _∷_, map}
 use lib.ListN.{length}
 use lib.Dec.{eqb}
-use Rattle.graph.specs.Tests.{least, listed}
+use Rattle.below.specs.Tests.{least, listed}
 use Rattle.graph.specs.Hops.{count, from, label, to, flat}
 use Rattle.graph.specs.Check.{accepted, refused}
 use Rattle.graph.specs.declared.Hop.{Hop}

@@ -10,10 +10,10 @@ use lib.ListN.{length, take, set, getD, length-append}
 use lib.Seq.{take-suc, take-all, length-take-le, set-split}
 use Rattle.graph.specs.Hops.{count}
 use Rattle.graph.specs.declared.Shape.{Shape}
-use Rattle.graph.proofs.Bools.{eq-or-not}
-use Rattle.fields.specs.Front.{onFront, over}
+use Rattle.below.proofs.Bools.{eq-or-not}
+use Rattle.outputs.specs.Output.{onFront, overAt}
 use Rattle.writer.specs.Encode.{number, numbers, initialBytes, hopBytes, headBytes, bitsOf, encode}
-use Rattle.fields.proofs.Front.{over-none, over-more, over-then, front-then, front-next}
+use Rattle.outputs.proofs.Front.{over-none, over-more, over-then, front-then, front-next}
 
 pub length-numbers : (xs : List ℕ) → length (numbers xs) ≡ 2 * length xs
 unfolding numbers
@@ -58,56 +58,43 @@ module _ (hs : List ℕ) where
 
 -- the parts of a file as they are put into an output
 module _ (at : ℕ) (old : List ℕ) where
-  pub number-put : (x y : ℕ) → at + 2 ≤ length old → set (set old at x) (at + 1) y ≡ over at (x ∷ y ∷ []) old
+  pub number-put : (x y : ℕ) → at + 2 ≤ length old → set (set old at x) (at + 1) y ≡ overAt at (x ∷ y ∷ []) old
   number-put x y l = rw first (over-more at (x ∷ []) old y (omega arith)) where
-    first : set old at x ≡ over at (x ∷ []) old
+    first : set old at x ≡ overAt at (x ∷ []) old
     first = set-split old at x (omega arith) ∙ rw add-one
 
-  pub initial-put-none : (sh : Shape) → sh .initial ≡ 0 → old ≡ over at (initialBytes sh) old
+  pub initial-put-none : (sh : Shape) → sh .initial ≡ 0 → old ≡ overAt at (initialBytes sh) old
   initial-put-none sh e = rw (initial-none sh e) (over-none at old)
 
-  pub initial-put : (sh : Shape) {out : List ℕ} → (sh .initial ≡ 0 → ⊥) → out ≡ over at (number (sh .initial)) old → out ≡ over at (initialBytes sh) old
+  pub initial-put : (sh : Shape) {out : List ℕ} → (sh .initial ≡ 0 → ⊥) → out ≡ overAt at (number (sh .initial)) old → out ≡ overAt at (initialBytes sh) old
   initial-put sh n e = rw (initial-some sh n) e
 
   module _ (hs : List ℕ) where
-    pub numbers-none : old ≡ over at (numbers (take 0 hs)) old
+    pub numbers-none : old ≡ overAt at (numbers (take 0 hs)) old
     unfolding numbers
     numbers-none = over-none at old
 
-    pub numbers-more : {out out' : List ℕ} {i : ℕ} → out ≡ over at (numbers (take i hs)) old → out' ≡ over (at + 2 * i) (number (getD hs i 0)) out → i < length hs →
-        at + 2 * length hs ≤ length old → out' ≡ over at (numbers (take (i + 1) hs)) old
+    pub numbers-more : {out out' : List ℕ} {i : ℕ} → out ≡ overAt at (numbers (take i hs)) old → out' ≡ overAt (at + 2 * i) (number (getD hs i 0)) out → i < length hs →
+        at + 2 * length hs ≤ length old → out' ≡ overAt at (numbers (take (i + 1) hs)) old
     numbers-more {i = i} e d l f =
-        rw (numbers-take hs i l) (d ∙ ap (over (at + 2 * i) (number (getD hs i 0))) e ∙ over-then at (numbers (take i hs)) (number (getD hs i 0)) old {k = at + 2 * i} (omega (arith, length-numbers (take i hs), length-take-le i hs (omega arith))) (omega arith))
+        rw (numbers-take hs i l) (d ∙ ap (overAt (at + 2 * i) (number (getD hs i 0))) e ∙ over-then at (numbers (take i hs)) (number (getD hs i 0)) old {k = at + 2 * i} (omega (arith, length-numbers (take i hs), length-take-le i hs (omega arith))) (omega arith))
 
-    pub numbers-done : {out : List ℕ} {i : ℕ} → out ≡ over at (numbers (take i hs)) old → i ≤ length hs → length hs ≤ i → out ≡ over at (numbers hs) old
+    pub numbers-done : {out : List ℕ} {i : ℕ} → out ≡ overAt at (numbers (take i hs)) old → i ≤ length hs → length hs ≤ i → out ≡ overAt at (numbers hs) old
     numbers-done {i = i} e l m = rw (take-all i hs m) at e
 
-    pub bytes-none : old ≡ over at (take 0 hs) old
-    bytes-none = over-none at old
-
-    pub bytes-more : {out : List ℕ} {i : ℕ} → out ≡ over at (take i hs) old → i < length hs → at + length hs ≤ length old →
-        set out (at + i) (getD hs i 0) ≡ over at (take (i + 1) hs) old
-    bytes-more {i = i} e l f =
-        rw (e, add-one, take-suc hs i 0 l) (ap (λ (n : ℕ). set (over at (take i hs) old) (at + n) (getD hs i 0)) (sym sized) ∙ over-more at (take i hs) old (getD hs i 0) (omega (arith, sized))) where
-          sized : length (take i hs) ≡ i
-          sized = length-take-le i hs (omega arith)
-
-    pub bytes-done : {out : List ℕ} {i : ℕ} → out ≡ over at (take i hs) old → i ≤ length hs → length hs ≤ i → out ≡ over at hs old
-    bytes-done {i = i} e l m = rw (take-all i hs m) at e
-
-    pub hops-put-none : {n : ℕ} → n ≡ count hs → n ≡ 0 → old ≡ over at (hopBytes hs) old
+    pub hops-put-none : {n : ℕ} → n ≡ count hs → n ≡ 0 → old ≡ overAt at (hopBytes hs) old
     hops-put-none e z = rw (hops-none hs (sym e ∙ z)) (over-none at old)
 
-    pub hops-put : {n : ℕ} {out out' : List ℕ} → n ≡ count hs → (n ≡ 0 → ⊥) → out ≡ over at (number n) old → out' ≡ over (at + 2) (numbers hs) out →
-        at + 2 ≤ length old → out' ≡ over at (hopBytes hs) old
+    pub hops-put : {n : ℕ} {out out' : List ℕ} → n ≡ count hs → (n ≡ 0 → ⊥) → out ≡ overAt at (number n) old → out' ≡ overAt (at + 2) (numbers hs) out →
+        at + 2 ≤ length old → out' ≡ overAt at (hopBytes hs) old
     hops-put {n} e z d f l =
-        rw (hops-some hs (λ y. z (e ∙ y)), ← e) (f ∙ ap (over (at + 2) (numbers hs)) d ∙ over-then at (number n) (numbers hs) old refl l)
+        rw (hops-some hs (λ y. z (e ∙ y)), ← e) (f ∙ ap (overAt (at + 2) (numbers hs)) d ∙ over-then at (number n) (numbers hs) old refl l)
 
-pub head-put : (sh : Shape) (bits : ℕ) (old : List ℕ) {one two three : List ℕ} → 5 ≤ length old → one ≡ set old 0 bits → two ≡ over 1 (number (sh .states)) one →
-    three ≡ over 3 (number (sh .labels)) two → three ≡ onFront (headBytes sh bits) old
+pub head-put : (sh : Shape) (bits : ℕ) (old : List ℕ) {one two three : List ℕ} → 5 ≤ length old → one ≡ set old 0 bits → two ≡ overAt 1 (number (sh .states)) one →
+    three ≡ overAt 3 (number (sh .labels)) two → three ≡ onFront (headBytes sh bits) old
 unfolding headBytes
 head-put sh bits old l p q r =
-    r ∙ ap (over 3 (number (sh .labels))) (q ∙ ap (over 1 (number (sh .states))) (p ∙ first) ∙ front-then (bits ∷ []) (number (sh .states)) old) ∙
+    r ∙ ap (overAt 3 (number (sh .labels))) (q ∙ ap (overAt 1 (number (sh .states))) (p ∙ first) ∙ front-then (bits ∷ []) (number (sh .states)) old) ∙
     front-then ((bits ∷ []) ++ number (sh .states)) (number (sh .labels)) old where
       first : set old 0 bits ≡ onFront (bits ∷ []) old
       first = set-split old 0 bits (omega arith)
@@ -127,7 +114,7 @@ module _ (sh : Shape) (hs ns : List ℕ) where
   encode-left = simp append-assoc
 
   pub file-put : (old : List ℕ) {one two three four : List ℕ} {bits h n : ℕ} → bits ≡ bitsOf sh hs ns → h ≡ 5 + length (initialBytes sh) → n ≡ h + length (hopBytes hs) →
-      one ≡ onFront (headBytes sh bits) old → two ≡ over 5 (initialBytes sh) one → three ≡ over h (hopBytes hs) two → four ≡ over n ns three →
+      one ≡ onFront (headBytes sh bits) old → two ≡ overAt 5 (initialBytes sh) one → three ≡ overAt h (hopBytes hs) two → four ≡ overAt n ns three →
       four ≡ onFront (encode sh hs ns) old
   file-put old {h = h} {n = n} z a b p q r s =
       rw (← encode-left)

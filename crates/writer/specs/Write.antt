@@ -8,7 +8,7 @@ use Rattle.graph.specs.Check.{accepted, refused, andThen, roomFor, checkOf}
 use Rattle.graph.specs.declared.Shape.{Shape}
 use Rattle.graph.specs.declared.Answer.{Answer}
 use Rattle.names.specs.Block.{nameAt, firstBad}
-use Rattle.fields.specs.Front.{onFront}
+use Rattle.outputs.specs.Output.{onFront}
 use Rattle.writer.specs.Encode.{encode}
 use Rattle.writer.specs.declared.Written.{Written}
 

@@ -8,12 +8,13 @@ use graph::limits::check;
 use graph::limits::refuse;
 use names::end_of;
 use names::first_bad;
+use outputs::put_bytes;
 ghost use mathlib.Core.Path.{_≡_};
 ghost use Prim.Native.Nat.{_+_, _*_, _<_, _≤_};
 ghost use mathlib.Core.Bool.{cond};
 ghost use lib.ListN.{length};
 ghost use Rattle.graph.specs.Hops.{count};
-ghost use Rattle.fields.specs.Front.{onFront, over};
+ghost use Rattle.outputs.specs.Output.{onFront, overAt};
 ghost use Rattle.writer.specs.Encode.{number, numbers, bitsOf, initialBytes, hopBytes, headBytes, encode};
 ghost use Rattle.writer.specs.Write.{blockAnswer, graphAnswer, writeAnswer, nothingWritten, writeOf, writeBytes, Writable};
 
@@ -96,7 +97,7 @@ fn bits_of(shape: Shape, hops: &[u16], names: &[u8]) -> u8
 // A number at a place of the output, low byte first.
 fn put_number(out: &mut [u8], at: usize, n: u16)
     requires { ⌜ at + 2 ≤ length (now out) ⌝ }
-    ensures { λ _. ⌜ now (out .exit) ≡ over at (number n) (now (out .entry)) ⌝ }
+    ensures { λ _. ⌜ now (out .exit) ≡ overAt at (number n) (now (out .entry)) ⌝ }
 {
     out[at] = (n % 256) as u8;
     out[at + 1] = (n / 256) as u8;
@@ -105,7 +106,7 @@ fn put_number(out: &mut [u8], at: usize, n: u16)
 fn put_initial(out: &mut [u8], at: usize, shape: Shape)
     requires { ⌜ shape .initial < 65536 ⌝ }
     requires { ⌜ at + length (initialBytes shape) ≤ length (now out) ⌝ }
-    ensures { λ _. ⌜ now (out .exit) ≡ over at (initialBytes shape) (now (out .entry)) ⌝ }
+    ensures { λ _. ⌜ now (out .exit) ≡ overAt at (initialBytes shape) (now (out .entry)) ⌝ }
 {
     if shape.initial != 0 {
         put_number(out, at, shape.initial as u16);
@@ -114,7 +115,7 @@ fn put_initial(out: &mut [u8], at: usize, shape: Shape)
 
 fn put_numbers(out: &mut [u8], at: usize, hops: &[u16])
     requires { ⌜ at + 2 * length (now hops) ≤ length (now out) ⌝ }
-    ensures { λ _. ⌜ now (out .exit) ≡ over at (numbers (now (hops .entry))) (now (out .entry)) ⌝ }
+    ensures { λ _. ⌜ now (out .exit) ≡ overAt at (numbers (now (hops .entry))) (now (out .entry)) ⌝ }
 {
     let mut i: usize = 0;
     while i < hops.len() {
@@ -126,24 +127,12 @@ fn put_numbers(out: &mut [u8], at: usize, hops: &[u16])
 fn put_hops(out: &mut [u8], at: usize, hops: &[u16])
     requires { ⌜ length (now hops) ≤ 12288 ⌝ }
     requires { ⌜ at + length (hopBytes (now hops)) ≤ length (now out) ⌝ }
-    ensures { λ _. ⌜ now (out .exit) ≡ over at (hopBytes (now (hops .entry))) (now (out .entry)) ⌝ }
+    ensures { λ _. ⌜ now (out .exit) ≡ overAt at (hopBytes (now (hops .entry))) (now (out .entry)) ⌝ }
 {
     let n = hop_count(hops);
     if n != 0 {
         put_number(out, at, n as u16);
         put_numbers(out, at + 2, hops);
-    }
-}
-
-// Bytes at a place of the output.
-pub fn put_bytes(out: &mut [u8], at: usize, bytes: &[u8])
-    requires { ⌜ at + length (now bytes) ≤ length (now out) ⌝ }
-    ensures { λ _. ⌜ now (out .exit) ≡ over at (now (bytes .entry)) (now (out .entry)) ⌝ }
-{
-    let mut i: usize = 0;
-    while i < bytes.len() {
-        out[at + i] = bytes[i];
-        i += 1;
     }
 }
 

@@ -7,10 +7,10 @@ use native.Mathlib.Omega.{arith}
 use borrow.Author.Tests.{lt-ltb, le-ltb}
 use lib.ListN.{length}
 use lib.Dec.{ltb}
-use Rattle.graph.specs.Tests.{least}
-use Rattle.graph.proofs.Bools.{not-yes, not-no}
-use Rattle.graph.proofs.Tests.{least-none, least-more, least-found, least-done}
-use Rattle.faults.specs.Faults.{mapped}
+use Rattle.below.specs.Tests.{least}
+use Rattle.below.proofs.Bools.{not-yes, not-no}
+use Rattle.below.proofs.Tests.{least-none, least-more, least-found, least-done}
+use Rattle.graph.specs.Map.{mapped}
 use Rattle.bisimulation.specs.Auditing.{firstHigh}
 use Rattle.bisimulation.proofs.auditing.first_high.Statement.{statement}
 use Rattle.bisimulation.proofs.auditing.first_high.Tie as tie

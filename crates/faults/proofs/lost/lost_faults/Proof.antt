@@ -5,9 +5,9 @@ use mathlib.Core.Path.{_≡_, sym, ap, _∙_}
 use mathlib.Core.Bool.{not}
 use mathlib.Core.Logic.{⊎-elim}
 use native.Mathlib.Omega.{arith}
-use Rattle.graph.specs.Tests.{tally}
+use Rattle.below.specs.Tests.{tally}
 use Rattle.graph.specs.Hops.{count}
-use Rattle.graph.proofs.Tests.{tally-none, tally-more, tally-skip, tally-done, tally-within}
+use Rattle.below.proofs.Tests.{tally-none, tally-more, tally-skip, tally-done, tally-within}
 use Rattle.faults.specs.Faults.{kept, lostFaults}
 use Rattle.faults.proofs.lost.lost_faults.Statement.{statement}
 use Rattle.faults.proofs.lost.lost_faults.Tie as tie

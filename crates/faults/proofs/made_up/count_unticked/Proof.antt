@@ -4,10 +4,10 @@ use Prim.Native.Nat.{ℕ, _+_, _≤_, _-_}
 use mathlib.Core.Path.{_≡_, sym, ap, _∙_}
 use mathlib.Core.Logic.{⊎-elim}
 use native.Mathlib.Omega.{arith}
-use Rattle.graph.specs.Tests.{tally}
+use Rattle.below.specs.Tests.{tally}
 use Rattle.graph.specs.Hops.{count}
 use Rattle.graph.specs.Search.{firstOf}
-use Rattle.graph.proofs.Tests.{tally-more, tally-skip, tally-within}
+use Rattle.below.proofs.Tests.{tally-more, tally-skip, tally-within}
 use Rattle.graph.proofs.Lookup.{first-within}
 use Rattle.starts.proofs.Firsts.{first-next, start-is}
 use Rattle.faults.specs.Ticks.{unticked}

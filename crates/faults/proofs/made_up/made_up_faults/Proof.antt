@@ -4,8 +4,8 @@ use Prim.Native.Nat.{_+_, _≤_, _-_}
 use mathlib.Core.Path.{_≡_, sym, _∙_}
 use native.Mathlib.Omega.{arith}
 use lib.ListN.{length}
-use Rattle.graph.specs.Tests.{total}
-use Rattle.graph.proofs.Tests.{total-none, total-more, total-done}
+use Rattle.below.specs.Tests.{total}
+use Rattle.below.proofs.Tests.{total-none, total-more, total-done}
 use Rattle.faults.specs.Ticks.{Fresh, madeUpOf}
 use Rattle.faults.proofs.Ticking.{by-states, partial-most}
 use Rattle.faults.proofs.made_up.made_up_faults.Statement.{statement}

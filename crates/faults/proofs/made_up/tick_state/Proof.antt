@@ -9,10 +9,10 @@ use lib.ListN.{length, getD}
 use lib.Dec.{eqb}
 use Rattle.graph.specs.Hops.{count}
 use Rattle.graph.specs.Search.{firstOf}
-use Rattle.graph.proofs.Bools.{and-yes, and-left, and-right}
+use Rattle.below.proofs.Bools.{and-yes, and-left, and-right}
 use Rattle.graph.proofs.Lookup.{first-within}
 use Rattle.starts.proofs.Firsts.{first-next, start-is}
-use Rattle.faults.specs.Faults.{mapped}
+use Rattle.graph.specs.Map.{mapped}
 use Rattle.faults.specs.Ticks.{TickedOn}
 use Rattle.faults.proofs.Rows.{on-none, on-done, state-skipped, state-more}
 use Rattle.faults.proofs.made_up.tick_state.Statement.{statement}

@@ -6,7 +6,7 @@ use mathlib.Core.List.{_++_}
 use native.Mathlib.Omega.{arith}
 use borrow.Author.Needs.{needs}
 use lib.ListN.{length, drop}
-use Rattle.graph.specs.Tests.{listed}
+use Rattle.below.specs.Tests.{listed}
 use Rattle.graph.specs.Hops.{count}
 use Rattle.marks.specs.Sweep.{firstMark}
 use Rattle.marks.proofs.Sweeping.{first-silent, first-visible}

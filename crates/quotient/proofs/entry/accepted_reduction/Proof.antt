@@ -3,7 +3,7 @@ use native.Mathlib.Omega.{arith}
 use Rattle.starts.proofs.Firsts.{admitted-ready}
 use Rattle.representatives.proofs.Tabled.{tabled-closed}
 use Rattle.quotient.proofs.Tabled.{reduced-map, reduced-short, reduced-returns}
-use Rattle.graph.proofs.Tests.{tally-within}
+use Rattle.below.proofs.Tests.{tally-within}
 use Rattle.representatives.specs.Tables.{stays}
 use borrow.Author.Needs.{needs}
 use Rattle.quotient.proofs.entry.accepted_reduction.Statement.{statement}

@@ -3,10 +3,10 @@ use Prim.Native.Nat.{ℕ, _+_, _*_, _-_, _≤_}
 use mathlib.Core.Path.{_≡_, refl}
 use native.Mathlib.Omega.{arith}
 use lib.ListN.{length, length-set}
-use Rattle.graph.specs.Tests.{listed}
+use Rattle.below.specs.Tests.{listed}
 use Rattle.fields.specs.Format.{numberAt}
-use Rattle.fields.specs.Front.{onFront}
-use Rattle.fields.proofs.Front.{listed-none, listed-more, listed-done}
+use Rattle.outputs.specs.Output.{onFront}
+use Rattle.outputs.proofs.Front.{listed-none, listed-more, listed-done}
 use borrow.Author.Needs.{needs}
 use Rattle.reader.proofs.reading.copy_numbers.Statement.{statement}
 use Rattle.reader.proofs.reading.copy_numbers.Tie as tie

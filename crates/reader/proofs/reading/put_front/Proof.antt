@@ -4,9 +4,9 @@ use mathlib.Core.Path.{_≡_, refl, _∙_, ap}
 use mathlib.Core.List.{List}
 use native.Mathlib.Omega.{arith}
 use lib.ListN.{length, getD, length-set}
-use Rattle.graph.specs.Tests.{listed}
-use Rattle.fields.specs.Front.{onFront}
-use Rattle.fields.proofs.Front.{listed-none, listed-more, listed-done, listed-self}
+use Rattle.below.specs.Tests.{listed}
+use Rattle.outputs.specs.Output.{onFront}
+use Rattle.outputs.proofs.Front.{listed-none, listed-more, listed-done, listed-self}
 use borrow.Author.Needs.{needs}
 use Rattle.reader.proofs.reading.put_front.Statement.{statement}
 use Rattle.reader.proofs.reading.put_front.Tie as tie

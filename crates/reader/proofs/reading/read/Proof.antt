@@ -5,7 +5,7 @@ use mathlib.Core.List.{List}
 use native.Mathlib.Omega.{arith}
 use Prim.Native.Nat.{ℕ}
 use Rattle.graph.specs.Hops.{numberPlace}
-use Rattle.fields.specs.Front.{onFront}
+use Rattle.outputs.specs.Output.{onFront}
 use Rattle.reader.proofs.Entry.{length-hop-list, hops-part, read-accepts, hops-most, refused-gives, accepted-gives}
 use Rattle.reader.proofs.reading.read.Statement.{statement}
 use Rattle.reader.proofs.reading.read.Tie as tie

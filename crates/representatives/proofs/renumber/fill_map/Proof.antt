@@ -4,7 +4,7 @@ use mathlib.Core.Path.{_≡_, refl, ap, _∙_}
 use mathlib.Core.List.{_++_}
 use native.Mathlib.Omega.{arith}
 use lib.ListN.{length, getD, drop}
-use Rattle.graph.specs.Tests.{listed}
+use Rattle.below.specs.Tests.{listed}
 use Rattle.representatives.specs.Tables.{numbered}
 use Rattle.marks.proofs.Writing.{listed-more, length-so-far}
 use Rattle.representatives.proofs.Nexts.{stepped-in}

@@ -4,8 +4,8 @@ use mathlib.Core.Path.{_≡_, sym, ap, _∙_}
 use mathlib.Core.Logic.{⊎-elim}
 use native.Mathlib.Omega.{arith}
 use lib.ListN.{length, getD, length-set, length-replicate, getD-replicate}
-use Rattle.graph.specs.Tests.{tally}
-use Rattle.graph.proofs.Tests.{tally-within}
+use Rattle.below.specs.Tests.{tally}
+use Rattle.below.proofs.Tests.{tally-within}
 use Rattle.representatives.specs.Tables.{stays}
 use Rattle.representatives.proofs.Numbers.{tally-none, tally-more, tally-same-at}
 use Rattle.starts.proofs.Firsts.{filled-more}

@@ -6,7 +6,7 @@ use mathlib.Core.Logic.{⊎-elim}
 use native.Mathlib.Omega.{arith}
 use borrow.Author.Needs.{needs}
 use Rattle.graph.specs.Hops.{to}
-use Rattle.graph.proofs.Bools.{eq-or-not}
+use Rattle.below.proofs.Bools.{eq-or-not}
 use Rattle.silent.specs.Reach.{noted}
 use Rattle.silent.proofs.Front.{noted-yes, noted-no}
 use Rattle.silent.proofs.Spread.{Range, place-within, end-within}

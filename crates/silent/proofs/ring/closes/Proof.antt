@@ -4,9 +4,9 @@ use mathlib.Core.Path.{_≡_, sym}
 use mathlib.Core.Bool.{false}
 use native.Mathlib.Omega.{arith}
 use borrow.Author.Needs.{needs}
-use Rattle.graph.specs.Tests.{any}
+use Rattle.below.specs.Tests.{any}
 use Rattle.graph.specs.Hops.{count}
-use Rattle.graph.proofs.Tests.{any-none, any-more, any-found, any-done}
+use Rattle.below.proofs.Tests.{any-none, any-more, any-found, any-done}
 use Rattle.silent.specs.Ring.{closesAt}
 use Rattle.silent.proofs.ring.closes.Statement.{statement}
 use Rattle.silent.proofs.ring.closes.Tie as tie

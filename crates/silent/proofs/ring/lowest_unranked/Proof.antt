@@ -4,8 +4,8 @@ use mathlib.Core.Path.{_≡_, refl, sym, _∙_}
 use native.Mathlib.Omega.{arith}
 use borrow.Author.Needs.{needs}
 use lib.ListN.{length, length-replicate}
-use Rattle.graph.specs.Tests.{least}
-use Rattle.graph.proofs.Tests.{least-none, least-more, least-found, least-done}
+use Rattle.below.specs.Tests.{least}
+use Rattle.below.proofs.Tests.{least-none, least-more, least-found, least-done}
 use Rattle.silent.specs.Silent.{onRing, lowestOnRing}
 use Rattle.silent.proofs.ring.lowest_unranked.Statement.{statement}
 use Rattle.silent.proofs.ring.lowest_unranked.Tie as tie

@@ -4,14 +4,14 @@ use mathlib.Core.Path.{_≡_, refl}
 use native.Mathlib.Omega.{arith}
 use lib.ListN.{length, take}
 use Rattle.writer.specs.Encode.{numbers}
-use Rattle.fields.specs.Front.{over}
+use Rattle.outputs.specs.Output.{overAt}
 use Rattle.writer.proofs.Encoded.{numbers-none, numbers-more, numbers-done}
 use borrow.Author.Needs.{needs}
 use Rattle.writer.proofs.writing.put_numbers.Statement.{statement}
 use Rattle.writer.proofs.writing.put_numbers.Tie as tie
 
 abbrev Inv-loop : tie.InvT-loop
-Inv-loop out₀ at hops i₀ out i = (out ≡ over at (numbers (take i hops)) out₀) × (length out ≡ length out₀) × (i ≤ length hops) × (at + 2 * length hops ≤ length out₀)
+Inv-loop out₀ at hops i₀ out i = (out ≡ overAt at (numbers (take i hops)) out₀) × (length out ≡ length out₀) × (i ≤ length hops) × (at + 2 * length hops ≤ length out₀)
 
 abbrev μ-loop : tie.MeasureT-loop
 μ-loop out₀ at hops i₀ out i = length hops - i

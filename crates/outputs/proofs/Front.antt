@@ -5,13 +5,13 @@ use mathlib.Core.List.{List, [], _∷_, _++_, append-assoc}
 use native.Mathlib.Numerals.{add-one}
 use native.Mathlib.Omega.{arith}
 use lib.ListN.{length, take, drop, set, getD, length-append, take-append-drop}
-use lib.Seq.{length-take-le, set-at, drop-cons, take-at, take-append-seam, drop-append-add, drop-drop, ext-getD}
-use Rattle.graph.specs.Tests.{listed}
-use Rattle.graph.proofs.Tests.{length-listed, getD-listed}
-use Rattle.fields.specs.Front.{onFront, over}
+use lib.Seq.{length-take-le, take-suc, take-all, set-at, drop-cons, take-at, take-append-seam, drop-append-add, drop-drop, ext-getD}
+use Rattle.below.specs.Tests.{listed}
+use Rattle.below.proofs.Tests.{length-listed, getD-listed}
+use Rattle.outputs.specs.Output.{onFront, overAt}
 
 -- one element more
-pub over-more : (at : ℕ) (s old : List ℕ) (v : ℕ) → at + length s < length old → set (over at s old) (at + length s) v ≡ over at (s ++ (v ∷ [])) old
+pub over-more : (at : ℕ) (s old : List ℕ) (v : ℕ) → at + length s < length old → set (overAt at s old) (at + length s) v ≡ overAt at (s ++ (v ∷ [])) old
 over-more at s old v l =
     rw (drop-cons old (at + length s) 0 l, ← append-assoc (take at old) s, set-at (take at old ++ s) (getD old (at + length s) 0) (drop (suc (at + length s)) old) v (at + length s) head)
     (rw (append-assoc (take at old) s, append-assoc s (v ∷ []), length-append s (v ∷ []), past)) where
@@ -21,13 +21,13 @@ over-more at s old v l =
       past : at + (length s + 1) ≡ suc (at + length s)
       past = omega arith
 
-pub over-none : (at : ℕ) (old : List ℕ) → old ≡ over at [] old
+pub over-none : (at : ℕ) (old : List ℕ) → old ≡ overAt at [] old
 over-none at old = rw (zero-right) (sym (take-append-drop at old)) where
   zero-right : at + 0 ≡ at
   zero-right = omega arith
 
 -- a part more, behind the one before
-pub over-then : (at : ℕ) (s t old : List ℕ) {k : ℕ} → k ≡ at + length s → k ≤ length old → over k t (over at s old) ≡ over at (s ++ t) old
+pub over-then : (at : ℕ) (s t old : List ℕ) {k : ℕ} → k ≡ at + length s → k ≤ length old → overAt k t (overAt at s old) ≡ overAt at (s ++ t) old
 over-then at s t old {k} e l =
     rw (e, ← append-assoc (take at old) s, take-at (take at old ++ s) (drop (at + length s) old) (at + length s) head, tail)
     (rw (append-assoc (take at old) s, append-assoc s t, length-append s t, ← plus-assoc)) where
@@ -47,12 +47,12 @@ front-more s old v l =
     (rw (append-assoc s (v ∷ []), length-append s (v ∷ []), add-one))
 
 -- a part more, behind the front
-pub front-then : (s t old : List ℕ) → over (length s) t (onFront s old) ≡ onFront (s ++ t) old
+pub front-then : (s t old : List ℕ) → overAt (length s) t (onFront s old) ≡ onFront (s ++ t) old
 front-then s t old =
     rw (take-append-seam s, drop-append-add s, drop-drop, length-append, append-assoc)
 
-pub front-next : (old s t : List ℕ) {out out' : List ℕ} {k : ℕ} → out ≡ onFront s old → out' ≡ over k t out → length s ≡ k → out' ≡ onFront (s ++ t) old
-front-next old s t {k = k} e d l = d ∙ ap (over k t) e ∙ ap (λ (n : ℕ). over n t (onFront s old)) (sym l) ∙ front-then s t old
+pub front-next : (old s t : List ℕ) {out out' : List ℕ} {k : ℕ} → out ≡ onFront s old → out' ≡ overAt k t out → length s ≡ k → out' ≡ onFront (s ++ t) old
+front-next old s t {k = k} e d l = d ∙ ap (overAt k t) e ∙ ap (λ (n : ℕ). overAt n t (onFront s old)) (sym l) ∙ front-then s t old
 
 -- the numbers of a list, one after the other
 module _ (f : ℕ → ℕ) (old : List ℕ) where
@@ -74,3 +74,18 @@ pub listed-self : (xs : List ℕ) → listed (length xs) (λ (i : ℕ). getD xs 
 listed-self xs =
     ext-getD 0 _ xs (length-listed (λ (i : ℕ). getD xs i 0) (length xs))
     (λ i l. getD-listed (λ (j : ℕ). getD xs j 0) (length xs) (rw (length-listed (λ (j : ℕ). getD xs j 0) (length xs)) at l))
+
+-- the elements of a list put at a place, one after the other
+module _ (at : ℕ) (old hs : List ℕ) where
+  pub bytes-none : old ≡ overAt at (take 0 hs) old
+  bytes-none = over-none at old
+
+  pub bytes-more : {out : List ℕ} {i : ℕ} → out ≡ overAt at (take i hs) old → i < length hs → at + length hs ≤ length old →
+      set out (at + i) (getD hs i 0) ≡ overAt at (take (i + 1) hs) old
+  bytes-more {i = i} e l f =
+      rw (e, add-one, take-suc hs i 0 l) (ap (λ (n : ℕ). set (overAt at (take i hs) old) (at + n) (getD hs i 0)) (sym sized) ∙ over-more at (take i hs) old (getD hs i 0) (omega (arith, sized))) where
+        sized : length (take i hs) ≡ i
+        sized = length-take-le i hs (omega arith)
+
+  pub bytes-done : {out : List ℕ} {i : ℕ} → out ≡ overAt at (take i hs) old → i ≤ length hs → length hs ≤ i → out ≡ overAt at hs old
+  bytes-done {i = i} e l m = rw (take-all i hs m) at e

@@ -1,16 +1,16 @@
--- `writer::writing::put_bytes` meets its contract: after i turns the first i bytes stand in their place. Assumes nothing.
+-- `outputs::put_bytes` meets its contract: after i turns the first i bytes stand in their place. Assumes nothing.
 use Prim.Native.Nat.{_+_, _-_, _≤_}
 use mathlib.Core.Path.{_≡_, refl}
 use native.Mathlib.Omega.{arith}
 use lib.ListN.{length, take, length-set}
-use Rattle.fields.specs.Front.{over}
-use Rattle.writer.proofs.Encoded.{bytes-none, bytes-more, bytes-done}
+use Rattle.outputs.specs.Output.{overAt}
+use Rattle.outputs.proofs.Front.{bytes-none, bytes-more, bytes-done}
 use borrow.Author.Needs.{needs}
-use Rattle.writer.proofs.writing.put_bytes.Statement.{statement}
-use Rattle.writer.proofs.writing.put_bytes.Tie as tie
+use Rattle.outputs.proofs.put_bytes.Statement.{statement}
+use Rattle.outputs.proofs.put_bytes.Tie as tie
 
 abbrev Inv-loop : tie.InvT-loop
-Inv-loop out₀ at bytes i₀ out i = (out ≡ over at (take i bytes) out₀) × (length out ≡ length out₀) × (i ≤ length bytes) × (at + length bytes ≤ length out₀)
+Inv-loop out₀ at bytes i₀ out i = (out ≡ overAt at (take i bytes) out₀) × (length out ≡ length out₀) × (i ≤ length bytes) × (at + length bytes ≤ length out₀)
 
 abbrev μ-loop : tie.MeasureT-loop
 μ-loop out₀ at bytes i₀ out i = length bytes - i

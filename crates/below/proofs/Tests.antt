@@ -12,8 +12,8 @@ use borrow.Author.Tests.{ltb-true, ltb-false, lt-ltb, le-ltb}
 use lib.Dec.{ltb}
 use lib.ListN.{length, getD, length-append, List·getD-append}
 use lib.Seq.{getD-at}
-use Rattle.graph.specs.Tests.{all, any, least, tally, listed, total}
-use Rattle.graph.proofs.Bools.{clash, and-left, and-right, and-no-right, or-right, or-yes}
+use Rattle.below.specs.Tests.{all, any, least, tally, listed, total}
+use Rattle.below.proofs.Bools.{clash, and-left, and-right, and-no-right, or-right, or-yes}
 
 module _ (p : ℕ → Bool) where
   pub all-none : all 0 p ≡ true

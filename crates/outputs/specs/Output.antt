@@ -1,0 +1,20 @@
+-- What a lent output holds afterwards: a list written over the front of what was there, over a part of it, or, with a refusal, not at all. Everything that
+-- writes says it by these. Assumes nothing: these are definitions.
+use Prim.Native.Nat.{ℕ, _+_}
+use mathlib.Core.Bool.{cond}
+use mathlib.Core.List.{List, _++_}
+use lib.ListN.{length, take, drop}
+use lib.Dec.{eqb}
+
+-- the list new at the front, and past it what was there
+abbrev pub onFront : List ℕ → List ℕ → List ℕ
+onFront new old = new ++ drop (length new) old
+
+-- the list new from place `at` on, and around it what was there
+abbrev pub overAt : ℕ → List ℕ → List ℕ → List ℕ
+overAt at new old = take at old ++ (new ++ drop (at + length new) old)
+
+-- an entry's output, where n is the number that it answers: "A refusal leaves all lent elements untouched"; "Acceptance writes the named elements and
+-- none past them"
+abbrev pub written : ℕ → List ℕ → List ℕ → List ℕ
+written n new old = cond (eqb n 0) (onFront new old) old
