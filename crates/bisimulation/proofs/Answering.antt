@@ -11,12 +11,13 @@ use borrow.Author.Tests.{eq-eqb, ne-eqb, eqb-true, eqb-false, lt-ltb, le-ltb, lt
 use lib.ListN.{length}
 use lib.Dec.{eqb, ltb}
 use Rattle.below.specs.Tests.{least}
-use Rattle.graph.specs.Check.{accepted, refused, inTable, andThen, checkOf, Admitted}
+use Rattle.graph.specs.Answers.{accepted, refused, inTable, andThen}
+use Rattle.limits.specs.Check.{checkOf, Admitted}
 use Rattle.graph.specs.declared.Shape.{Shape}
 use Rattle.graph.specs.declared.Answer.{Answer}
 use Rattle.below.proofs.Bools.{not-yes}
 use Rattle.below.proofs.Tests.{least-is, least-before}
-use Rattle.graph.proofs.Checked.{check-admitted, admitted-check}
+use Rattle.limits.proofs.Checked.{check-admitted, admitted-check}
 use Rattle.starts.proofs.Firsts.{admitted-ready}
 use Rattle.graph.specs.Map.{mapped}
 use Rattle.faults.specs.Faults.{faultsOf}

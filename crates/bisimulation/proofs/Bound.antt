@@ -8,7 +8,8 @@ use native.Mathlib.Omega.{arith}
 use lib.Dec.{eqb}
 use Rattle.below.specs.Tests.{tally}
 use Rattle.graph.specs.Hops.{count}
-use Rattle.graph.specs.Check.{most-states, most-hops, Admitted}
+use Rattle.graph.specs.Answers.{most-states, most-hops}
+use Rattle.limits.specs.Check.{Admitted}
 use Rattle.graph.specs.declared.Shape.{Shape}
 use Rattle.below.proofs.Tests.{tally-within, total-most}
 use Rattle.graph.specs.Map.{mapped}

@@ -5,7 +5,8 @@ use mathlib.Core.List.{List}
 use lib.ListN.{length}
 use lib.Dec.{eqb, ltb}
 use Rattle.below.specs.Tests.{least}
-use Rattle.graph.specs.Check.{accepted, refused, inTable, andThen, checkOf}
+use Rattle.graph.specs.Answers.{accepted, refused, inTable, andThen}
+use Rattle.limits.specs.Check.{checkOf}
 use Rattle.graph.specs.declared.Shape.{Shape}
 use Rattle.graph.specs.declared.Answer.{Answer}
 use Rattle.graph.specs.Map.{mapped}

@@ -4,7 +4,7 @@ use answers::shape_of;
 use outgoing::span_of;
 ghost use mathlib.Core.Path.{_≡_};
 ghost use lib.ListN.{length};
-ghost use Rattle.graph.specs.Check.{accepted};
+ghost use Rattle.graph.specs.Answers.{accepted};
 ghost use Rattle.outgoing.specs.Outgoing.{chosen, spanOf};
 ghost use Rattle.answers.specs.Numbers.{shapeOf, spanNumbers, returned};
 ghost use Rattle.capi.specs.Interface.{told};

@@ -14,7 +14,7 @@ use Rattle.below.specs.Tests.{any, tally}
 use Rattle.graph.specs.Hops.{count, from}
 use Rattle.graph.specs.Order.{Ascending}
 use Rattle.graph.specs.Search.{firstOf, pastOf}
-use Rattle.graph.specs.Check.{InRange}
+use Rattle.limits.specs.Check.{InRange}
 use Rattle.graph.specs.declared.Shape.{Shape}
 use Rattle.below.proofs.Bools.{clash, lt-or-le, same-test, and-no-left}
 use Rattle.below.proofs.Tests.{any-found, any-at, tally-zero}

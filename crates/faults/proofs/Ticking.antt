@@ -15,7 +15,7 @@ use lib.Dec.{eqb}
 use Rattle.below.specs.Tests.{any, tally, listed, total}
 use Rattle.graph.specs.Hops.{count, from, label, to, hopAt, is, has}
 use Rattle.graph.specs.Search.{placed}
-use Rattle.graph.specs.Check.{InRange}
+use Rattle.limits.specs.Check.{InRange}
 use Rattle.graph.specs.declared.Hop.{Hop}
 use Rattle.graph.specs.declared.Shape.{Shape}
 use Rattle.graph.specs.declared.Found.{Found}

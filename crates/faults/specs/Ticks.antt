@@ -9,7 +9,8 @@ use lib.Dec.{eqb}
 use Rattle.below.specs.Tests.{any, tally}
 use Rattle.graph.specs.Hops.{count, from, label, to, is}
 use Rattle.graph.specs.Search.{placed}
-use Rattle.graph.specs.Check.{most-states, most-hops, Admitted}
+use Rattle.graph.specs.Answers.{most-states, most-hops}
+use Rattle.limits.specs.Check.{Admitted}
 use Rattle.graph.specs.declared.Hop.{Hop}
 use Rattle.graph.specs.declared.Shape.{Shape}
 use Rattle.graph.specs.declared.Found.{Found}

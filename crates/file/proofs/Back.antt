@@ -12,12 +12,13 @@ use lib.ListN.{length, getD, drop, length-append, length-drop}
 use lib.Seq.{drop-at, drop-drop, getD-drop, ext-getD, take-length}
 use lib.Dec.{eqb, leb, ltb}
 use Rattle.graph.specs.Hops.{count}
-use Rattle.graph.specs.Check.{accepted, checkOf, Admitted}
+use Rattle.graph.specs.Answers.{accepted}
+use Rattle.limits.specs.Check.{checkOf, Admitted}
 use Rattle.graph.specs.declared.Shape.{Shape}
 use Rattle.graph.specs.declared.Answer.{Answer}
 use Rattle.below.proofs.Bools.{eq-or-not, lt-or-le, or-no}
 use Rattle.below.proofs.Tests.{getD-listed}
-use Rattle.graph.proofs.Checked.{check-admitted, admitted-check}
+use Rattle.limits.proofs.Checked.{check-admitted, admitted-check}
 use Rattle.graph.proofs.Accepts.{both-accept}
 use Rattle.names.specs.Block.{nameAt, firstBad}
 use Rattle.names.proofs.Blocks.{name-first, name-short}

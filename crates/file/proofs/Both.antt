@@ -10,11 +10,12 @@ use borrow.Author.Tests.{eq-eqb, ne-eqb, eqb-true, eqb-false, le-leb, lt-leb, le
 use lib.ListN.{length, take, drop, length-drop}
 use lib.Seq.{take-at}
 use lib.Dec.{eqb, leb}
-use Rattle.graph.specs.Check.{accepted, refused, roomFor, Admitted}
+use Rattle.graph.specs.Answers.{accepted, refused, roomFor}
+use Rattle.limits.specs.Check.{Admitted}
 use Rattle.graph.specs.declared.Shape.{Shape}
 use Rattle.graph.specs.declared.Answer.{Answer}
 use Rattle.below.proofs.Bools.{decided}
-use Rattle.graph.proofs.Checked.{check-admitted, admitted-check}
+use Rattle.limits.proofs.Checked.{check-admitted, admitted-check}
 use Rattle.graph.proofs.Accepts.{both-accept}
 use Rattle.names.proofs.Blocks.{name-later}
 use Rattle.outputs.specs.Output.{onFront}

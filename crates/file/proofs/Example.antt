@@ -5,7 +5,8 @@ use mathlib.Core.List.{List, [], _∷_}
 use lib.ListN.{length}
 use Rattle.below.specs.Tests.{listed, all, any, least}
 use Rattle.graph.specs.Order.{before}
-use Rattle.graph.specs.Check.{accepted, refused, countsFit, inside, firstOutside, rises, firstFalling, checkOf}
+use Rattle.graph.specs.Answers.{accepted, refused}
+use Rattle.limits.specs.Check.{countsFit, inside, firstOutside, rises, firstFalling, checkOf}
 use Rattle.graph.specs.declared.Shape.{Shape}
 use Rattle.names.specs.Block.{nameAt, sameByte, sameName, repeated, lengthFits, bad, firstBad}
 use Rattle.fields.specs.Format.{hasInitial, hasHops, hasNames, initialIn, hopsPlace, hopsIn, namesPlace, namesIn, restOf, need, shapeIn, hopListIn, idleBit}

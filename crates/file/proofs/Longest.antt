@@ -13,11 +13,12 @@ use lib.Dec.{eqb, ltb}
 use Rattle.below.specs.Tests.{listed}
 use Rattle.graph.specs.Hops.{from, label, to}
 use Rattle.graph.specs.Order.{before, Ascending}
-use Rattle.graph.specs.Check.{accepted, Admitted}
+use Rattle.graph.specs.Answers.{accepted}
+use Rattle.limits.specs.Check.{Admitted}
 use Rattle.graph.specs.declared.Shape.{Shape}
 use Rattle.below.proofs.Bools.{and-right, or-right, lt-or-le, no-test}
 use Rattle.below.proofs.Tests.{length-listed, getD-listed, all-at, any-no, least-is}
-use Rattle.graph.proofs.Checked.{admitted-check}
+use Rattle.limits.proofs.Checked.{admitted-check}
 use Rattle.names.specs.Block.{nameAt, sameByte, sameName, repeated, lengthFits, bad, firstBad}
 use Rattle.writer.specs.Encode.{encode}
 use Rattle.reader.specs.Read.{most-bytes}

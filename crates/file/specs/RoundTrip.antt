@@ -5,7 +5,7 @@ use mathlib.Core.List.{List}
 use lib.ListN.{length}
 use lib.Dec.{eqb}
 use Rattle.graph.specs.Hops.{count}
-use Rattle.graph.specs.Check.{accepted, andThen, roomFor}
+use Rattle.graph.specs.Answers.{accepted, andThen, roomFor}
 use Rattle.graph.specs.declared.Shape.{Shape}
 use Rattle.graph.specs.declared.Answer.{Answer}
 use Rattle.outputs.specs.Output.{onFront}

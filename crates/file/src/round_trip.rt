@@ -1,7 +1,7 @@
 // The two round trips over the entries: a file read and written again, and a graph written and read again.
 use graph::Shape;
 use graph::hops::number_place;
-use graph::limits::refuse;
+use graph::answers::refuse;
 use reader::Contents;
 use reader::reading::read;
 use reader::reading::refusal;

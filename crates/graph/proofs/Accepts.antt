@@ -5,7 +5,7 @@ use mathlib.Core.Bool.{Bool, true, false, cond}
 use native.Mathlib.Omega.{arith}
 use borrow.Author.Tests.{eq-eqb, ne-eqb, eqb-true, eqb-false, leb-true}
 use lib.Dec.{eqb, leb}
-use Rattle.graph.specs.Check.{accepted, refused, andThen, roomFor}
+use Rattle.graph.specs.Answers.{accepted, refused, andThen, roomFor}
 use Rattle.graph.specs.declared.Answer.{Answer}
 
 -- the first answer speaks, or the second

@@ -1,6 +1,5 @@
 pub mod Places
 pub mod Ordered
 pub mod Lookup
-pub mod Checked
 pub mod Fronts
 pub mod Accepts

@@ -2,4 +2,4 @@ pub mod Hops -- the hop list, seen by places
 pub mod Map -- a map at a state
 pub mod Order -- which hop comes first, and which are alike
 pub mod Search -- where a hop stands or would stand
-pub mod Check -- what is admitted, and the answers 0 to 4
+pub mod Answers -- the limits, and answers

@@ -7,7 +7,7 @@ ghost use mathlib.Core.Path.{_≡_};
 ghost use Prim.Native.Nat.{_<_, _≤_};
 ghost use denote.Ref.{ptr};
 ghost use Rattle.graph.specs.Hops.{count, whole, from, label, to, hopAt, put, is, between, standsAt, numberPlace};
-ghost use Rattle.graph.specs.Check.{most-hops};
+ghost use Rattle.graph.specs.Answers.{most-hops};
 
 // How many hops the list holds.
 pub fn hop_count(hops: &[u16]) -> usize

@@ -1,9 +1,9 @@
-// Mode graphs as flat hop lists: their types, the accessors, the order of hops, the one search, and the entry `check`.
+// Mode graphs as flat hop lists: their types, the accessors, the order of hops, the one search, and answers.
 pub mod hops; // hops.rt: what stands at a place of a flat list
 pub mod map; // map.rt: a map at a state
 pub mod order; // order.rt: the one comparison of hops
 pub mod search; // search.rt: the one search, and the places of a state's hops
-pub mod limits; // limits.rt: the entry `check` and its tests
+pub mod answers; // answers.rt: the accepted answer, and refusals
 
 // The limits of document 01, for code and for the lengths of arrays.
 pub const MOST_STATES: usize = 1024;

@@ -6,10 +6,11 @@ use lib.ListN.{length, drop}
 use lib.Dec.{eqb, leb}
 use borrow.Author.Tests.{eq-eqb, ne-eqb, le-leb, lt-leb}
 use Rattle.graph.specs.Hops.{count}
-use Rattle.graph.specs.Check.{checkOf, accepted, refused, andThen, roomFor, Admitted}
+use Rattle.graph.specs.Answers.{accepted, refused, andThen, roomFor}
+use Rattle.limits.specs.Check.{checkOf, Admitted}
 use Rattle.graph.specs.declared.Shape.{Shape}
 use Rattle.graph.specs.declared.Answer.{Answer}
-use Rattle.graph.proofs.Checked.{check-admitted}
+use Rattle.limits.proofs.Checked.{check-admitted}
 use Rattle.graph.proofs.Accepts.{then-first, then-next, both-accept, room-accepts}
 use Rattle.silent.specs.Silent.{ringless}
 use Rattle.marks.specs.Mark.{marksOf, markAnswer, markOutput}

@@ -6,7 +6,8 @@ use lib.ListN.{length, drop}
 use lib.Dec.{eqb}
 use Rattle.below.specs.Tests.{listed}
 use Rattle.graph.specs.Hops.{count, from, label, to}
-use Rattle.graph.specs.Check.{checkOf, andThen, roomFor}
+use Rattle.graph.specs.Answers.{andThen, roomFor}
+use Rattle.limits.specs.Check.{checkOf}
 use Rattle.graph.specs.declared.Shape.{Shape}
 use Rattle.graph.specs.declared.Answer.{Answer}
 use Rattle.silent.specs.Silent.{ringless}

@@ -6,11 +6,11 @@ use mathlib.Core.List.{List}
 use native.Mathlib.Omega.{arith}
 use borrow.Author.Tests.{eqb-true, ltb-true, not-true, not-false}
 use lib.Dec.{eqb, ltb}
-use Rattle.graph.specs.Check.{checkOf, Admitted}
+use Rattle.limits.specs.Check.{checkOf, Admitted}
 use Rattle.graph.specs.declared.Shape.{Shape}
 use Rattle.graph.specs.declared.Answer.{Answer}
 use Rattle.below.proofs.Bools.{and-left, and-right}
-use Rattle.graph.proofs.Checked.{check-admitted}
+use Rattle.limits.proofs.Checked.{check-admitted}
 use Rattle.outgoing.specs.Outgoing.{bothPass, chosen}
 
 abbrev picked : Bool → Bool → Bool → ℕ

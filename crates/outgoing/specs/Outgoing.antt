@@ -7,7 +7,7 @@ use lib.Dec.{eqb, ltb}
 use denote.Ref.{RefT, now}
 use Rattle.graph.specs.Hops.{numberPlace, between, standsAt}
 use Rattle.graph.specs.Search.{firstOf, pastOf}
-use Rattle.graph.specs.Check.{checkOf}
+use Rattle.limits.specs.Check.{checkOf}
 use Rattle.graph.specs.declared.Shape.{Shape}
 use Rattle.outgoing.specs.declared.Span.{Span}
 

@@ -2,7 +2,7 @@
 use graph::Shape;
 use graph::hops::number_place;
 use graph::hops::part;
-use graph::limits::check;
+use limits::check;
 use graph::search::first_of;
 use graph::search::past_of;
 ghost use mathlib.Core.Path.{_≡_};
@@ -11,7 +11,7 @@ ghost use denote.Ref.{ptr};
 ghost use Rattle.graph.specs.Hops.{count, standsAt};
 ghost use Rattle.graph.specs.Order.{Ascending};
 ghost use Rattle.graph.specs.Search.{firstOf};
-ghost use Rattle.graph.specs.Check.{most-hops};
+ghost use Rattle.graph.specs.Answers.{most-hops};
 ghost use Rattle.outgoing.specs.Outgoing.{bothPass, chosen, outgoing, shown, shownAt, noSpan, spanIn, spanOf};
 
 // Where a part stands in its table, in numbers; 0 and 0 for an empty part.

@@ -6,7 +6,7 @@ use native.Mathlib.Omega.{arith}
 use lib.ListN.{length, getD, drop, List·getD-append}
 use Rattle.below.specs.Tests.{tally, listed}
 use Rattle.graph.specs.Hops.{count, flat, over}
-use Rattle.graph.specs.Check.{most-states, accepted}
+use Rattle.graph.specs.Answers.{most-states, accepted}
 use Rattle.graph.specs.declared.Answer.{Answer}
 use Rattle.graph.specs.declared.Hop.{Hop}
 use Rattle.graph.specs.declared.Shape.{Shape}

@@ -9,7 +9,7 @@ use mathlib.Core.Logic.{inr}
 use native.Mathlib.Nat.{le-refl}
 use lib.ListN.{length, take, drop, length-drop}
 use lib.Seq.{take-all}
-use Rattle.graph.specs.Check.{accepted, refused}
+use Rattle.graph.specs.Answers.{accepted, refused}
 use Rattle.names.specs.Block.{nameAt, firstBad, Searchable}
 use Rattle.names.proofs.Blocks.{name-less, name-least}
 use Rattle.fields.specs.Format.{bitMap, namesPlace, namesIn, restOf, need, idleBit}

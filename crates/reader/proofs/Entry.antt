@@ -10,12 +10,13 @@ use lib.Seq.{take-at}
 use lib.Dec.{leb}
 use Rattle.below.specs.Tests.{listed}
 use Rattle.graph.specs.Hops.{count, whole}
-use Rattle.graph.specs.Check.{most-states, most-labels, most-hops, accepted, refused, andThen, roomFor, countsFit, checkOf}
+use Rattle.graph.specs.Answers.{most-states, most-labels, most-hops, accepted, refused, andThen, roomFor}
+use Rattle.limits.specs.Check.{countsFit, checkOf}
 use Rattle.graph.specs.declared.Shape.{Shape}
 use Rattle.graph.specs.declared.Answer.{Answer}
 use Rattle.below.proofs.Bools.{and-no-left, and-no-right, not-no}
 use Rattle.below.proofs.Tests.{length-listed}
-use Rattle.graph.proofs.Checked.{check-counts, check-admitted}
+use Rattle.limits.proofs.Checked.{check-counts, check-admitted}
 use Rattle.graph.proofs.Accepts.{both-accept, second-accepts, room-accepts}
 use Rattle.fields.specs.Format.{numberAt, hopsPlace, hopsIn, shapeIn, hopListIn}
 use Rattle.outputs.specs.Output.{onFront}

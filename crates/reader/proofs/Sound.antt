@@ -8,7 +8,8 @@ use native.Mathlib.Omega.{arith}
 use borrow.Author.Tests.{ltb-false, leb-false, eqb-false}
 use lib.ListN.{length}
 use lib.Dec.{eqb, leb, ltb}
-use Rattle.graph.specs.Check.{andThen, roomFor, checkOf}
+use Rattle.graph.specs.Answers.{andThen, roomFor}
+use Rattle.limits.specs.Check.{checkOf}
 use Rattle.graph.specs.declared.Answer.{Answer}
 use Rattle.below.proofs.Bools.{clash}
 use Rattle.graph.proofs.Accepts.{both-accept}

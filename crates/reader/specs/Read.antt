@@ -5,7 +5,8 @@ use mathlib.Core.Bool.{cond}
 use mathlib.Core.List.{List}
 use lib.ListN.{length}
 use lib.Dec.{eqb, leb, ltb}
-use Rattle.graph.specs.Check.{accepted, refused, andThen, roomFor, checkOf}
+use Rattle.graph.specs.Answers.{accepted, refused, andThen, roomFor}
+use Rattle.limits.specs.Check.{checkOf}
 use Rattle.graph.specs.declared.Answer.{Answer}
 use Rattle.names.specs.Block.{nameAt, firstBad}
 use Rattle.fields.specs.Format.{bitMap, hopsIn, namesPlace, namesIn, restOf, need, shapeIn, hopListIn, blockPlace, blockLength, idleBit}

@@ -12,11 +12,12 @@ use lib.Dec.{ltb, leb}
 use lib.ListN.{length, take, drop, getD, set}
 use lib.Seq.{length-take-le, take-length, take-suc, take-at, set-at}
 use Rattle.graph.specs.Hops.{count, whole, hopAt, noHop, flat, put, front, over, between}
-use Rattle.graph.specs.Check.{most-states, most-labels, most-hops, refused, countsFit, checkOf}
+use Rattle.graph.specs.Answers.{most-states, most-labels, most-hops, refused}
+use Rattle.limits.specs.Check.{countsFit, checkOf}
 use Rattle.graph.specs.declared.Hop.{Hop}
 use Rattle.graph.specs.declared.Shape.{Shape}
 use Rattle.below.proofs.Bools.{not-no, and-no-left, and-no-right}
-use Rattle.graph.proofs.Checked.{check-counts}
+use Rattle.limits.proofs.Checked.{check-counts}
 use Rattle.graph.proofs.Fronts.{length-front, over-front, put-over, length-over, front-over, over-over}
 use Rattle.graph.proofs.Places.{length-flat, count-flat}
 use Rattle.marks.specs.Mark.{markAnswer, markOutput}

@@ -22,7 +22,7 @@ use denote.Triple.Spec.{tripleOf}
 use denote.Triple.Statement.{Contract}
 use denote.Triple.Clauses.{ensured, lasts}
 use Rattle.graph.specs.Hops.{between, flat}
-use Rattle.graph.specs.Check.{most-hops}
+use Rattle.graph.specs.Answers.{most-hops}
 use Rattle.graph.specs.declared.Hop.{Hop}
 use Rattle.graph.proofs.Hop as T
 use Rattle.records.proofs.flat_of as flat-of

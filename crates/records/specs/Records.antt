@@ -6,7 +6,7 @@ use mathlib.Core.List.{List}
 use lib.ListN.{length, getD}
 use lib.Dec.{ltb}
 use Rattle.graph.specs.Hops.{count, whole, hopAt, noHop}
-use Rattle.graph.specs.Check.{most-hops}
+use Rattle.graph.specs.Answers.{most-hops}
 use Rattle.graph.specs.declared.Hop.{Hop}
 
 -- "0 to 4,096 hops"; of n hops: z if a graph may not have as many, else m

@@ -4,14 +4,15 @@ use graph::Hop;
 use graph::Shape;
 use graph::hops::part;
 use graph::hops::put_hop;
-use graph::limits::check;
-use graph::limits::refuse;
+use limits::check;
+use graph::answers::refuse;
 use marks::mark::mark;
 ghost use mathlib.Core.Path.{_≡_};
 ghost use Prim.Native.Nat.{_≤_};
 ghost use lib.ListN.{length};
 ghost use Rattle.graph.specs.Hops.{count, between, flat, over};
-ghost use Rattle.graph.specs.Check.{most-hops, refused, checkOf};
+ghost use Rattle.graph.specs.Answers.{most-hops, refused};
+ghost use Rattle.limits.specs.Check.{checkOf};
 ghost use Rattle.marks.specs.Mark.{markAnswer, markOutput};
 ghost use Rattle.records.specs.Records.{unlessOver};
 

@@ -8,7 +8,7 @@ use borrow.Author.Tests.{lt-ltb}
 use lib.ListN.{length, length-append}
 use lib.Dec.{ltb, eqb}
 use Rattle.graph.specs.Hops.{count, from, label, to, flat}
-use Rattle.graph.specs.Check.{Admitted}
+use Rattle.limits.specs.Check.{Admitted}
 use Rattle.graph.specs.declared.Shape.{Shape}
 use Rattle.graph.specs.declared.Answer.{Answer}
 use Rattle.marks.specs.Mark.{markOf}

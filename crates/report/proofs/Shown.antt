@@ -10,10 +10,11 @@ use lib.Seq.{take-at}
 use lib.Dec.{eqb}
 use Rattle.below.specs.Tests.{listed}
 use Rattle.graph.specs.Hops.{count, flat, between}
-use Rattle.graph.specs.Check.{checkOf, andThen, roomFor}
+use Rattle.graph.specs.Answers.{andThen, roomFor}
+use Rattle.limits.specs.Check.{checkOf}
 use Rattle.graph.specs.declared.Shape.{Shape}
 use Rattle.graph.specs.declared.Answer.{Answer}
-use Rattle.graph.proofs.Checked.{check-admitted, admitted-check}
+use Rattle.limits.proofs.Checked.{check-admitted, admitted-check}
 use Rattle.graph.proofs.Places.{length-flat}
 use Rattle.below.proofs.Tests.{length-listed, getD-listed}
 use Rattle.silent.specs.Silent.{ringless}

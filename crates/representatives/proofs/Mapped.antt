@@ -5,7 +5,7 @@ use mathlib.Core.Path.{_≡_, ap}
 use mathlib.Core.Bool.{true}
 use mathlib.Core.List.{List}
 use Rattle.below.specs.Tests.{tally}
-use Rattle.graph.specs.Check.{InRange}
+use Rattle.limits.specs.Check.{InRange}
 use Rattle.graph.specs.declared.Shape.{Shape}
 use Rattle.lts.proofs.Confluence.{rep-normal}
 use Rattle.silent.specs.Silent.{HopOf}

@@ -7,7 +7,7 @@ use native.Mathlib.Omega.{arith}
 use lib.ListN.{getD, length-append, List·getD-append}
 use Rattle.below.specs.Tests.{tally, listed}
 use Rattle.graph.specs.Hops.{count}
-use Rattle.graph.specs.Check.{most-states}
+use Rattle.graph.specs.Answers.{most-states}
 use Rattle.graph.specs.declared.Shape.{Shape}
 use Rattle.below.proofs.Tests.{tally-same, length-listed, getD-listed}
 use Rattle.marks.specs.Mark.{markOf, marksOf}

@@ -6,7 +6,8 @@ use mathlib.Core.List.{List}
 use lib.ListN.{length, getD, set}
 use lib.Dec.{eqb}
 use Rattle.graph.specs.Hops.{count, from, to}
-use Rattle.graph.specs.Check.{most-states, Admitted}
+use Rattle.graph.specs.Answers.{most-states}
+use Rattle.limits.specs.Check.{Admitted}
 use Rattle.graph.specs.declared.Shape.{Shape}
 use Rattle.silent.specs.Silent.{ringless}
 use Rattle.marks.specs.Mark.{markOf}

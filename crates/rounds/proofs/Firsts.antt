@@ -11,7 +11,7 @@ use lib.ListN.{getD}
 use Rattle.graph.specs.Hops.{count, from, label, to, hopAt}
 use Rattle.graph.specs.Order.{before, Ascending}
 use Rattle.graph.specs.Search.{Bracket, firstOf, pastOf}
-use Rattle.graph.specs.Check.{Admitted}
+use Rattle.limits.specs.Check.{Admitted}
 use Rattle.graph.specs.declared.Hop.{Hop}
 use Rattle.graph.specs.declared.Shape.{Shape}
 use Rattle.below.proofs.Bools.{clash, lt-or-le, eq-or-not, no-test}

@@ -8,11 +8,12 @@ use borrow.Author.Tests.{eq-eqb, ne-eqb, eqb-true, lt-ltb, le-ltb, ltb-true, le-
 use mir.Val.{boolByte}
 use lib.Dec.{eqb, leb, ltb}
 use Rattle.graph.specs.Hops.{count, from, label, to}
-use Rattle.graph.specs.Check.{accepted, refused, checkOf, Admitted}
+use Rattle.graph.specs.Answers.{accepted, refused}
+use Rattle.limits.specs.Check.{checkOf, Admitted}
 use Rattle.graph.specs.declared.Shape.{Shape}
 use Rattle.graph.specs.declared.Answer.{Answer}
 use Rattle.below.proofs.Bools.{and-left, and-right, and-no-right}
-use Rattle.graph.proofs.Checked.{check-admitted}
+use Rattle.limits.proofs.Checked.{check-admitted}
 use Rattle.graph.proofs.Accepts.{both-accept}
 use Rattle.confluence.specs.Rounds.{survives}
 use Rattle.rounds.specs.Question.{most-rounds, silentPlace, fewRounds, questionAnswer, questionOf}

@@ -5,7 +5,7 @@ use mathlib.Core.List.{List}
 use lib.ListN.{length, getD}
 use Rattle.graph.specs.Order.{Ascending}
 use Rattle.graph.specs.Search.{lower, firstOf}
-use Rattle.graph.specs.Check.{most-states}
+use Rattle.graph.specs.Answers.{most-states}
 use Rattle.graph.specs.declared.Hop.{Hop}
 
 -- a list, one place for each state that a graph can have and one past the last, that holds at each state's number the first place of its hops; past them stands the first place of the next state's

@@ -5,7 +5,7 @@ use mathlib.Core.List.{List}
 use mathlib.Core.Path.{_≡_}
 use lib.ListN.{length, getD}
 use Rattle.graph.specs.Hops.{from, to}
-use Rattle.graph.specs.Check.{Admitted}
+use Rattle.limits.specs.Check.{Admitted}
 use Rattle.graph.specs.declared.Shape.{Shape}
 use Rattle.confluence.specs.Rounds.{survives}
 use Rattle.rounds.specs.Index.{Indexed}

@@ -5,14 +5,14 @@ use graph::Answer;
 use graph::Shape;
 use graph::hops::hop_count;
 use graph::hops::label_at;
-use graph::limits::accept;
-use graph::limits::check;
-use graph::limits::refuse;
+use graph::answers::accept;
+use limits::check;
+use graph::answers::refuse;
 use starts::starts_of;
 ghost use mathlib.Core.Path.{_≡_};
 ghost use Prim.Native.Nat.{_<_, _≤_};
 ghost use Rattle.graph.specs.Hops.{count, from, label, to};
-ghost use Rattle.graph.specs.Check.{Admitted};
+ghost use Rattle.limits.specs.Check.{Admitted};
 ghost use Rattle.confluence.specs.Rounds.{survives};
 ghost use Rattle.rounds.specs.Question.{most-rounds, silentPlace, fewRounds, questionAnswer, questionOf};
 

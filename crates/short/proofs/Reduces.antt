@@ -7,7 +7,7 @@ use mathlib.Core.Logic.{_⊎_, inl, inr}
 use native.Mathlib.Omega.{arith}
 use Rattle.below.specs.Tests.{tally}
 use Rattle.graph.specs.Hops.{count, from, label, to, flat, has}
-use Rattle.graph.specs.Check.{Admitted}
+use Rattle.limits.specs.Check.{Admitted}
 use Rattle.graph.specs.declared.Shape.{Shape}
 use Rattle.below.proofs.Tests.{tally-within}
 use Rattle.graph.proofs.Places.{has-at, has-place, length-flat, count-flat}

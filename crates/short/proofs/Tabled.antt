@@ -7,7 +7,7 @@ use native.Mathlib.Omega.{arith}
 use lib.ListN.{getD}
 use Rattle.below.specs.Tests.{tally, listed}
 use Rattle.graph.specs.Hops.{count, from, label, to}
-use Rattle.graph.specs.Check.{most-states}
+use Rattle.graph.specs.Answers.{most-states}
 use Rattle.graph.specs.declared.Hop.{Hop}
 use Rattle.graph.specs.declared.Shape.{Shape}
 use Rattle.representatives.specs.Representative.{resting, mapOf}

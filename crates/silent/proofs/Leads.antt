@@ -9,7 +9,7 @@ use borrow.Author.Tests.{eqb-true, eq-eqb, not-false}
 use lib.Dec.{eqb}
 use Rattle.below.specs.Tests.{any}
 use Rattle.graph.specs.Hops.{count, to}
-use Rattle.graph.specs.Check.{InRange}
+use Rattle.limits.specs.Check.{InRange}
 use Rattle.graph.specs.declared.Shape.{Shape}
 use Rattle.below.proofs.Bools.{and-left, and-right, and-yes, or-left, or-right, or-yes, not-yes}
 use Rattle.below.proofs.Tests.{any-at, any-found, any-same}

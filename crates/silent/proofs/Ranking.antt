@@ -10,7 +10,7 @@ use borrow.Author.Tests.{not-true}
 use lib.ListN.{length, set, replicate, getD-replicate}
 use Rattle.below.specs.Tests.{all}
 use Rattle.graph.specs.Hops.{count, to}
-use Rattle.graph.specs.Check.{InRange}
+use Rattle.limits.specs.Check.{InRange}
 use Rattle.graph.specs.declared.Shape.{Shape}
 use Rattle.below.proofs.Bools.{clash, decided, or-left, or-right, or-no, or-yes, not-yes, not-no}
 use Rattle.below.proofs.Tests.{all-at, all-fails, tally-less, tally-within}

@@ -10,7 +10,8 @@ use borrow.Author.Tests.{ltb-false, le-ltb}
 use lib.Dec.{ltb}
 use Rattle.below.specs.Tests.{tally}
 use Rattle.graph.specs.Hops.{count, to}
-use Rattle.graph.specs.Check.{InRange, refused, accepted}
+use Rattle.graph.specs.Answers.{refused, accepted}
+use Rattle.limits.specs.Check.{InRange}
 use Rattle.graph.specs.declared.Shape.{Shape}
 use Rattle.below.proofs.Bools.{clash, and-left, and-right, and-yes, no-test, lt-or-le}
 use Rattle.below.proofs.Tests.{any-at, any-found, least-passes, least-before, least-is, tally-less}

@@ -9,7 +9,7 @@ use native.Mathlib.Omega.{arith}
 use lib.ListN.{length}
 use Rattle.graph.specs.Hops.{count, to}
 use Rattle.graph.specs.Search.{firstOf}
-use Rattle.graph.specs.Check.{Admitted}
+use Rattle.limits.specs.Check.{Admitted}
 use Rattle.graph.specs.declared.Shape.{Shape}
 use Rattle.below.proofs.Bools.{eq-or-not}
 use Rattle.silent.specs.Silent.{silentFrom}

@@ -6,7 +6,7 @@ use mathlib.Core.List.{List}
 use lib.Dec.{eqb, ltb}
 use Rattle.below.specs.Tests.{any, least}
 use Rattle.graph.specs.Hops.{count, from, label, to, has}
-use Rattle.graph.specs.Check.{accepted, refused}
+use Rattle.graph.specs.Answers.{accepted, refused}
 use Rattle.graph.specs.declared.Shape.{Shape}
 use Rattle.graph.specs.declared.Answer.{Answer}
 use Rattle.lts.specs.Star.{Star}

@@ -14,7 +14,7 @@ ghost use Prim.Native.Nat.{_<_, _≤_};
 ghost use lib.ListN.{length};
 ghost use Rattle.below.specs.Tests.{any};
 ghost use Rattle.graph.specs.Hops.{count};
-ghost use Rattle.graph.specs.Check.{Admitted};
+ghost use Rattle.limits.specs.Check.{Admitted};
 ghost use Rattle.starts.specs.Starts.{Tabled};
 ghost use Rattle.silent.specs.Silent.{onRing, lowestOnRing, ringless};
 ghost use Rattle.silent.specs.Ring.{closesAt, Unringed};

@@ -9,7 +9,8 @@ use lib.Seq.{getD-set-same, getD-set-other}
 use borrow.Author.Tests.{ltb-true, lt-ltb}
 use Rattle.graph.specs.Hops.{count, from}
 use Rattle.graph.specs.Order.{Ascending}
-use Rattle.graph.specs.Check.{most-states, Admitted}
+use Rattle.graph.specs.Answers.{most-states}
+use Rattle.limits.specs.Check.{Admitted}
 use Rattle.graph.specs.Search.{firstOf}
 use Rattle.graph.specs.declared.Shape.{Shape}
 use Rattle.below.proofs.Bools.{lt-or-le}

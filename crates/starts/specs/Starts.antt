@@ -6,7 +6,8 @@ use lib.ListN.{getD}
 use Rattle.graph.specs.Hops.{count, from, to}
 use Rattle.graph.specs.Order.{Ascending}
 use Rattle.graph.specs.Search.{firstOf}
-use Rattle.graph.specs.Check.{most-states, most-hops, Admitted}
+use Rattle.graph.specs.Answers.{most-states, most-hops}
+use Rattle.limits.specs.Check.{Admitted}
 use Rattle.graph.specs.declared.Shape.{Shape}
 
 -- the table of first places, one for each state that can be and one past the last

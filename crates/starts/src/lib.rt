@@ -5,7 +5,7 @@ use graph::hops::hop_at;
 use graph::hops::hop_count;
 ghost use mathlib.Core.Path.{_≡_};
 ghost use Prim.Native.Nat.{_+_, _≤_};
-ghost use Rattle.graph.specs.Check.{most-states};
+ghost use Rattle.graph.specs.Answers.{most-states};
 ghost use lib.ListN.{getD};
 ghost use Rattle.graph.specs.Search.{firstOf};
 ghost use Rattle.starts.specs.Starts.{Table, Ready};

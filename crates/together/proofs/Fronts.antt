@@ -9,7 +9,7 @@ use lib.ListN.{length, take}
 use lib.Seq.{take-at}
 use lib.Dec.{eqb}
 use Rattle.graph.specs.Hops.{count, flat, between}
-use Rattle.graph.specs.Check.{accepted}
+use Rattle.graph.specs.Answers.{accepted}
 use Rattle.graph.specs.declared.Shape.{Shape}
 use Rattle.graph.specs.declared.Answer.{Answer}
 use Rattle.below.proofs.Tests.{length-listed}

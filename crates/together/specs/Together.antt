@@ -5,7 +5,7 @@ use mathlib.Core.List.{List}
 use lib.ListN.{take}
 use lib.Dec.{eqb}
 use Rattle.graph.specs.Hops.{between}
-use Rattle.graph.specs.Check.{accepted}
+use Rattle.graph.specs.Answers.{accepted}
 use Rattle.graph.specs.declared.Shape.{Shape}
 use Rattle.quotient.specs.declared.Reduction.{Reduction}
 use Rattle.bisimulation.specs.Auditing.{auditOf}

@@ -3,7 +3,7 @@ use mathlib.Core.Path.{_≡_, refl}
 use Rattle.below.specs.Tests.{all, any, least, listed, tally, total}
 use Rattle.graph.specs.Hops.{flat, is, has}
 use Rattle.graph.specs.Order.{before}
-use Rattle.graph.specs.Check.{checkOf, countsFit, inside, firstOutside, rises, firstFalling}
+use Rattle.limits.specs.Check.{checkOf, countsFit, inside, firstOutside, rises, firstFalling}
 use Rattle.silent.specs.Silent.{leads, silentFrom, onRing, lowestOnRing, ringless}
 use Rattle.confluence.specs.Rounds.{survives, marked, closes, tried, answered, answers, answer, leaves, closing}
 use Rattle.marks.specs.Mark.{marksOf, markOf, markAnswer}

@@ -7,7 +7,7 @@ use lib.ListN.{length}
 use lib.Dec.{eqb}
 use Rattle.below.specs.Tests.{least, listed}
 use Rattle.graph.specs.Hops.{count, from, label, to, flat}
-use Rattle.graph.specs.Check.{accepted, refused}
+use Rattle.graph.specs.Answers.{accepted, refused}
 use Rattle.graph.specs.declared.Hop.{Hop}
 use Rattle.graph.specs.declared.Shape.{Shape}
 use Rattle.graph.specs.declared.Answer.{Answer}

@@ -2,7 +2,7 @@
 // runs the graphs at the limits, and bad input, through `check` and prints what it answers.
 use graph::Answer;
 use graph::Shape;
-use graph::limits::check;
+use limits::check;
 use io::print_decimal;
 use libc::STDOUT_FILENO;
 

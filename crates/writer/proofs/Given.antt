@@ -6,10 +6,11 @@ use mathlib.Core.Logic.{inl}
 use native.Mathlib.Omega.{arith}
 use borrow.Author.Tests.{lt-ltb, le-ltb, lt-leb, le-leb, eq-eqb, ne-eqb}
 use lib.ListN.{length}
-use Rattle.graph.specs.Check.{accepted, refused, roomFor, checkOf, Admitted}
+use Rattle.graph.specs.Answers.{accepted, refused, roomFor}
+use Rattle.limits.specs.Check.{checkOf, Admitted}
 use Rattle.graph.specs.declared.Shape.{Shape}
 use Rattle.graph.specs.declared.Answer.{Answer}
-use Rattle.graph.proofs.Checked.{check-admitted, admitted-check}
+use Rattle.limits.proofs.Checked.{check-admitted, admitted-check}
 use Rattle.graph.proofs.Accepts.{both-accept, second-accepts, room-accepts}
 use Rattle.names.specs.Block.{nameAt, firstBad, Searchable}
 use Rattle.names.proofs.Blocks.{name-less, name-least}

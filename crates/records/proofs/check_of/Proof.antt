@@ -2,7 +2,7 @@
 use mathlib.Core.Path.{_∙_, ap}
 use borrow.Author.Needs.{needs}
 use borrow.Author.Tests.{le-ltb, lt-ltb}
-use Rattle.graph.specs.Check.{checkOf}
+use Rattle.limits.specs.Check.{checkOf}
 use Rattle.records.proofs.check_of.Statement.{statement}
 use Rattle.records.proofs.check_of.Tie as tie
 

@@ -43,7 +43,7 @@ use denote.Triple.Table.{entered, cited}
 use denote.Triple.Walked.{says, Stays, stay-none-slice, walkOf, goes-none-slice, Walks, ends-at, walked, walk-meets}
 use denote.Exit.{yes}
 use Rattle.graph.specs.Hops.{count, between, flat, over}
-use Rattle.graph.specs.Check.{most-hops}
+use Rattle.graph.specs.Answers.{most-hops}
 use Rattle.graph.specs.declared.Hop.{Hop}
 use Rattle.records.proofs.Flats.{over-flat}
 use Rattle.records.proofs.Local.{big, zeros, lends-local, local-back}

@@ -1,7 +1,7 @@
 -- `capi::span::zf_hops_of` meets its contract. Assumes nothing.
 use borrow.Author.Needs.{needs}
 use mathlib.Core.Path.{refl, ap, _∙_}
-use Rattle.graph.specs.Check.{accepted}
+use Rattle.graph.specs.Answers.{accepted}
 use Rattle.answers.specs.Numbers.{spanNumbers}
 use Rattle.answers.proofs.Answers.{short-six, long-returns}
 use Rattle.capi.proofs.Told.{told-of, short-told, long-told}

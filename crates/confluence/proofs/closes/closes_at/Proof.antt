@@ -8,7 +8,7 @@ use borrow.Author.Needs.{needs}
 use borrow.Author.Count.{below-more}
 use borrow.Author.Tests.{not-true, not-false}
 use Rattle.graph.specs.Hops.{from, label, to}
-use Rattle.graph.specs.Check.{most-states}
+use Rattle.graph.specs.Answers.{most-states}
 use Rattle.confluence.specs.Rounds.{closing, answers, tried}
 use Rattle.confluence.specs.Held.{heldBy, Skipped}
 use Rattle.confluence.proofs.Closing.{tried-own}

@@ -2,7 +2,7 @@
 use mathlib.Core.Path.{_∙_}
 use native.Mathlib.Omega.{arith}
 use borrow.Author.Needs.{needs}
-use Rattle.graph.proofs.Checked.{check-admitted}
+use Rattle.limits.proofs.Checked.{check-admitted}
 use Rattle.marks.proofs.Entry.{mark-refused, mark-ringed, mark-narrow, mark-accepts}
 use Rattle.marks.proofs.mark.mark_answer.Statement.{statement}
 use Rattle.marks.proofs.mark.mark_answer.Tie as tie

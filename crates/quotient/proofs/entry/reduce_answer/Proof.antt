@@ -1,6 +1,6 @@
 -- `quotient::entry::reduce_answer` meets its contract: each way out is a row. Assumes nothing.
 use mathlib.Core.Path.{_∙_}
-use Rattle.graph.proofs.Checked.{check-admitted}
+use Rattle.limits.proofs.Checked.{check-admitted}
 use Rattle.quotient.proofs.Answering.{answer-checked, answer-ringed, answer-narrow, answer-accepts}
 use borrow.Author.Needs.{needs}
 use Rattle.quotient.proofs.entry.reduce_answer.Statement.{statement}

@@ -1,10 +1,10 @@
--- `graph::limits::is_rising` meets its contract. Assumes nothing.
+-- `limits::is_rising` meets its contract. Assumes nothing.
 use mathlib.Core.Path.{_∙_}
 use borrow.Author.Needs.{needs}
 use borrow.Author.Tests.{eq-eqb, ne-eqb}
-use Rattle.graph.specs.Check.{rises}
-use Rattle.graph.proofs.limits.is_rising.Statement.{statement}
-use Rattle.graph.proofs.limits.is_rising.Tie as tie
+use Rattle.limits.specs.Check.{rises}
+use Rattle.limits.proofs.is_rising.Statement.{statement}
+use Rattle.limits.proofs.is_rising.Tie as tie
 
 returns : tie.Need-returns
 unfolding rises

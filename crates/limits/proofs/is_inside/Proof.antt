@@ -1,8 +1,8 @@
--- `graph::limits::is_inside` meets its contract: the code is the definition. Assumes nothing.
+-- `limits::is_inside` meets its contract: the code is the definition. Assumes nothing.
 use borrow.Author.Needs.{needs}
-use Rattle.graph.proofs.Checked.{inside-hop}
-use Rattle.graph.proofs.limits.is_inside.Statement.{statement}
-use Rattle.graph.proofs.limits.is_inside.Tie as tie
+use Rattle.limits.proofs.Checked.{inside-hop}
+use Rattle.limits.proofs.is_inside.Statement.{statement}
+use Rattle.limits.proofs.is_inside.Tie as tie
 
 hop-at-requires : tie.Need-hop-at-requires
 hop-at-requires c κs = search needs

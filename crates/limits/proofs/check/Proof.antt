@@ -1,10 +1,10 @@
--- `graph::limits::check` meets its contract: each way out is a case of the definition. Assumes nothing.
+-- `limits::check` meets its contract: each way out is a case of the definition. Assumes nothing.
 use borrow.Author.Needs.{needs}
 use mathlib.Core.Path.{_∙_}
 use native.Mathlib.Omega.{arith}
-use Rattle.graph.proofs.Checked.{check-counts, check-initial, check-range, check-order, check-accepts}
-use Rattle.graph.proofs.limits.check.Statement.{statement}
-use Rattle.graph.proofs.limits.check.Tie as tie
+use Rattle.limits.proofs.Checked.{check-counts, check-initial, check-range, check-order, check-accepts}
+use Rattle.limits.proofs.check.Statement.{statement}
+use Rattle.limits.proofs.check.Tie as tie
 
 counts-fit-requires : tie.Need-counts-fit-requires
 counts-fit-requires c κs = search needs

@@ -12,12 +12,13 @@ use borrow.Author.Tests.{ltb-true, ltb-false, leb-true, leb-false, eqb-true, lt-
 use lib.ListN.{length}
 use lib.Dec.{eqb, leb, ltb}
 use Rattle.below.specs.Tests.{least, FirstFailing}
 use Rattle.graph.specs.Hops.{count, from, label, to, hopAt}
 use Rattle.graph.specs.Order.{before, Ascending}
-use Rattle.graph.specs.Check.{most-states, most-labels, most-hops, accepted, refused, countsFit, inside, firstOutside, rises, firstFalling, checkOf, InRange, Admitted}
+use Rattle.graph.specs.Answers.{most-states, most-labels, most-hops, accepted, refused}
+use Rattle.limits.specs.Check.{countsFit, inside, firstOutside, rises, firstFalling, checkOf, InRange, Admitted}
 use Rattle.graph.specs.declared.Hop.{Hop}
 use Rattle.graph.specs.declared.Shape.{Shape}
 use Rattle.graph.specs.declared.Answer.{Answer}
 use Rattle.below.proofs.Bools.{not-yes, and-left, and-right, or-yes, or-right}
 use Rattle.below.proofs.Tests.{least-is, least-passes, least-before}
 

@@ -1,40 +1,19 @@
 // The entry `check`: whether a graph is one that document 01 admits, and if not, by which row and where.
-use super::Answer;
-use super::Shape;
-use super::hops::hop_at;
-use super::hops::hop_count;
-use super::hops::is_whole;
-use super::order::is_before;
+use graph::Answer;
+use graph::MOST_HOPS;
+use graph::MOST_LABELS;
+use graph::MOST_STATES;
+use graph::Shape;
+use graph::answers::accept;
+use graph::answers::refuse;
+use graph::hops::hop_at;
+use graph::hops::hop_count;
+use graph::hops::is_whole;
+use graph::order::is_before;
 ghost use mathlib.Core.Path.{_≡_};
 ghost use Prim.Native.Nat.{_<_};
 ghost use Rattle.graph.specs.Hops.{count};
-ghost use Rattle.graph.specs.Check.{accepted, refused, countsFit, inside, firstOutside, rises, firstFalling, checkOf};
-
-const MOST_STATES: u32 = 1024;
-
-const MOST_LABELS: u32 = 1024;
-
-const MOST_HOPS: usize = 4096;
-
-pub fn accept() -> Answer
-    ensures { λ r. ⌜ r ≡ accepted ⌝ }
-{
-    Answer {
-        number: 0,
-        table: 1,
-        place: 0,
-    }
-}
-
-pub fn refuse(number: u32, place: usize) -> Answer
-    ensures { λ r. ⌜ r ≡ refused number place ⌝ }
-{
-    Answer {
-        number,
-        table: 1,
-        place,
-    }
-}
+ghost use Rattle.limits.specs.Check.{countsFit, inside, firstOutside, rises, firstFalling, checkOf};
 
 // Row 1.
 fn counts_fit(shape: Shape, hops: &[u16]) -> bool
@@ -43,9 +22,9 @@ fn counts_fit(shape: Shape, hops: &[u16]) -> bool
     let n = hop_count(hops);
     let whole = is_whole(hops);
     (1 <= shape.states)
-        & (shape.states <= MOST_STATES)
+        & (shape.states <= MOST_STATES as u32)
         & (1 <= shape.labels)
-        & (shape.labels <= MOST_LABELS)
+        & (shape.labels <= MOST_LABELS as u32)
         & (n <= MOST_HOPS)
         & whole
 }

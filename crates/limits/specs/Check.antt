@@ -6,39 +6,11 @@ use mathlib.Core.List.{List}
 use lib.ListN.{length}
 use lib.Dec.{eqb, leb, ltb}
 use Rattle.below.specs.Tests.{least}
-use Rattle.graph.specs.Hops.{count, whole, from, label, to, hopAt}
+use Rattle.graph.specs.Hops.{numbers-a-hop, count, whole, from, label, to, hopAt}
 use Rattle.graph.specs.Order.{before, Ascending}
+use Rattle.graph.specs.Answers.{most-states, most-labels, most-hops, accepted, refused}
 use Rattle.graph.specs.declared.Shape.{Shape}
 use Rattle.graph.specs.declared.Answer.{Answer}
-
--- "A graph has a state count of 1 to 1,024, a label count of 1 to 1,024, .. and 0 to 4,096 hops"
-abbrev pub most-states : ℕ
-most-states = 1024
-
-abbrev pub most-labels : ℕ
-most-labels = 1024
-
-abbrev pub most-hops : ℕ
-most-hops = 4096
-
--- "An answer holds number, table .. and place": accepted is 0, table 1, place 0
-abbrev pub accepted : Answer
-accepted = record { number = 0; table = 1; place = 0 }
-
-abbrev pub refused : ℕ → ℕ → Answer
-refused n p = record { number = n; table = 1; place = p }
-
--- the same answer, of another table ("2 only for graph 2 of the audit")
-abbrev pub inTable : ℕ → Answer → Answer
-inTable t a = record { number = a .number; table = t; place = a .place }
-
--- "unless an earlier check speaks": the first answer if it refuses, else the next
-abbrev pub andThen : Answer → Answer → Answer
-andThen a b = cond (eqb (a .number) 0) b a
-
--- row 6, for an output that has room for r elements and needs n
-abbrev pub roomFor : ℕ → ℕ → Answer
-roomFor n r = cond (leb n r) accepted (refused 6 0)
 
 -- row 1: "state, label or hop count outside its limits, or flat list length not a multiple of three"
 unfoldable pub countsFit : Shape → List ℕ → Bool
@@ -81,7 +53,7 @@ pub record Admitted (sh : Shape) (hs : List ℕ) : Type 0 where
   pub labels-some : 1 ≤ sh .labels
   pub labels-most : sh .labels ≤ most-labels
   pub hops-most : count hs ≤ most-hops
-  pub three-a-hop : length hs % 3 ≡ 0
+  pub three-a-hop : length hs % numbers-a-hop ≡ 0
   pub initial-in : sh .initial < sh .states
   pub range : InRange sh hs
   pub ascending : Ascending hs

@@ -1,0 +1,1 @@
+pub mod Checked -- accepted exactly when admitted, and which row speaks where
