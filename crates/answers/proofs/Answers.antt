@@ -1,21 +1,11 @@
--- An answer slice: the stores that write it, and what is returned where it is too short or long enough. Assumes nothing.
-use Prim.Native.Nat.{ℕ, _+_, _<_, _≤_}
+-- What is returned where the answer slice is too short or long enough. Assumes nothing.
+use Prim.Native.Nat.{ℕ, _<_, _≤_}
 use mathlib.Core.Path.{_≡_, refl, ap, _∙_}
 use mathlib.Core.Bool.{Bool, true, false, cond}
-use mathlib.Core.List.{List, _++_}
-use native.Mathlib.Omega.{arith}
 use borrow.Author.Tests.{le-leb, lt-leb, eq-eqb, ne-eqb, eqb-true}
-use lib.ListN.{length, drop}
-use lib.Seq.{sets, sets-eq}
 use lib.Dec.{eqb, leb}
 use Rattle.graph.specs.declared.Answer.{Answer}
 use Rattle.answers.specs.Numbers.{returned}
-
--- numbers stored one after another from the front
-pub stored : (vs out : List ℕ) → length vs ≤ length out → sets out 0 vs ≡ vs ++ drop (length vs) out
-stored vs out l = sets-eq vs out 0 (omega arith) ∙ simp zero-add where
-  zero-add : (n : ℕ) → 0 + n ≡ n
-  zero-add n = omega arith
 
 module _ (a : Answer) (n room : ℕ) where
   -- too short: 6, unless the entry refuses
@@ -34,6 +24,12 @@ module _ (a : Answer) (n room : ℕ) where
     go true e = eqb-true _ _ e ∙ rw (le-leb n room l)
     go false e = refl
 
--- what is said of an answer is said of an equal one
+-- what is returned for an answer is returned for an equal one
 pub returned-of : (n room : ℕ) {a b : Answer} {r : ℕ} → a ≡ b → r ≡ returned a n room → r ≡ returned b n room
 returned-of n room e h = h ∙ ap (λ (x : Answer). returned x n room) e
+
+-- the answer that stands in one of two results, of which the first is taken by a test
+pub either-answer : {A : Type 0} (answer : A → Answer) (x : Bool) (r q : A) {a : Answer} → (x ≡ true → answer r ≡ a) → answer q ≡ a →
+    answer (cond x r q) ≡ a
+either-answer answer true r q e d = e refl
+either-answer answer false r q e d = d

@@ -1,26 +1,16 @@
-// What an entry tells its caller: numbers at the front of the answer slice, and the number that is returned.
+// What an entry for C and Rust tells its caller, once for all entries: the figures at the front of the answer slice, and the number that is returned.
+// An answer slice too short gets nothing, and 6 is returned unless the entry itself refuses. The crates tells_* build the figures of their entries as a
+// small array and end with `tell`; where nothing else may be written either, they find the answer alone and end with `short_number`.
+// Stands on graph (answers) and outputs (what a lent slice holds afterwards).
 use graph::Answer;
-use graph::Shape;
-use outgoing::Span;
-use quotient::Reduction;
-use reader::Contents;
 ghost use mathlib.Core.Path.{_≡_};
-ghost use mathlib.Core.List.{[], _∷_, _++_};
+ghost use mathlib.Core.List.{[], _∷_};
 ghost use Prim.Native.Nat.{_<_, _≤_};
-ghost use lib.ListN.{length, drop};
-ghost use Rattle.answers.specs.Numbers.{shapeOf, numbersOf, spanNumbers, reductionNumbers, contentsNumbers, returned};
+ghost use lib.ListN.{length};
+ghost use Rattle.outputs.specs.Output.{onFront};
+ghost use Rattle.answers.specs.Numbers.{numbersOf, returned, told};
 
-pub fn shape_of(states: u32, labels: u32, initial: u32) -> Shape
-    ensures { λ r. ⌜ r ≡ shapeOf states labels initial ⌝ }
-{
-    Shape {
-        states,
-        labels,
-        initial,
-    }
-}
-
-// The number where the answer slice is too short: a refusal's own, else 6.
+// The number where the answer slice is too short for n figures: a refusal's own, else 6.
 pub fn short_number(a: Answer, room: usize, n: usize) -> u32
     requires { ⌜ room < n ⌝ }
     ensures { λ r. ⌜ r ≡ returned a n room ⌝ }
@@ -32,66 +22,44 @@ pub fn short_number(a: Answer, room: usize, n: usize) -> u32
     number
 }
 
-// An answer of three numbers.
-pub fn put_answer(out: &mut [u64], a: Answer)
-    requires { ⌜ 3 ≤ length (now out) ⌝ }
-    ensures { λ r. ⌜ now (out .exit) ≡ numbersOf a [] ++ drop 3 (now (out .entry)) ⌝ }
+// Figures at the front of the answer slice.
+fn put_figures(out: &mut [u64], figures: &[u64])
+    requires { ⌜ length (now figures) ≤ length (now out) ⌝ }
+    ensures { λ _. ⌜ now (out .exit) ≡ onFront (now (figures .entry)) (now (out .entry)) ⌝ }
 {
-    out[0] = a.number as u64;
-    out[1] = a.table as u64;
-    out[2] = a.place as u64;
+    let mut i: usize = 0;
+    while i < figures.len() {
+        out[i] = figures[i];
+        i += 1;
+    }
 }
 
-// An answer and one figure.
-pub fn put_figure(out: &mut [u64], a: Answer, figure: u64)
-    requires { ⌜ 4 ≤ length (now out) ⌝ }
-    ensures { λ r. ⌜ now (out .exit) ≡ numbersOf a (figure ∷ []) ++ drop 4 (now (out .entry)) ⌝ }
+// Tells the figures of an entry that answers `a`, and says what is returned.
+pub fn tell(out: &mut [u64], figures: &[u64], a: Answer) -> u32
+    ensures returns { λ r. ⌜ r ≡ returned a (length (now (figures .entry))) (length (now (out .entry))) ⌝ }
+    ensures tells { λ r. ⌜ now (out .exit) ≡ told (length (now (figures .entry))) (now (figures .entry)) (now (out .entry)) ⌝ }
 {
-    out[0] = a.number as u64;
-    out[1] = a.table as u64;
-    out[2] = a.place as u64;
-    out[3] = figure;
+    if out.len() < figures.len() {
+        return short_number(a, out.len(), figures.len());
+    }
+    put_figures(out, figures);
+    a.number
 }
 
-// Start and length of a part.
-pub fn put_span(out: &mut [u64], span: Span)
-    requires { ⌜ 2 ≤ length (now out) ⌝ }
-    ensures { λ r. ⌜ now (out .exit) ≡ spanNumbers span ++ drop 2 (now (out .entry)) ⌝ }
+// An entry that tells its answer and no more.
+pub fn tell_answer(out: &mut [u64], a: Answer) -> u32
+    ensures returns { λ r. ⌜ r ≡ returned a 3 (length (now (out .entry))) ⌝ }
+    ensures tells { λ r. ⌜ now (out .exit) ≡ told 3 (numbersOf a []) (now (out .entry)) ⌝ }
 {
-    out[0] = span.start as u64;
-    out[1] = span.length as u64;
+    let figures = [a.number as u64, a.table as u64, a.place as u64];
+    tell(out, &figures, a)
 }
 
-// An answer, and the short graph's counts and initial state.
-pub fn put_reduction(out: &mut [u64], reduction: Reduction)
-    requires { ⌜ 7 ≤ length (now out) ⌝ }
-    ensures { λ r. ⌜ now (out .exit) ≡ reductionNumbers reduction ++ drop 7 (now (out .entry)) ⌝ }
+// An entry that tells its answer and one figure.
+pub fn tell_figure(out: &mut [u64], a: Answer, figure: u64) -> u32
+    ensures returns { λ r. ⌜ r ≡ returned a 4 (length (now (out .entry))) ⌝ }
+    ensures tells { λ r. ⌜ now (out .exit) ≡ told 4 (numbersOf a (figure ∷ [])) (now (out .entry)) ⌝ }
 {
-    let a = reduction.answer;
-    let shape = reduction.shape;
-    out[0] = a.number as u64;
-    out[1] = a.table as u64;
-    out[2] = a.place as u64;
-    out[3] = shape.states as u64;
-    out[4] = shape.labels as u64;
-    out[5] = reduction.hops as u64;
-    out[6] = shape.initial as u64;
-}
-
-// An answer, the graph's counts and initial state, and where its name block stands.
-pub fn put_contents(out: &mut [u64], contents: Contents)
-    requires { ⌜ 9 ≤ length (now out) ⌝ }
-    ensures { λ r. ⌜ now (out .exit) ≡ contentsNumbers contents ++ drop 9 (now (out .entry)) ⌝ }
-{
-    let a = contents.answer;
-    let shape = contents.shape;
-    out[0] = a.number as u64;
-    out[1] = a.table as u64;
-    out[2] = a.place as u64;
-    out[3] = shape.states as u64;
-    out[4] = shape.labels as u64;
-    out[5] = shape.initial as u64;
-    out[6] = contents.hops as u64;
-    out[7] = contents.names_place as u64;
-    out[8] = contents.names_len as u64;
+    let figures = [a.number as u64, a.table as u64, a.place as u64, figure];
+    tell(out, &figures, a)
 }

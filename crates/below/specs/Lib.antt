@@ -1,1 +1,1 @@
-pub mod Tests
+pub mod Tests  -- all, any, least, tally, listed and total below a bound

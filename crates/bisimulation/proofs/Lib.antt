@@ -1,4 +1,3 @@
-pub mod Meaning
-pub mod Relations
-pub mod Bound
-pub mod Answering
+pub mod Meaning  -- a fault count of 0 is a branching bisimulation that joins the initial states
+pub mod Relations  -- document 01's branching bisimulations are the theory's
+pub mod Answering  -- the ways out of the entry

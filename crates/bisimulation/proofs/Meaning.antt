@@ -21,7 +21,8 @@ use Rattle.silent.specs.Silent.{HopOf, Leads, leads}
 use Rattle.silent.proofs.Leads.{leads-iff}
 use Rattle.graph.specs.Map.{mapped}
 use Rattle.faults.specs.Faults.{initialFault, kept, lostFaults, offers, backed, matched, madeUp, madeUpFaults, faultsOf}
-use Rattle.bisimulation.specs.Bisimulation.{BranchingBisimulation, MapRelation, JoinsInitial, AdmittedMap}
+use Rattle.fitting.specs.Fitting.{AdmittedMap}
+use Rattle.bisimulation.specs.Bisimulation.{BranchingBisimulation, MapRelation, JoinsInitial}
 
 -- the map loses no hop of graph 1 and makes no hop of graph 2 up, and leads from the one initial state to the other
 pub record Faultless (sh1 sh2 : Shape) (h1 h2 m : List ℕ) : Type 0 where

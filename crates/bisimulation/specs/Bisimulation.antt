@@ -3,7 +3,6 @@ use Prim.Native.Nat.{ℕ, _<_}
 use mathlib.Core.Path.{_≡_}
 use mathlib.Core.Logic.{_⊎_}
 use mathlib.Core.List.{List}
-use lib.ListN.{length}
 use Rattle.graph.specs.declared.Shape.{Shape}
 use Rattle.silent.specs.Silent.{HopOf, Leads}
 use Rattle.graph.specs.Map.{mapped}
@@ -33,8 +32,3 @@ MapRelation sh1 m s r = (s < sh1 .states) × (mapped m s ≡ r)
 -- "It joins the initial states when initial state 1 with initial state 2 is one of its pairs."
 abbrev pub JoinsInitial : Shape → Shape → (ℕ → ℕ → Type 0) → Type 0
 JoinsInitial sh1 sh2 B = B (sh1 .initial) (sh2 .initial)
-
--- "a map, when its length is state count 1 and each entry is below state count 2"
-pub record AdmittedMap (sh1 sh2 : Shape) (m : List ℕ) : Type 0 where
-  pub one-a-state : length m ≡ sh1 .states
-  pub entries-in : (s : ℕ) → s < sh1 .states → mapped m s < sh2 .states

@@ -1,19 +1,14 @@
 // Reduce and audit.
-use answers::put_figure;
-use answers::put_reduction;
-use answers::shape_of;
-use answers::short_number;
-use bisimulation::auditing::audit;
-use quotient::entry::reduce;
-use quotient::entry::reduce_answer;
+use tells_reducing::tell_audit;
+use tells_reducing::tell_reduce;
 ghost use mathlib.Core.Path.{_≡_};
 ghost use lib.ListN.{length};
 ghost use Rattle.quotient.specs.Reduce.{reduceAnswer, reduceOf, mapOutput, shortOutput};
-ghost use Rattle.bisimulation.specs.Auditing.{auditAnswer, auditOf};
-ghost use Rattle.answers.specs.Numbers.{shapeOf, reductionNumbers, returned};
-ghost use Rattle.capi.specs.Interface.{auditNumbers, told, unlessShort};
+ghost use Rattle.fitting.specs.Fitting.{auditAnswer};
+ghost use Rattle.bisimulation.specs.Auditing.{auditOf};
+ghost use Rattle.answers.specs.Numbers.{shapeOf, returned, told, unlessShort};
+ghost use Rattle.tells_reducing.specs.Numbers.{reductionNumbers, auditNumbers};
 
-// Where the answer slice is too short, only the answer is found, and nothing is reduced.
 #[no_mangle]
 pub extern "C" fn zf_reduce(
     states: u32,
@@ -44,15 +39,7 @@ pub extern "C" fn zf_reduce(
         (reductionNumbers (reduceOf (shapeOf states labels initial) (now (hops .entry)) (length (now (map .entry))) (length (now (short .entry)))))
         (now (answer .entry)) ⌝ }
 {
-    let shape = shape_of(states, labels, initial);
-    if answer.len() < 7 {
-        let unwritten = reduce_answer(shape, hops, map.len(), short.len());
-        return short_number(unwritten, answer.len(), 7);
-    }
-    let reduction = reduce(shape, hops, map, short);
-    put_reduction(answer, reduction);
-    let a = reduction.answer;
-    a.number
+    tell_reduce(states, labels, initial, hops, map, short, answer)
 }
 
 #[no_mangle]
@@ -79,13 +66,16 @@ pub extern "C" fn zf_audit(
         (auditOf (shapeOf states1 labels1 initial1) (shapeOf states2 labels2 initial2) (now (hops1 .entry)) (now (hops2 .entry)) (now (map .entry))))
         (now (answer .entry)) ⌝ }
 {
-    let shape1 = shape_of(states1, labels1, initial1);
-    let shape2 = shape_of(states2, labels2, initial2);
-    let audited = audit(shape1, hops1, shape2, hops2, map);
-    let a = audited.answer;
-    if answer.len() < 4 {
-        return short_number(a, answer.len(), 4);
-    }
-    put_figure(answer, a, audited.faults as u64);
-    a.number
+    tell_audit(
+        states1,
+        labels1,
+        initial1,
+        hops1,
+        states2,
+        labels2,
+        initial2,
+        hops2,
+        map,
+        answer,
+    )
 }

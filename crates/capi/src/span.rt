@@ -1,13 +1,11 @@
 // Hops of a state, by start and length.
-use answers::put_span;
-use answers::shape_of;
-use outgoing::span_of;
+use tells_span::tell_hops_of;
 ghost use mathlib.Core.Path.{_≡_};
 ghost use lib.ListN.{length};
 ghost use Rattle.graph.specs.Answers.{accepted};
 ghost use Rattle.outgoing.specs.Outgoing.{chosen, spanOf};
-ghost use Rattle.answers.specs.Numbers.{shapeOf, spanNumbers, returned};
-ghost use Rattle.capi.specs.Interface.{told};
+ghost use Rattle.answers.specs.Numbers.{shapeOf, returned, told};
+ghost use Rattle.tells_span.specs.Numbers.{spanNumbers};
 
 #[no_mangle]
 pub extern "C" fn zf_hops_of(
@@ -34,11 +32,17 @@ pub extern "C" fn zf_hops_of(
         (now (hops2 .entry))))
         (now (answer .entry)) ⌝ }
 {
-    if answer.len() < 2 {
-        return 6;
-    }
-    let shape1 = shape_of(states1, labels1, initial1);
-    let shape2 = shape_of(states2, labels2, initial2);
-    put_span(answer, span_of(side, state, shape1, hops1, shape2, hops2));
-    0
+    tell_hops_of(
+        side,
+        state,
+        states1,
+        labels1,
+        initial1,
+        hops1,
+        states2,
+        labels2,
+        initial2,
+        hops2,
+        answer,
+    )
 }

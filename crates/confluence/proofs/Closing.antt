@@ -1,22 +1,20 @@
 -- What the tests `closing`, `answers` and `closes` say, and the other way round: `closes hs u` is document 01's condition with "in U" read as
 -- `u s t ≡ true`. So they only grow with the set. Assumes nothing.
-use Prim.Native.Nat.{ℕ, _<_}
+use Prim.Native.Nat.{ℕ, _<_, _≤_}
 use mathlib.Core.Path.{_≡_, refl, sym, _∙_}
-use mathlib.Core.Bool.{Bool, true, false, _&&_, _||_}
+use mathlib.Core.Bool.{Bool, true, false, _&&_, _||_, or-false}
 use mathlib.Core.List.{List}
 use mathlib.Core.Logic.{_⊎_, inl, inr, ⊎-elim}
 use lib.Dec.{eqb}
 use borrow.Author.Tests.{eq-eqb, ne-eqb, eqb-true}
 use Rattle.below.specs.Tests.{any}
-use Rattle.graph.specs.Hops.{count, from, label, to, has}
-use Rattle.below.proofs.Bools.{and-yes, and-left, and-right, or-left, or-right, or-yes, eq-or-not}
-use Rattle.graph.proofs.Places.{has-at, has-place, place-has}
+use Rattle.graph.specs.Hops.{count, from, label, to, labelled, has}
+use Rattle.below.proofs.Bools.{clash, and-yes, and-left, and-right, or-left, or-right, or-yes, no-test, eq-or-not}
+use Rattle.graph.proofs.Places.{labelled-yes, labelled-parts, has-at, has-place, place-has}
+use Rattle.graph.proofs.Lookup.{any-range}
 use Rattle.below.proofs.Tests.{all-at, all-yes, any-at, any-found}
-use Rattle.confluence.specs.Rounds.{Pairs, closing, leaves, answer, answers, answered, tried, closes}
-
--- a set of Bool tests as a set of types
-abbrev pub In : Pairs → ℕ → ℕ → Type 0
-In u s t = u s t ≡ true
+use Rattle.shrinking.specs.Pairs.{Pairs, In}
+use Rattle.confluence.specs.Rounds.{closing, answer, hopAnswers, answers, answered, tried, closes}
 
 -- "there is an s4 such that ..": a hop labelled a to s3 is answered from s2
 abbrev pub Answered : List ℕ → (ℕ → ℕ → Type 0) → ℕ → ℕ → ℕ → Type 0
@@ -46,36 +44,58 @@ module _ (u : Pairs) (s3 s4 : ℕ) where
   unfolding closing
   closing-other n = rw (ne-eqb s3 s4 n)
 
+-- what the code found out, v, of the closing of s3 by a state s4 that is t
+pub closing-is : (u : Pairs) (s3 : ℕ) {s4 t : ℕ} {v b : Bool} → s4 ≡ t → v ≡ closing u s3 s4 → v ≡ b → closing u s3 t ≡ b
+closing-is u s3 q e d = rw q at (sym e ∙ d)
+
 module _ (hs : List ℕ) where
-  pub leaves-says : (s a j : ℕ) → leaves hs s a j ≡ true → (from hs j ≡ s) × (label hs j ≡ a)
-  unfolding leaves
-  leaves-says s a j e = (
-    eqb-true (from hs j) s (and-left (eqb (from hs j) s) (eqb (label hs j) a) e),
-    eqb-true (label hs j) a (and-right (eqb (from hs j) s) (eqb (label hs j) a) e),
-  )
-
-  pub leaves-yes : {s a : ℕ} (j : ℕ) → from hs j ≡ s → label hs j ≡ a → leaves hs s a j ≡ true
-  unfolding leaves
-  leaves-yes j p q = and-yes (eq-eqb (from hs j) _ p) (eq-eqb (label hs j) _ q)
-
   module _ (u : Pairs) where
     -- Y: s2 itself answers, or the hop at a place does
+    pub hop-answers : (s2 a s3 : ℕ) {j : ℕ} → j < count hs → labelled hs s2 a j ≡ true → closing u s3 (to hs j) ≡ true → hopAnswers hs (closing u) s2 a s3 ≡ true
+    unfolding hopAnswers answer
+    hop-answers s2 a s3 l h e = any-found (answer hs (closing u) s2 a s3) (count hs) l (and-yes h e)
+
+    -- no hop answers where those labelled a lie in a range and none in it closes
+    pub none-answers : (s2 a s3 lo hi : ℕ) → ((j : ℕ) → j < count hs → labelled hs s2 a j ≡ true → (lo ≤ j) × (j < hi)) →
+        ((j : ℕ) → lo ≤ j → j < hi → labelled hs s2 a j ≡ true → closing u s3 (to hs j) ≡ false) → hopAnswers hs (closing u) s2 a s3 ≡ false
+    unfolding hopAnswers answer
+    none-answers s2 a s3 lo hi f g = any-range (answer hs (closing u) s2 a s3) (count hs) lo hi inside none where
+      inside : (j : ℕ) → j < count hs → answer hs (closing u) s2 a s3 j ≡ true → (lo ≤ j) × (j < hi)
+      inside j l e = f j l (and-left (labelled hs s2 a j) (closing u s3 (to hs j)) e)
+
+      none : (j : ℕ) → lo ≤ j → j < hi → answer hs (closing u) s2 a s3 j ≡ false
+      none j l m =
+          no-test (answer hs (closing u) s2 a s3 j) (λ e. clash (and-right (labelled hs s2 a j) (closing u s3 (to hs j)) e)
+          (g j l m (and-left (labelled hs s2 a j) (closing u s3 (to hs j)) e)))
+
     pub answers-still : (s2 a s3 : ℕ) → a ≡ 0 → closing u s3 s2 ≡ true → answers hs (closing u) s2 a s3 ≡ true
     unfolding answers
-    answers-still s2 a s3 q e = or-left (any (count hs) (answer hs (closing u) s2 a s3)) (and-yes (eq-eqb a 0 q) e)
+    answers-still s2 a s3 q e = or-left (hopAnswers hs (closing u) s2 a s3) (and-yes (eq-eqb a 0 q) e)
 
-    pub answers-hop : (s2 a s3 : ℕ) {j : ℕ} → j < count hs → leaves hs s2 a j ≡ true → closing u s3 (to hs j) ≡ true → answers hs (closing u) s2 a s3 ≡ true
-    unfolding answers answer
-    answers-hop s2 a s3 l h e = or-right (eqb a 0 && closing u s3 s2) (any-found (answer hs (closing u) s2 a s3) (count hs) l (and-yes h e))
+    pub answers-hop : (s2 a s3 : ℕ) → hopAnswers hs (closing u) s2 a s3 ≡ true → answers hs (closing u) s2 a s3 ≡ true
+    unfolding answers
+    answers-hop s2 a s3 e = or-right (eqb a 0 && closing u s3 s2) e
+
+    -- where s2 itself does not answer, a hop must; and where no hop does, s2 itself must
+    pub answers-else : (s2 a s3 : ℕ) → (a ≡ 0 → closing u s3 s2 ≡ false) → hopAnswers hs (closing u) s2 a s3 ≡ answers hs (closing u) s2 a s3
+    unfolding answers
+    answers-else s2 a s3 f = go (eqb a 0) refl where
+      go : (t : Bool) → eqb a 0 ≡ t → hopAnswers hs (closing u) s2 a s3 ≡ ((t && closing u s3 s2) || hopAnswers hs (closing u) s2 a s3)
+      go true e = rw (f (eqb-true a 0 e))
+      go false e = refl
+
+    pub answers-last : (s2 a s3 : ℕ) → hopAnswers hs (closing u) s2 a s3 ≡ false → a ≡ 0 → closing u s3 s2 ≡ answers hs (closing u) s2 a s3
+    unfolding answers
+    answers-last s2 a s3 e z = rw (eq-eqb a 0 z, e) (sym (or-false (closing u s3 s2)))
 
     pub answers-yes : (s2 a s3 : ℕ) → Answered hs (In u) s2 a s3 → answers hs (closing u) s2 a s3 ≡ true
     answers-yes s2 a s3 (s4, inl h, z) =
         let p = has-place hs s2 a s4 h in
-        answers-hop s2 a s3 (p .within) (leaves-yes (p .at) (p .from-is) (p .label-is)) (rw (p .to-is) (closing-yes u s3 s4 z))
+        answers-hop s2 a s3 (hop-answers s2 a s3 (p .within) (labelled-yes hs s2 a (p .at) (p .from-is) (p .label-is)) (rw (p .to-is) (closing-yes u s3 s4 z)))
     answers-yes s2 a s3 (s4, inr (q, e), z) = answers-still s2 a s3 q (rw e at (closing-yes u s3 s4 z))
 
     pub answers-says : (s2 a s3 : ℕ) → answers hs (closing u) s2 a s3 ≡ true → Answered hs (In u) s2 a s3
-    unfolding answers answer
+    unfolding answers hopAnswers answer
     answers-says s2 a s3 e = go (or-yes (eqb a 0 && closing u s3 s2) (any (count hs) (answer hs (closing u) s2 a s3)) e) where
       go : ((eqb a 0 && closing u s3 s2) ≡ true) ⊎ (any (count hs) (answer hs (closing u) s2 a s3) ≡ true) → Answered hs (In u) s2 a s3
       go (inl h) = (
@@ -85,25 +105,21 @@ module _ (hs : List ℕ) where
       )
       go (inr h) =
           let (j, l, w) = any-at (answer hs (closing u) s2 a s3) (count hs) h in
-          let (f, g) = leaves-says s2 a j (and-left (leaves hs s2 a j) (closing u s3 (to hs j)) w) in
-          (to hs j, inl (place-has hs s2 a (to hs j) (record { at = j; within = l; from-is = f; label-is = g; to-is = refl })), closing-says u s3 (to hs j) (and-right (leaves hs s2 a j) (closing u s3 (to hs j)) w))
+          let (f, g) = labelled-parts hs s2 a j (and-left (labelled hs s2 a j) (closing u s3 (to hs j)) w) in (
+            to hs j,
+            inl (place-has hs s2 a (to hs j) (record { at = j; within = l; from-is = f; label-is = g; to-is = refl })),
+            closing-says u s3 (to hs j) (and-right (labelled hs s2 a j) (closing u s3 (to hs j)) w),
+          )
 
-    -- the same of the hop at place j, labelled a to s3, for the two ways of the code
-    module _ (s2 j : ℕ) {a s3 : ℕ} (p : a ≡ label hs j) (q : s3 ≡ to hs j) where
-      pub answered-still : a ≡ 0 → closing u s3 s2 ≡ true → answered hs u s2 j ≡ true
-      unfolding answered
-      answered-still z e = rw (← p, ← q) (answers-still s2 a s3 z e)
-
-      pub answered-else : (a ≡ 0 → closing u s3 s2 ≡ false) → any (count hs) (answer hs (closing u) s2 a s3) ≡ answered hs u s2 j
-      unfolding answered answers
-      answered-else f = rw (← p, ← q) (go (eqb a 0) refl) where
-        go : (t : Bool) → eqb a 0 ≡ t → any (count hs) (answer hs (closing u) s2 a s3) ≡ ((t && closing u s3 s2) || any (count hs) (answer hs (closing u) s2 a s3))
-        go true e = rw (f (eqb-true a 0 e))
-        go false e = refl
+    -- the same of the hop at place j, labelled a to s3
+    pub answered-at : (s2 j : ℕ) {a s3 : ℕ} → a ≡ label hs j → s3 ≡ to hs j → answers hs (closing u) s2 a s3 ≡ answered hs u s2 j
+    unfolding answered
+    answered-at s2 j p q = rw (p, q)
 
     -- "The hop s1 to s2 itself is among the hops tried", and s2 itself answers it, whatever the set: to try it changes no mark
     pub answered-itself : (s2 j : ℕ) → label hs j ≡ 0 → to hs j ≡ s2 → answered hs u s2 j ≡ true
-    answered-itself s2 j p q = answered-still s2 j refl refl p (closing-same u (to hs j) s2 q)
+    unfolding answered
+    answered-itself s2 j p q = answers-still s2 (label hs j) (to hs j) p (closing-same u (to hs j) s2 q)
 
     -- the hop at place j, if it leaves s1, is tried
     module _ (s1 s2 j : ℕ) where

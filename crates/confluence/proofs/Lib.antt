@@ -1,5 +1,4 @@
-pub mod Closing
-pub mod Rounds
-pub mod Marked
-pub mod Rows
-pub mod Held
+pub mod Closing  -- what the tests of closing say, and that they grow with the set
+pub mod Rounds  -- the rounds of marking are those of a monotone condition
+pub mod Marked  -- the marked set is the greatest confluent set and the greatest solution
+pub mod Held  -- the set that marks are, by places

@@ -1,25 +1,25 @@
 -- The marked set is the greatest confluent set, the union of all of them, the greatest solution of the equations X, Y and Z, and what survives every
 -- number of rounds: the last round changes nothing, so the set is its own X. Assumes nothing.
-use Prim.Native.Nat.{ℕ, zero, suc, _+_}
+use Prim.Native.Nat.{ℕ}
 use mathlib.Core.Path.{_≡_, refl, sym, ap, _∙_}
 use mathlib.Core.Bool.{true, _&&_}
 use mathlib.Core.List.{List}
-use native.Mathlib.Omega.{arith}
 use Rattle.lts.specs.Sense.{R1}
 use Rattle.graph.specs.Hops.{count, has}
 use Rattle.below.proofs.Bools.{and-left, and-right}
 use Rattle.silent.specs.Silent.{HopOf}
-use Rattle.confluence.specs.Rounds.{Pairs, Trials, closing, answers, closes, Solution, survives, marked, ConfluentSet}
-use Rattle.confluence.proofs.Closing.{In, closes-says, closes-yes, closed-mono, closing-mono, answers-mono}
-use Rattle.confluence.proofs.Rounds.{survives-none, survives-yes, stable}
+use Rattle.shrinking.specs.Pairs.{Pairs, In, Within}
+use Rattle.shrinking.specs.Rounds.{Kept}
+use Rattle.shrinking.proofs.Rounds.{left-fixed, kept-left, left-kept, left-every, left-same}
+use Rattle.confluence.specs.Rounds.{Trials, closing, answers, closes, Solution, silentHops, survives, marked, ConfluentSet}
+use Rattle.confluence.proofs.Closing.{closes-says, closes-yes, closed-mono, closing-mono, answers-mono}
+use Rattle.confluence.proofs.Rounds.{closes-monotone, silent-listed}
 
 module _ (hs : List ℕ) where
   -- the equation X of the marked set, with Y and Z put in, for every pair: one round more changes nothing
   pub marked-fixed : (s1 s2 : ℕ) → marked hs s1 s2 ≡ (has hs s1 0 s2 && closes hs (marked hs) s1 s2)
   unfolding marked survives
-  marked-fixed s1 s2 = rw one-more at (stable hs 1 s1 s2) where
-    one-more : 1 + count hs ≡ suc (count hs)
-    one-more = omega arith
+  marked-fixed = left-fixed (closes hs) (silentHops hs) (closes-monotone hs) (silent-listed hs)
 
   -- a set that meets it is confluent
   fixed-confluent : (x : Pairs) → ((s1 s2 : ℕ) → x s1 s2 ≡ (has hs s1 0 s2 && closes hs x s1 s2)) → ConfluentSet hs (In x)
@@ -32,12 +32,14 @@ module _ (hs : List ℕ) where
   pub marked-confluent : ConfluentSet hs (In (marked hs))
   marked-confluent = fixed-confluent (marked hs) marked-fixed
 
-  -- a hop of a confluent set survives every number of rounds
+  -- a confluent set keeps itself through a round
+  pub confluent-kept : {U : ℕ → ℕ → Type 0} → ConfluentSet hs U → Kept (closes hs) U
+  confluent-kept c v f s t m = closes-yes hs v s t (closed-mono hs f s t (c .closed s t m))
+
+  -- so a hop of it survives every number of rounds
   pub confluent-survives : {U : ℕ → ℕ → Type 0} → ConfluentSet hs U → (k s t : ℕ) → U s t → survives hs k s t ≡ true
-  confluent-survives c zero s t m = survives-none hs s t (c .silent s t m)
-  confluent-survives c (suc k) s t m =
-      survives-yes hs k s t (c .silent s t m)
-      (closes-yes hs (survives hs k) s t (closed-mono hs (confluent-survives c k) s t (c .closed s t m)))
+  unfolding survives
+  confluent-survives c = kept-left (closes hs) (silentHops hs) (c .silent) (confluent-kept c)
 
   pub marked-greatest : (U : ℕ → ℕ → Type 0) → ConfluentSet hs U → (s t : ℕ) → U s t → marked hs s t ≡ true
   unfolding marked
@@ -78,8 +80,18 @@ module _ (hs : List ℕ) where
   -- "The marked set is what survives every k"
   pub marked-every : (s t : ℕ) →
       (marked hs s t ≡ true → (k : ℕ) → survives hs k s t ≡ true) × (((k : ℕ) → survives hs k s t ≡ true) → marked hs s t ≡ true)
-  unfolding marked
-  marked-every s t = ((λ e k. confluent-survives marked-confluent k s t e), (λ f. f (count hs)))
+  unfolding marked survives
+  marked-every = left-every (closes hs) (silentHops hs) (closes-monotone hs) (silent-listed hs)
+
+  -- a hop of the marked set closes with any set that holds the marked set ..
+  pub marked-kept : Kept (closes hs) (In (marked hs))
+  unfolding marked survives
+  marked-kept = left-kept (closes hs) (silentHops hs) (closes-monotone hs) (silent-listed hs)
+
+  -- .. and such a set of silent hops that all close with it is the marked set
+  pub marked-same : (v : Pairs) → Within (In v) (In (silentHops hs)) → Within (In v) (In (closes hs v)) → Within (In (marked hs)) (In v) → v ≡ marked hs
+  unfolding marked survives
+  marked-same = left-same (closes hs) (silentHops hs) (closes-monotone hs) (silent-listed hs)
 
   -- the union of confluent sets is confluent
   pub union-confluent : (I : Type 0) (U : I → ℕ → ℕ → Type 0) → ((i : I) → ConfluentSet hs (U i)) → ConfluentSet hs (λ s t. (i : I) × U i s t)

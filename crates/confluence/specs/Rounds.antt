@@ -1,16 +1,14 @@
 -- Confluent sets and the rounds of marking (document 01 "Marking"; RR-7000's equations X, Y, Z). Assumes nothing: these are definitions.
-use Prim.Native.Nat.{ℕ, zero, suc}
+use Prim.Native.Nat.{ℕ}
 use mathlib.Core.Path.{_≡_}
 use mathlib.Core.Bool.{Bool, true, not, _&&_, _||_}
 use mathlib.Core.Logic.{_⊎_}
 use mathlib.Core.List.{List}
 use lib.Dec.{eqb}
 use Rattle.below.specs.Tests.{all, any}
-use Rattle.graph.specs.Hops.{count, from, label, to, has}
-
--- a set of pairs of states
-abbrev pub Pairs : Type 0
-Pairs = ℕ → ℕ → Bool
+use Rattle.graph.specs.Hops.{count, from, label, to, labelled, has}
+use Rattle.shrinking.specs.Pairs.{Pairs}
+use Rattle.shrinking.specs.Rounds.{leftAfter}
 
 -- a set of trials: s2, a, s3 is the trial of a hop labelled a to s3 against a silent hop to s2
 abbrev pub Trials : Type 0
@@ -20,17 +18,17 @@ Trials = ℕ → ℕ → ℕ → Bool
 unfoldable pub closing : Pairs → Pairs
 closing x s3 s4 = eqb s3 s4 || x s3 s4
 
--- the hop at place j is one from s labelled a
-unfoldable pub leaves : List ℕ → ℕ → ℕ → ℕ → Bool
-leaves hs s a j = eqb (from hs j) s && eqb (label hs j) a
-
 -- "s2 has a hop labelled a to s4": the one at place j, and its end closes s3
 unfoldable pub answer : List ℕ → Pairs → ℕ → ℕ → ℕ → ℕ → Bool
-answer hs z s2 a s3 j = leaves hs s2 a j && z s3 (to hs j)
+answer hs z s2 a s3 j = labelled hs s2 a j && z s3 (to hs j)
+
+-- a hop of s2 answers
+unfoldable pub hopAnswers : List ℕ → Pairs → Trials
+hopAnswers hs z s2 a s3 = any (count hs) (answer hs z s2 a s3)
 
 -- Y, a hop labelled a to s3 tried against a silent hop to s2, over Z: "a is silent and s4 = s2", or a hop of s2 answers
 unfoldable pub answers : List ℕ → Pairs → Trials
-answers hs z s2 a s3 = (eqb a 0 && z s3 s2) || any (count hs) (answer hs z s2 a s3)
+answers hs z s2 a s3 = (eqb a 0 && z s3 s2) || hopAnswers hs z s2 a s3
 
 -- the hop at place i, if it leaves s1, passes its trial against a silent hop to s2
 unfoldable pub tried : List ℕ → Trials → ℕ → ℕ → ℕ → Bool
@@ -51,10 +49,18 @@ answered hs u s2 i = answers hs (closing u) s2 (label hs i) (to hs i)
 unfoldable pub closes : List ℕ → Pairs → Pairs
 closes hs u s1 s2 = all (count hs) (tried hs (answers hs (closing u)) s1 s2)
 
+-- the same of the hop at place i
+abbrev pub closesAt : List ℕ → Pairs → ℕ → Bool
+closesAt hs u i = closes hs u (from hs i) (to hs i)
+
+-- the pairs that have a silent hop
+abbrev pub silentHops : List ℕ → Pairs
+silentHops hs s t = has hs s 0 t
+
 -- "Every silent hop survives 0 rounds. It survives k + 1 when the condition above holds with 'in U' read as 'survives k'."
+-- So these are the rounds of `closes` on the silent hops.
 unfoldable pub survives : List ℕ → ℕ → Pairs
-survives hs zero s1 s2 = has hs s1 0 s2
-survives hs (suc k) s1 s2 = has hs s1 0 s2 && closes hs (survives hs k) s1 s2
+survives hs = leftAfter (closes hs) (silentHops hs)
 
 -- the marked set: what survives as many rounds as there are hops (and so every number of rounds)
 unfoldable pub marked : List ℕ → Pairs

@@ -1,4 +1,3 @@
-pub mod Keeping
-pub mod Mapping
-pub mod Ticking
-pub mod Rows
+pub mod Keeping  -- the initial states are joined or not, and a hop is kept or not, by its place in the table
+pub mod Mapping  -- the place in graph 2 of a hop of graph 1, from the parts that are read for it
+pub mod Bound  -- the fault count is at most 4,198,401

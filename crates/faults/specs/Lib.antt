@@ -1,2 +1,2 @@
-pub mod Faults
-pub mod Ticks
+pub mod Faults  -- the three sums of the fault count
+pub mod Images  -- where the hops of graph 1 stand in graph 2 once they are mapped

@@ -5,35 +5,39 @@ use mathlib.Core.Bool.{Bool, true, false, cond}
 use mathlib.Core.List.{List}
 use native.Mathlib.Omega.{arith}
 use lib.ListN.{length}
-use Rattle.fields.specs.Format.{numberAt, hasInitial, hasHops, hasNames, labelsIn, initialIn, hopsPlace, hopsIn, namesPlace, namesIn, blockPlace, blockLength}
+use Rattle.numbers.specs.Numbers.{numberAt}
+use Rattle.hopfield.specs.Field.{fieldLength, hopsInField}
+use Rattle.hopfield.proofs.Field.{length-in-field, count-in-field}
+use Rattle.graph.specs.Hops.{numberPlace, count}
+use Rattle.fields.specs.Format.{hopListIn, initial-place, hasInitial, hasHops, hasNames, labelsIn, initialIn, hopsPlace, hopsIn, namesPlace, namesIn, blockPlace, blockLength}
 
 module _ (b : List ℕ) where
-  pub hops-place-most : hopsPlace b ≤ 7
+  pub hops-place-most : hopsPlace b ≤ initial-place + 2
   unfolding hopsPlace
   hops-place-most = go (hasInitial b) where
-    go : (t : Bool) → cond t 7 5 ≤ 7
+    go : (t : Bool) → cond t (initial-place + 2) initial-place ≤ initial-place + 2
     go true = omega arith
     go false = omega arith
 
-  pub names-place-least : 5 ≤ namesPlace b
+  pub names-place-least : initial-place ≤ namesPlace b
   unfolding namesPlace hopsPlace
   names-place-least = go (hasInitial b) (hasHops b) where
-    go : (t u : Bool) → 5 ≤ cond t 7 5 + cond u (2 + 6 * hopsIn b) 0
+    go : (t u : Bool) → initial-place ≤ cond t (initial-place + 2) initial-place + cond u (fieldLength (hopsIn b)) 0
     go true true = omega arith
     go true false = omega arith
     go false true = omega arith
     go false false = omega arith
 
   -- the fields where their bit stands, and where it does not
-  pub initial-on : hasInitial b ≡ true → (initialIn b ≡ numberAt b 5) × (hopsPlace b ≡ 7)
+  pub initial-on : hasInitial b ≡ true → (initialIn b ≡ numberAt b initial-place) × (hopsPlace b ≡ initial-place + 2)
   unfolding initialIn hopsPlace
   initial-on e = (rw e, rw e)
 
-  pub initial-off : hasInitial b ≡ false → (initialIn b ≡ 0) × (hopsPlace b ≡ 5)
+  pub initial-off : hasInitial b ≡ false → (initialIn b ≡ 0) × (hopsPlace b ≡ initial-place)
   unfolding initialIn hopsPlace
   initial-off e = (rw e, rw e)
 
-  pub hops-on : hasHops b ≡ true → (hopsIn b ≡ numberAt b (hopsPlace b)) × (namesPlace b ≡ hopsPlace b + (2 + 6 * hopsIn b))
+  pub hops-on : hasHops b ≡ true → (hopsIn b ≡ numberAt b (hopsPlace b)) × (namesPlace b ≡ hopsPlace b + fieldLength (hopsIn b))
   unfolding hopsIn namesPlace
   hops-on e = (rw e, rw e)
 
@@ -49,14 +53,23 @@ module _ (b : List ℕ) where
   unfolding namesIn blockPlace blockLength
   names-off e = (rw e, rw e, rw e)
 
+  -- the hop list is as long as the hop count says
+  pub length-hop-list : length (hopListIn b) ≡ numberPlace (hopsIn b)
+  unfolding hopListIn
+  length-hop-list = length-in-field b (hopsPlace b) (hopsIn b)
+
+  pub count-hop-list : count (hopListIn b) ≡ hopsIn b
+  unfolding hopListIn
+  count-hop-list = count-in-field b (hopsPlace b) (hopsIn b)
+
   pub hops-before-names : hopsPlace b ≤ namesPlace b
   unfolding namesPlace
   hops-before-names = omega arith
 
   module _ {p : ℕ} (e : p ≡ hopsPlace b) {f : Bool} (d : f ≡ hasHops b) where
-    pub place-with-hops : f ≡ true → {n : ℕ} → n ≡ hopsIn b → p + (2 + 6 * n) ≡ namesPlace b
+    pub place-with-hops : f ≡ true → {n : ℕ} → n ≡ hopsIn b → {l : ℕ} → l ≡ fieldLength n → p + l ≡ namesPlace b
     unfolding namesPlace
-    place-with-hops t h = rw (← d, t, ← e, ← h)
+    place-with-hops t h k = rw (← d, t, ← e, ← h, ← k)
 
     pub place-without : f ≡ false → p ≡ namesPlace b
     unfolding namesPlace

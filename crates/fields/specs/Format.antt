@@ -1,17 +1,14 @@
 -- The file of document 01, as it is read: "All numbers are 16-bit, low byte first". Where a field ends is said as if the file went on, a missing
 -- byte reading 0; row 11 is that the file is shorter than this. Assumes nothing: these are definitions.
-use Prim.Native.Nat.{ℕ, _+_, _-_, _*_, _/_, _%_}
+use Prim.Native.Nat.{ℕ, _+_, _-_, _/_, _%_}
 use mathlib.Core.Bool.{Bool, cond, _&&_, _||_}
 use mathlib.Core.List.{List}
 use lib.ListN.{length, getD, take, drop}
 use lib.Dec.{eqb, leb}
-use Rattle.below.specs.Tests.{listed}
 use Rattle.graph.specs.declared.Shape.{Shape}
+use Rattle.numbers.specs.Numbers.{numberAt}
+use Rattle.hopfield.specs.Field.{fieldLength, hopsInField}
 use Rattle.names.specs.Block.{nameAt}
-
--- "16-bit, low byte first"
-abbrev pub numberAt : List ℕ → ℕ → ℕ
-numberAt b i = getD b i 0 + 256 * getD b (i + 1) 0
 
 -- "Byte 0 is a bit map: bit 0 initial state, bit 1 hops, bit 2 names"
 abbrev pub bitMap : List ℕ → ℕ
@@ -28,23 +25,32 @@ hasNames b = eqb (bitMap b / 4 % 2) 1
 
 -- "Then state count and label count, always; then, only where its bit stands: the initial state; the hop count with six bytes a hop"; "Absent means
 -- initial state 0, no hops, no names"
+abbrev pub states-place : ℕ
+states-place = 1
+
+abbrev pub labels-place : ℕ
+labels-place = 3
+
+abbrev pub initial-place : ℕ
+initial-place = 5
+
 abbrev pub statesIn : List ℕ → ℕ
-statesIn b = numberAt b 1
+statesIn b = numberAt b states-place
 
 abbrev pub labelsIn : List ℕ → ℕ
-labelsIn b = numberAt b 3
+labelsIn b = numberAt b labels-place
 
 unfoldable pub initialIn : List ℕ → ℕ
-initialIn b = cond (hasInitial b) (numberAt b 5) 0
+initialIn b = cond (hasInitial b) (numberAt b initial-place) 0
 
 unfoldable pub hopsPlace : List ℕ → ℕ
-hopsPlace b = cond (hasInitial b) 7 5
+hopsPlace b = cond (hasInitial b) (initial-place + 2) initial-place
 
 unfoldable pub hopsIn : List ℕ → ℕ
 hopsIn b = cond (hasHops b) (numberAt b (hopsPlace b)) 0
 
 unfoldable pub namesPlace : List ℕ → ℕ
-namesPlace b = hopsPlace b + cond (hasHops b) (2 + 6 * hopsIn b) 0
+namesPlace b = hopsPlace b + cond (hasHops b) (fieldLength (hopsIn b)) 0
 
 -- "for labels 1 upward": none for label counts 0 and 1
 unfoldable pub namesIn : List ℕ → ℕ
@@ -63,7 +69,7 @@ unfoldable pub shapeIn : List ℕ → Shape
 shapeIn b = record { states = statesIn b; labels = labelsIn b; initial = initialIn b }
 
 unfoldable pub hopListIn : List ℕ → List ℕ
-hopListIn b = listed (3 * hopsIn b) (λ (i : ℕ). numberAt b (hopsPlace b + 2 + 2 * i))
+hopListIn b = hopsInField b (hopsPlace b) (hopsIn b)
 
 unfoldable pub blockPlace : List ℕ → ℕ
 blockPlace b = cond (hasNames b) (namesPlace b) 0

@@ -1,1 +1,1 @@
-pub mod Format
+pub mod Format  -- the fields of a file: where they lie and what they hold

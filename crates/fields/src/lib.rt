@@ -1,19 +1,20 @@
-// The fields of a file, where they lie and what they hold. A missing byte reads 0.
+// The fields of a file, where they lie and what they hold, as its own numbers say it: byte 0 with its bits, the state and label counts, the initial state, the
+// hop field and the block of names. `format` asks whether a file holds what its numbers say, `reader` gives what they hold. A missing byte reads 0, so
+// all of this can be asked of any bytes. It stands on numbers, hopfield and names.
 use graph::Shape;
-use names::byte_at;
+use hopfield::hops::field_length;
+use numbers::byte_at;
+use numbers::number_at;
 ghost use mathlib.Core.Path.{_≡_};
-ghost use Prim.Native.Nat.{_<_};
-ghost use Rattle.fields.specs.Format.{numberAt, hasInitial, hasHops, hasNames, initialIn, hopsPlace, hopsIn, namesPlace, namesIn, shapeIn, blockPlace, blockLength, idleBit};
+ghost use Rattle.fields.specs.Format.{hasInitial, hasHops, hasNames, initialIn, hopsPlace, hopsIn, namesPlace, namesIn};
+ghost use Rattle.fields.specs.Format.{shapeIn, blockPlace, blockLength, idleBit};
 
-// The 16-bit number at a place, low byte first.
-pub fn number_at(file: &[u8], i: usize) -> u16
-    requires { ⌜ i < 1000000 ⌝ }
-    ensures { λ r. ⌜ r ≡ numberAt (now (file .entry)) i ⌝ }
-{
-    let low = byte_at(file, i) as u16;
-    let high = byte_at(file, i + 1) as u16;
-    low + 256 * high
-}
+// Where the numbers stand that are always there, and where the initial state would.
+pub const STATES_PLACE: usize = 1;
+
+pub const LABELS_PLACE: usize = 3;
+
+pub const INITIAL_PLACE: usize = 5;
 
 pub fn has_initial(file: &[u8]) -> bool
     ensures { λ r. ⌜ r ≡ hasInitial (now (file .entry)) ⌝ }
@@ -37,7 +38,7 @@ pub fn initial_in(file: &[u8]) -> u16
     ensures { λ r. ⌜ r ≡ initialIn (now (file .entry)) ⌝ }
 {
     if has_initial(file) {
-        return number_at(file, 5);
+        return number_at(file, INITIAL_PLACE);
     }
     0
 }
@@ -46,9 +47,9 @@ pub fn hops_place(file: &[u8]) -> usize
     ensures { λ r. ⌜ r ≡ hopsPlace (now (file .entry)) ⌝ }
 {
     if has_initial(file) {
-        return 7;
+        return INITIAL_PLACE + 2;
     }
-    5
+    INITIAL_PLACE
 }
 
 pub fn hops_in(file: &[u8]) -> u16
@@ -66,8 +67,7 @@ pub fn names_place(file: &[u8]) -> usize
 {
     let place = hops_place(file);
     if has_hops(file) {
-        let hops = hops_in(file) as usize;
-        return place + (2 + 6 * hops);
+        return place + field_length(hops_in(file));
     }
     place
 }
@@ -76,7 +76,7 @@ pub fn names_place(file: &[u8]) -> usize
 pub fn names_in(file: &[u8]) -> u16
     ensures { λ r. ⌜ r ≡ namesIn (now (file .entry)) ⌝ }
 {
-    let labels = number_at(file, 3);
+    let labels = number_at(file, LABELS_PLACE);
     if has_names(file) {
         if 1 <= labels {
             return labels - 1;
@@ -88,8 +88,8 @@ pub fn names_in(file: &[u8]) -> u16
 pub fn shape_in(file: &[u8]) -> Shape
     ensures { λ r. ⌜ r ≡ shapeIn (now (file .entry)) ⌝ }
 {
-    let states = number_at(file, 1) as u32;
-    let labels = number_at(file, 3) as u32;
+    let states = number_at(file, STATES_PLACE) as u32;
+    let labels = number_at(file, LABELS_PLACE) as u32;
     let initial = initial_in(file) as u32;
     Shape {
         states,
@@ -126,7 +126,7 @@ pub fn idle_bit(file: &[u8]) -> bool
 {
     let initial = initial_in(file);
     let hops = hops_in(file);
-    let labels = number_at(file, 3);
+    let labels = number_at(file, LABELS_PLACE);
     let initial_bit = has_initial(file);
     let hops_bit = has_hops(file);
     let names_bit = has_names(file);

@@ -1,33 +1,31 @@
 -- "A file read and written again has the same bytes": the file falls into its fields one after the other, and each is written as it stands.
 -- Assumes nothing.
-use Prim.Native.Nat.{ℕ, zero, suc, _+_, _-_, _*_, _/_, _%_, _<_, _≤_}
+use Prim.Native.Nat.{ℕ, _+_, _-_, _*_, _/_, _%_, _<_, _≤_}
 use mathlib.Core.Path.{_≡_, sym, ap, _∙_}
 use mathlib.Core.Bool.{true, false, cond}
-use mathlib.Core.List.{List, [], _∷_, _++_, append-assoc}
+use mathlib.Core.List.{List, _∷_, _++_}
 use mathlib.Core.Logic.{_⊎_, ⊎-elim}
 use native.Mathlib.Nat.{le-refl}
-use native.Mathlib.Numerals.{add-one}
 use native.Mathlib.Omega.{arith}
 use borrow.Author.Tests.{eq-eqb, ne-eqb, eqb-true, eqb-false}
 use lib.ListN.{length, getD, drop, length-drop}
 use lib.Seq.{drop-cons, take-all, drop-length}
 use lib.Dec.{eqb}
-use Rattle.below.specs.Tests.{listed}
 use Rattle.graph.specs.Hops.{count}
 use Rattle.below.proofs.Bools.{decided}
 use Rattle.names.specs.Block.{nameAt}
 use Rattle.names.proofs.Blocks.{name-first, name-later}
-use Rattle.fields.specs.Format.{numberAt, bitMap, hasInitial, hasHops, hasNames, statesIn, labelsIn, initialIn, hopsPlace, hopsIn, namesPlace, namesIn, restOf, need, shapeIn, hopListIn, blockIn}
+use Rattle.numbers.specs.Numbers.{number}
+use Rattle.numbers.proofs.TwoBytes.{Bytes, number-again}
+use Rattle.hopfield.specs.Field.{fieldBytes}
+use Rattle.hopfield.proofs.Field.{field-again}
+use Rattle.fields.specs.Format.{states-place, labels-place, initial-place, bitMap, hasInitial, hasHops, hasNames, statesIn, labelsIn, initialIn, hopsPlace, hopsIn, namesPlace, namesIn, restOf, need, shapeIn, hopListIn, blockIn}
 use Rattle.reader.specs.Read.{readAnswer}
-use Rattle.writer.specs.Encode.{number, numbers, bitsOf, initialBytes, hopBytes, headBytes, encode}
-use Rattle.writer.proofs.Encoded.{numbers-append, initial-none, initial-some, hops-none, hops-some}
-use Rattle.fields.proofs.Laws.{names-place-least, hops-before-names, initial-on, initial-off, hops-on, hops-off, names-on, names-off}
-use Rattle.reader.proofs.Entry.{count-hop-list}
-use Rattle.reader.proofs.Sound.{Sound, accepted-sound, initial-there, hops-there, names-there}
-
--- the bytes of a file are below 256
-abbrev pub Bytes : List ℕ → Type 0
-Bytes b = (i : ℕ) → getD b i 0 < 256
+use Rattle.encoding.specs.Encode.{bitsOf, initialBytes, hopsBytes, headBytes, encode}
+use Rattle.encoding.proofs.Encoded.{initial-none, initial-some, hops-none, hops-some}
+use Rattle.fields.proofs.Laws.{names-place-least, hops-before-names, initial-on, initial-off, hops-on, hops-off, names-on, names-off, count-hop-list}
+use Rattle.format.proofs.Sound.{Sound, names-within, initial-there, hops-there, names-there}
+use Rattle.reader.proofs.Entry.{accepted-sound}
 
 -- a number below 8 is its three bits
 three-bits : (x : ℕ) → x < 8 → x % 2 + 2 * (x / 2 % 2) + 4 * (x / 4 % 2) ≡ x
@@ -39,72 +37,28 @@ three-bits x l =
     omega arith
 
 module _ (b : List ℕ) (small : Bytes b) where
-  -- a number is written as the two bytes that it was read from
-  two-bytes : (i : ℕ) → i + 2 ≤ length b → drop i b ≡ number (numberAt b i) ++ drop (i + 2) b
-  two-bytes i l =
-      drop-cons b i 0 (omega arith) ∙ ap (getD b i 0 ∷_) (drop-cons b (suc i) 0 (omega arith)) ∙ again where
-        low-byte : getD b i 0 ≡ numberAt b i % 256
-        low-byte = omega (arith, small i, small (i + 1))
-
-        high-byte : getD b (suc i) 0 ≡ numberAt b i / 256
-        high-byte = rw (← add-one i) (omega (arith, small i, small (i + 1)))
-
-        past : suc (suc i) ≡ i + 2
-        past = omega arith
-
-        again : getD b i 0 ∷ getD b (suc i) 0 ∷ drop (suc (suc i)) b ≡ numberAt b i % 256 ∷ numberAt b i / 256 ∷ drop (i + 2) b
-        again = ap (_∷ (getD b (suc i) 0 ∷ drop (suc (suc i)) b)) low-byte ∙ ap (λ (x : ℕ). numberAt b i % 256 ∷ x ∷ drop (suc (suc i)) b) high-byte ∙ ap (λ (n : ℕ). numberAt b i % 256 ∷ numberAt b i / 256 ∷ drop n b) past
-
-  list-bytes : (q n : ℕ) → q + 2 * n ≤ length b → drop q b ≡ numbers (listed n (λ (i : ℕ). numberAt b (q + 2 * i))) ++ drop (q + 2 * n) b
-  unfolding numbers listed
-  list-bytes q zero l = ap (λ (k : ℕ). drop k b) none where
-    none : q ≡ q + 2 * 0
-    none = omega arith
-  list-bytes q (suc n) l =
-      list-bytes q n (omega arith) ∙ ap (numbers (listed n f) ++_) (two-bytes (q + 2 * n) (omega arith)) ∙
-      sym (append-assoc (numbers (listed n f)) (number (f n)) (drop (q + 2 * n + 2) b)) ∙
-      ap (_++ drop (q + 2 * n + 2) b) (sym (numbers-append (listed n f) (f n ∷ []))) ∙
-      ap (λ (k : ℕ). numbers (listed n f ++ (f n ∷ [])) ++ drop k b) next where
-        f : ℕ → ℕ
-        f i = numberAt b (q + 2 * i)
-
-        next : q + 2 * n + 2 ≡ q + 2 * suc n
-        next = omega arith
-
   module _ (s : Sound b) where
-    -- the field ends are within the file
-    pub names-within : namesPlace b ≤ length b
-    unfolding need
-    names-within = omega (arith, s .exact)
-
-    initial-again : drop 5 b ≡ initialBytes (shapeIn b) ++ drop (hopsPlace b) b
+    initial-again : drop initial-place b ≡ initialBytes (shapeIn b) ++ drop (hopsPlace b) b
     unfolding shapeIn
     initial-again = ⊎-elim on off (decided (hasInitial b)) where
-      on : hasInitial b ≡ true → drop 5 b ≡ initialBytes (shapeIn b) ++ drop (hopsPlace b) b
+      on : hasInitial b ≡ true → drop initial-place b ≡ initialBytes (shapeIn b) ++ drop (hopsPlace b) b
       on e =
           let (v, p) = initial-on b e in
-          rw (initial-some (shapeIn b) (initial-there b (s .busy) e), v, p) (two-bytes 5 (omega (arith, hops-before-names b, names-within)))
+          rw (initial-some (shapeIn b) (initial-there b (s .busy) e), v, p) (number-again b small initial-place (omega (arith, hops-before-names b, names-within b s)))
 
-      off : hasInitial b ≡ false → drop 5 b ≡ initialBytes (shapeIn b) ++ drop (hopsPlace b) b
+      off : hasInitial b ≡ false → drop initial-place b ≡ initialBytes (shapeIn b) ++ drop (hopsPlace b) b
       off e = let (v, p) = initial-off b e in rw (initial-none (shapeIn b) v, p)
 
-    list-again : namesPlace b ≡ hopsPlace b + (2 + 6 * hopsIn b) → drop (hopsPlace b + 2) b ≡ numbers (hopListIn b) ++ drop (namesPlace b) b
+    hops-again : drop (hopsPlace b) b ≡ hopsBytes (hopListIn b) ++ drop (namesPlace b) b
     unfolding hopListIn
-    list-again p =
-        list-bytes (hopsPlace b + 2) (3 * hopsIn b) (omega (arith, names-within)) ∙
-        ap (λ (k : ℕ). numbers (listed (3 * hopsIn b) (λ (i : ℕ). numberAt b (hopsPlace b + 2 + 2 * i))) ++ drop k b) end where
-          end : hopsPlace b + 2 + 2 * (3 * hopsIn b) ≡ namesPlace b
-          end = omega arith
-
-    hops-again : drop (hopsPlace b) b ≡ hopBytes (hopListIn b) ++ drop (namesPlace b) b
     hops-again = ⊎-elim on off (decided (hasHops b)) where
-      on : hasHops b ≡ true → drop (hopsPlace b) b ≡ hopBytes (hopListIn b) ++ drop (namesPlace b) b
+      on : hasHops b ≡ true → drop (hopsPlace b) b ≡ hopsBytes (hopListIn b) ++ drop (namesPlace b) b
       on e =
           let (v, p) = hops-on b e in
-          rw (hops-some (hopListIn b) (λ z. hops-there b (s .busy) e (sym (count-hop-list b) ∙ z)), count-hop-list b, v)
-          (two-bytes (hopsPlace b) (omega (arith, names-within)) ∙ ap (number (numberAt b (hopsPlace b)) ++_) (list-again p))
+          rw (hops-some (hopListIn b) (λ z. hops-there b (s .busy) e (sym (count-hop-list b) ∙ z)))
+          (field-again b small (hopsPlace b) v (omega (arith, p, names-within b s)) ∙ ap (λ (k : ℕ). fieldBytes (hopListIn b) ++ drop k b) (sym p))
 
-      off : hasHops b ≡ false → drop (hopsPlace b) b ≡ hopBytes (hopListIn b) ++ drop (namesPlace b) b
+      off : hasHops b ≡ false → drop (hopsPlace b) b ≡ hopsBytes (hopListIn b) ++ drop (namesPlace b) b
       off e = let (v, p) = hops-off b e in rw (hops-none (hopListIn b) (count-hop-list b ∙ v), p)
 
     pub block-again : drop (namesPlace b) b ≡ blockIn b
@@ -162,11 +116,11 @@ module _ (b : List ℕ) (small : Bytes b) where
     unfolding encode headBytes shapeIn
     same-bytes =
         rw bits-again
-        (sym (drop-cons b 0 0 (omega (arith, names-place-least b, names-within)) ∙
+        (sym (drop-cons b 0 0 (omega (arith, names-place-least b, names-within b s)) ∙
         ap (bitMap b ∷_)
-        (two-bytes 1 (omega (arith, names-place-least b, names-within)) ∙ ap (number (statesIn b) ++_)
-        (two-bytes 3 (omega (arith, names-place-least b, names-within)) ∙ ap (number (labelsIn b) ++_)
-        (initial-again ∙ ap (initialBytes (shapeIn b) ++_) (hops-again ∙ ap (hopBytes (hopListIn b) ++_) block-again))))))
+        (number-again b small states-place (omega (arith, names-place-least b, names-within b s)) ∙ ap (number (statesIn b) ++_)
+        (number-again b small labels-place (omega (arith, names-place-least b, names-within b s)) ∙ ap (number (labelsIn b) ++_)
+        (initial-again ∙ ap (initialBytes (shapeIn b) ++_) (hops-again ∙ ap (hopsBytes (hopListIn b) ++_) block-again))))))
 
 pub decode-encode : (b : List ℕ) (room : ℕ) → Bytes b → readAnswer b room .number ≡ 0 → encode (shapeIn b) (hopListIn b) (blockIn b) ≡ b
 decode-encode b room small e = same-bytes b small (accepted-sound b room e)

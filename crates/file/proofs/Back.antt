@@ -1,37 +1,39 @@
 -- "A graph written and read again is the same graph with the same block": each field of the written file is found where reading looks for it. And "the
 -- longest legal file has 58,344 bytes". Assumes nothing.
-use Prim.Native.Nat.{ℕ, zero, suc, _+_, _-_, _*_, _/_, _%_, _<_, _≤_}
+use Prim.Native.Nat.{ℕ, _+_, _-_, _*_, _/_, _%_, _<_, _≤_}
 use mathlib.Core.Path.{_≡_, refl, sym, ap, _∙_}
 use mathlib.Core.Bool.{Bool, true, false, cond, not, _&&_}
 use mathlib.Core.List.{List, [], _∷_, _++_, append-assoc}
 use mathlib.Core.Logic.{_⊎_, ⊎-elim}
-use native.Mathlib.Numerals.{add-one}
 use native.Mathlib.Omega.{arith}
 use borrow.Author.Tests.{eq-eqb, ne-eqb, ltb-false, lt-leb}
-use lib.ListN.{length, getD, drop, length-append, length-drop}
-use lib.Seq.{drop-at, drop-drop, getD-drop, ext-getD, take-length}
+use lib.ListN.{length, drop, length-append, length-drop}
+use lib.Seq.{drop-at, take-length}
 use lib.Dec.{eqb, leb, ltb}
-use Rattle.graph.specs.Hops.{count}
-use Rattle.graph.specs.Answers.{accepted}
+use Rattle.graph.specs.Hops.{numbers-a-hop, numberPlace, count}
+use Rattle.graph.specs.Answers.{most-hops, accepted}
 use Rattle.limits.specs.Check.{checkOf, Admitted}
 use Rattle.graph.specs.declared.Shape.{Shape}
 use Rattle.graph.specs.declared.Answer.{Answer}
 use Rattle.below.proofs.Bools.{eq-or-not, lt-or-le, or-no}
-use Rattle.below.proofs.Tests.{getD-listed}
 use Rattle.limits.proofs.Checked.{check-admitted, admitted-check}
 use Rattle.graph.proofs.Accepts.{both-accept}
-use Rattle.names.specs.Block.{nameAt, firstBad}
+use Rattle.names.specs.Block.{most-name-bytes, nameAt, firstBad}
 use Rattle.names.proofs.Blocks.{name-first, name-short}
-use Rattle.fields.specs.Format.{numberAt, bitMap, hasInitial, hasHops, hasNames, statesIn, labelsIn, initialIn, hopsPlace, hopsIn, namesPlace, namesIn, restOf, need, shapeIn, hopListIn, blockPlace, blockLength, blockIn, idleBit}
-use Rattle.reader.specs.Read.{most-bytes, formatAnswer, readAnswer, contentsOf}
-use Rattle.writer.specs.Encode.{number, numbers, bitsOf, initialBytes, hopBytes, headBytes, encode}
-use Rattle.writer.specs.Write.{blockAnswer, namesGiven, graphAnswer}
+use Rattle.numbers.specs.Numbers.{numberAt}
+use Rattle.hopfield.specs.Field.{hopsInField, fieldBytes}
+use Rattle.hopfield.proofs.Field.{length-in-field, count-back, field-back}
+use Rattle.fields.specs.Format.{initial-place, bitMap, hasInitial, hasHops, hasNames, statesIn, labelsIn, initialIn, hopsPlace, hopsIn, namesPlace, namesIn, restOf, need, shapeIn, hopListIn, blockPlace, blockLength, blockIn, idleBit}
+use Rattle.format.specs.Rows.{most-names, most-bytes, formatAnswer}
+use Rattle.reader.specs.Read.{readAnswer, contentsOf}
+use Rattle.encoding.specs.Encode.{bitsOf, initialBytes, hopsBytes, headBytes, encode}
+use Rattle.writer.specs.Write.{blockAnswer, namesGiven, givenAnswer}
 use Rattle.file.specs.RoundTrip.{blockStart, sameGraph}
-use Rattle.writer.proofs.Encoded.{initial-none, initial-some, initial-most, hops-none, hops-some, length-hops-some, hop-bytes-most, length-head, length-encode}
+use Rattle.encoding.proofs.Encoded.{initial-none, initial-some, initial-most, hops-none, hops-some, length-hops-some, hop-bytes-most, length-head, length-encode}
 use Rattle.fields.proofs.Laws.{initial-on, initial-off, hops-on, hops-off, names-on, names-off}
-use Rattle.reader.proofs.Answers.{names-good}
-use Rattle.reader.proofs.Entry.{length-hop-list, none-speaks}
-use Rattle.reader.proofs.Sound.{past}
+use Rattle.format.proofs.Answers.{names-good}
+use Rattle.reader.proofs.Entry.{none-speaks}
+use Rattle.format.proofs.Sound.{past}
 
 -- a bit is set over each field that is there, and no higher bit
 three-bits : (t u v : Bool) →
@@ -45,21 +47,6 @@ three-bits false true true = (refl, refl, refl, omega arith)
 three-bits false true false = (refl, refl, refl, omega arith)
 three-bits false false true = (refl, refl, refl, omega arith)
 three-bits false false false = (refl, refl, refl, omega arith)
-
--- a number read from the middle of a file
-number-drop : (b : List ℕ) (n i : ℕ) → numberAt b (n + i) ≡ numberAt (drop n b) i
-number-drop b n i = rw (getD-drop n b i, getD-drop n b (i + 1), assoc) where
-  assoc : n + (i + 1) ≡ n + i + 1
-  assoc = omega arith
-
--- the numbers of a written list
-number-in : (hs rest : List ℕ) (i : ℕ) → i < length hs → numberAt (numbers hs ++ rest) (2 * i) ≡ getD hs i 0
-unfolding numbers
-number-in [] rest i l = absurd (omega arith)
-number-in (h ∷ hs) rest zero l = omega arith
-number-in (h ∷ hs) rest (suc i) l = rw (twice, add-one) (rw add-one at (number-in hs rest i (omega arith))) where
-  twice : 2 * suc i ≡ suc (suc (2 * i))
-  twice = omega arith
 
 -- a block of n names that row 14 does not refuse
 pub record Legal (ns : List ℕ) (n : ℕ) : Type 0 where
@@ -87,28 +74,25 @@ given-legal sh ns e = ⊎-elim none some (eq-or-not (length ns) 0) where
   some : (length ns ≡ 0 → ⊥) → Legal ns (named sh ns)
   some n = rw (ne-eqb _ _ n) (block-legal ns (sh .labels - 1) (rw (ne-eqb _ _ n) at e))
 
-zero-right : (n : ℕ) → n + 0 ≡ n
-zero-right n = omega arith
-
 no-elements : (l : List ℕ) → length l ≡ 0 → l ≡ []
 no-elements [] e = refl
 no-elements (x ∷ l) e = absurd (omega arith)
 
-head-long : (sh : Shape) (hs ns : List ℕ) → length (headBytes sh (bitsOf sh hs ns) ++ initialBytes sh) ≡ 5 + length (initialBytes sh)
+head-long : (sh : Shape) (hs ns : List ℕ) → length (headBytes sh (bitsOf sh hs ns) ++ initialBytes sh) ≡ initial-place + length (initialBytes sh)
 head-long sh hs ns = rw (length-append (headBytes sh (bitsOf sh hs ns)), length-head sh hs ns)
 
 -- what writing accepts
-written-means : (sh : Shape) (hs ns : List ℕ) → graphAnswer sh hs ns .number ≡ 0 → Admitted sh hs × Legal ns (named sh ns)
-unfolding graphAnswer
+written-means : (sh : Shape) (hs ns : List ℕ) → givenAnswer sh hs ns .number ≡ 0 → Admitted sh hs × Legal ns (named sh ns)
+unfolding givenAnswer
 written-means sh hs ns e =
     let (p, q) = both-accept (checkOf sh hs) (namesGiven sh ns) e in (check-admitted sh hs p, given-legal sh ns q)
 
 -- the initial state of a written file
-initial-number : (sh : Shape) (hs ns : List ℕ) → (sh .initial ≡ 0 → ⊥) → numberAt (encode sh hs ns) 5 ≡ sh .initial
+initial-number : (sh : Shape) (hs ns : List ℕ) → (sh .initial ≡ 0 → ⊥) → numberAt (encode sh hs ns) initial-place ≡ sh .initial
 unfolding encode headBytes
 initial-number sh hs ns n = rw (initial-some sh n) (omega arith)
 
-module _ (sh : Shape) (hs ns : List ℕ) (three : length hs % 3 ≡ 0) where
+module _ (sh : Shape) (hs ns : List ℕ) (three : length hs % numbers-a-hop ≡ 0) where
   abbrev file : List ℕ
   file = encode sh hs ns
 
@@ -124,56 +108,53 @@ module _ (sh : Shape) (hs ns : List ℕ) (three : length hs % 3 ≡ 0) where
   unfolding encode headBytes
   labels-back = omega arith
 
-  initial-back : (initialIn file ≡ sh .initial) × (hopsPlace file ≡ 5 + length (initialBytes sh))
+  initial-back : (initialIn file ≡ sh .initial) × (hopsPlace file ≡ initial-place + length (initialBytes sh))
   initial-back = ⊎-elim none some (eq-or-not (sh .initial) 0) where
-    none : sh .initial ≡ 0 → (initialIn file ≡ sh .initial) × (hopsPlace file ≡ 5 + length (initialBytes sh))
+    none : sh .initial ≡ 0 → (initialIn file ≡ sh .initial) × (hopsPlace file ≡ initial-place + length (initialBytes sh))
     none z = let (v, p) = initial-off file (bits-back .0 ∙ rw (eq-eqb _ _ z)) in (v ∙ sym z, rw (initial-none sh z) p)
 
-    some : (sh .initial ≡ 0 → ⊥) → (initialIn file ≡ sh .initial) × (hopsPlace file ≡ 5 + length (initialBytes sh))
+    some : (sh .initial ≡ 0 → ⊥) → (initialIn file ≡ sh .initial) × (hopsPlace file ≡ initial-place + length (initialBytes sh))
     some n = let (v, p) = initial-on file (bits-back .0 ∙ rw (ne-eqb _ _ n)) in (v ∙ initial-number sh hs ns n, rw (initial-some sh n) p)
 
   -- what stands behind the initial state, and behind the hops
-  from-hops : drop (hopsPlace file) file ≡ hopBytes hs ++ ns
+  from-hops : drop (hopsPlace file) file ≡ hopsBytes hs ++ ns
   unfolding encode
   from-hops =
-      rw (initial-back .1, ← append-assoc (headBytes sh (bitsOf sh hs ns)) (initialBytes sh) (hopBytes hs ++ ns))
-      (drop-at (headBytes sh (bitsOf sh hs ns) ++ initialBytes sh) (hopBytes hs ++ ns) (5 + length (initialBytes sh)) (head-long sh hs ns))
+      rw (initial-back .1, ← append-assoc (headBytes sh (bitsOf sh hs ns)) (initialBytes sh) (hopsBytes hs ++ ns))
+      (drop-at (headBytes sh (bitsOf sh hs ns) ++ initialBytes sh) (hopsBytes hs ++ ns) (initial-place + length (initialBytes sh)) (head-long sh hs ns))
 
-  hops-back : (hopsIn file ≡ count hs) × (namesPlace file ≡ 5 + (length (initialBytes sh) + length (hopBytes hs)))
+  from-field : (count hs ≡ 0 → ⊥) → drop (hopsPlace file) file ≡ fieldBytes hs ++ ns
+  from-field n = from-hops ∙ rw (hops-some hs n)
+
+  hops-back : (hopsIn file ≡ count hs) × (namesPlace file ≡ initial-place + (length (initialBytes sh) + length (hopsBytes hs)))
   hops-back = ⊎-elim none some (eq-or-not (count hs) 0) where
-    none : count hs ≡ 0 → (hopsIn file ≡ count hs) × (namesPlace file ≡ 5 + (length (initialBytes sh) + length (hopBytes hs)))
+    none : count hs ≡ 0 → (hopsIn file ≡ count hs) × (namesPlace file ≡ initial-place + (length (initialBytes sh) + length (hopsBytes hs)))
     none z = let (v, p) = hops-off file (bits-back .1 ∙ rw (eq-eqb _ _ z)) in (v ∙ sym z, omega (arith, p, initial-back .1, ap length (hops-none hs z)))
 
     counted : (count hs ≡ 0 → ⊥) → numberAt file (hopsPlace file) ≡ count hs
-    counted n = ap (numberAt file) (sym (zero-right (hopsPlace file))) ∙ number-drop file (hopsPlace file) 0 ∙ rw (from-hops, hops-some hs n) (omega arith)
+    counted n = count-back file hs ns (hopsPlace file) (from-field n)
 
-    some : (count hs ≡ 0 → ⊥) → (hopsIn file ≡ count hs) × (namesPlace file ≡ 5 + (length (initialBytes sh) + length (hopBytes hs)))
+    some : (count hs ≡ 0 → ⊥) → (hopsIn file ≡ count hs) × (namesPlace file ≡ initial-place + (length (initialBytes sh) + length (hopsBytes hs)))
     some n =
         let (v, p) = hops-on file (bits-back .1 ∙ rw (ne-eqb _ _ n)) in
-        (v ∙ counted n, omega (arith, p, v, counted n, initial-back .1, length-hops-some hs n, three))
+        (v ∙ counted n, omega (arith, p, v, counted n, initial-back .1, length-hops-some hs n))
 
   rest-back : restOf file ≡ ns
   unfolding encode restOf
   rest-back =
-      rw (hops-back .1, ← append-assoc (initialBytes sh) (hopBytes hs) ns, ← append-assoc (headBytes sh (bitsOf sh hs ns)) (initialBytes sh ++ hopBytes hs) ns)
-      (drop-at (headBytes sh (bitsOf sh hs ns) ++ (initialBytes sh ++ hopBytes hs)) ns (5 + (length (initialBytes sh) + length (hopBytes hs)))
-      (rw (length-append (headBytes sh (bitsOf sh hs ns)), length-append (initialBytes sh)) (ap (λ (n : ℕ). n + (length (initialBytes sh) + length (hopBytes hs))) (length-head sh hs ns))))
+      rw (hops-back .1, ← append-assoc (initialBytes sh) (hopsBytes hs) ns, ← append-assoc (headBytes sh (bitsOf sh hs ns)) (initialBytes sh ++ hopsBytes hs) ns)
+      (drop-at (headBytes sh (bitsOf sh hs ns) ++ (initialBytes sh ++ hopsBytes hs)) ns (initial-place + (length (initialBytes sh) + length (hopsBytes hs)))
+      (rw (length-append (headBytes sh (bitsOf sh hs ns)), length-append (initialBytes sh)) (ap (λ (n : ℕ). n + (length (initialBytes sh) + length (hopsBytes hs))) (length-head sh hs ns))))
 
   -- the hops themselves
-  from-list : (count hs ≡ 0 → ⊥) → drop (hopsPlace file + 2) file ≡ numbers hs ++ ns
-  from-list n = sym (drop-drop 2 (hopsPlace file) file) ∙ rw (from-hops, hops-some hs n)
-
   list-back : hopListIn file ≡ hs
   unfolding hopListIn
-  list-back = ext-getD 0 (hopListIn file) hs same-length at where
-    same-length : length (hopListIn file) ≡ length hs
-    same-length = omega (arith, length-hop-list file, hops-back .0, three)
+  list-back = ap (hopsInField file (hopsPlace file)) (hops-back .0) ∙ ⊎-elim none some (eq-or-not (count hs) 0) where
+    none : count hs ≡ 0 → hopsInField file (hopsPlace file) (count hs) ≡ hs
+    none z = no-elements _ (length-in-field file (hopsPlace file) (count hs) ∙ ap numberPlace z) ∙ sym (no-elements hs (omega (arith, three)))
 
-    at : (i : ℕ) → i < length (hopListIn file) → getD (hopListIn file) i 0 ≡ getD hs i 0
-    at i l =
-        getD-listed (λ (j : ℕ). numberAt file (hopsPlace file + 2 + 2 * j)) (3 * hopsIn file) (omega (arith, length-hop-list file)) ∙
-        number-drop file (hopsPlace file + 2) (2 * i) ∙
-        rw (from-list (λ z. omega (arith, same-length, three))) (number-in hs ns i (omega (arith, same-length)))
+    some : (count hs ≡ 0 → ⊥) → hopsInField file (hopsPlace file) (count hs) ≡ hs
+    some n = field-back file hs ns (hopsPlace file) (from-field n) three
 
   names-back : (namesIn file ≡ named sh ns) × (blockIn file ≡ ns) × (blockLength file ≡ length ns) × (blockPlace file ≡ blockStart sh hs ns)
   unfolding blockIn restOf blockStart
@@ -216,7 +197,7 @@ module _ (sh : Shape) (hs ns : List ℕ) (three : length hs % 3 ≡ 0) where
           names-busy = ⊎-elim (λ z. rw (eq-eqb (length ns) 0 z)) (λ n. rw (ne-eqb (length ns) 0 n, lt-leb _ _ (names-two n))) (eq-or-not (length ns) 0)
 
     module _ (a : Admitted sh hs) where
-      named-most : named sh ns ≤ 1023
+      named-most : named sh ns ≤ most-names
       named-most = ⊎-elim (λ z. rw (eq-eqb (length ns) 0 z) (omega arith)) (λ n. rw (ne-eqb (length ns) 0 n) (omega (arith, a .labels-most))) (eq-or-not (length ns) 0)
 
       short-back : length file ≤ most-bytes
@@ -236,11 +217,11 @@ module _ (sh : Shape) (hs ns : List ℕ) (three : length hs % 3 ≡ 0) where
           sym (none-speaks file room refl (ap (λ (x : Answer). x .number) format-back) refl (rw (shape-back, list-back) (ap (λ (x : Answer). x .number) (admitted-check sh hs a))) refl (omega (arith, hops-back .0, three)))
 
 -- "The longest legal file has 58,344 bytes"
-pub longest : (sh : Shape) (hs ns : List ℕ) → graphAnswer sh hs ns .number ≡ 0 → length (encode sh hs ns) ≤ most-bytes
+pub longest : (sh : Shape) (hs ns : List ℕ) → givenAnswer sh hs ns .number ≡ 0 → length (encode sh hs ns) ≤ most-bytes
 longest sh hs ns e = let (a, l) = written-means sh hs ns e in short-back sh hs ns (a .three-a-hop) l a
 
 -- and it has that many where everything is at its limit: 4,096 hops, and 1,023 names of 32 bytes
-pub longest-at-limits : (sh : Shape) (hs ns : List ℕ) → (sh .initial ≡ 0 → ⊥) → length hs ≡ 3 * 4096 → length ns ≡ 1023 * 33 → length (encode sh hs ns) ≡ most-bytes
+pub longest-at-limits : (sh : Shape) (hs ns : List ℕ) → (sh .initial ≡ 0 → ⊥) → length hs ≡ numberPlace most-hops → length ns ≡ most-name-bytes * most-names → length (encode sh hs ns) ≡ most-bytes
 longest-at-limits sh hs ns i h n =
     omega (arith, length-encode sh hs ns, ap length (initial-some sh i), length-hops-some hs (λ z. omega arith))
 
@@ -251,7 +232,7 @@ pub record ReadBack (sh : Shape) (hs ns b : List ℕ) (room : ℕ) : Type 0 wher
   pub same-hops : hopListIn b ≡ hs
   pub same-block : blockIn b ≡ ns
 
-pub encode-decode : (sh : Shape) (hs ns : List ℕ) (room : ℕ) → graphAnswer sh hs ns .number ≡ 0 → length hs ≤ room → ReadBack sh hs ns (encode sh hs ns) room
+pub encode-decode : (sh : Shape) (hs ns : List ℕ) (room : ℕ) → givenAnswer sh hs ns .number ≡ 0 → length hs ≤ room → ReadBack sh hs ns (encode sh hs ns) room
 encode-decode sh hs ns room e m =
     let (a, l) = written-means sh hs ns e in
     let t = a .three-a-hop in

@@ -1,6 +1,6 @@
 -- The two round trips over the entries. What reading accepts writing accepts too, and the other way round; the answers and the outputs are then those
 -- of the definitions. Assumes nothing.
-use Prim.Native.Nat.{ℕ, _+_, _-_, _*_, _<_, _≤_}
+use Prim.Native.Nat.{ℕ, _+_, _-_, _<_, _≤_}
 use mathlib.Core.Path.{_≡_, refl, sym, ap, _∙_}
 use mathlib.Core.Bool.{Bool, true, false, cond}
 use mathlib.Core.List.{List}
@@ -10,6 +10,7 @@ use borrow.Author.Tests.{eq-eqb, ne-eqb, eqb-true, eqb-false, le-leb, lt-leb, le
 use lib.ListN.{length, take, drop, length-drop}
 use lib.Seq.{take-at}
 use lib.Dec.{eqb, leb}
+use Rattle.graph.specs.Hops.{numberPlace}
 use Rattle.graph.specs.Answers.{accepted, refused, roomFor}
 use Rattle.limits.specs.Check.{Admitted}
 use Rattle.graph.specs.declared.Shape.{Shape}
@@ -21,16 +22,17 @@ use Rattle.names.proofs.Blocks.{name-later}
 use Rattle.outputs.specs.Output.{onFront}
 use Rattle.fields.specs.Format.{hasNames, labelsIn, hopsIn, namesPlace, namesIn, restOf, need, shapeIn, hopListIn, blockPlace, blockLength, blockIn}
 use Rattle.reader.specs.Read.{readAnswer, nothing, contentsOf, readOf, readHops}
-use Rattle.writer.specs.Encode.{encode}
-use Rattle.writer.specs.Write.{blockAnswer, namesGiven, graphAnswer, writeAnswer, nothingWritten, writeOf, writeBytes}
+use Rattle.encoding.specs.Encode.{encode}
+use Rattle.writer.specs.Write.{blockAnswer, namesGiven, givenAnswer, writeAnswer, nothingWritten, writeOf, writeBytes}
 use Rattle.file.specs.RoundTrip.{most-numbers, copyAnswer, copyOf, copyBytes, backAnswer, backOf, backBytes, backHops}
 use Rattle.reader.specs.declared.Contents.{Contents}
 use Rattle.writer.specs.declared.Written.{Written}
 use Rattle.fields.proofs.Laws.{names-on, names-off}
-use Rattle.reader.proofs.Entry.{hops-part, graph-accepts, hops-most}
+use Rattle.reader.proofs.Entry.{hops-part, graph-accepts, hops-most, accepted-sound}
 use Rattle.writer.proofs.Given.{block-good}
-use Rattle.reader.proofs.Sound.{Sound, accepted-sound}
-use Rattle.file.proofs.Again.{Bytes, names-within, block-again, block-some, block-none, decode-encode}
+use Rattle.format.proofs.Sound.{Sound, names-within}
+use Rattle.numbers.proofs.TwoBytes.{Bytes}
+use Rattle.file.proofs.Again.{block-again, block-some, block-none, decode-encode}
 use Rattle.file.proofs.Back.{ReadBack, encode-decode}
 
 -- what the entries' results say of their answers
@@ -72,12 +74,12 @@ module _ (b : List ℕ) (room : ℕ) (small : Bytes b) (z : readAnswer b room .n
   admitted-again : Admitted (shapeIn b) (hopListIn b)
   admitted-again = check-admitted (shapeIn b) (hopListIn b) (graph-accepts b room z)
 
-  pub hops-again-most : 3 * hopsIn b ≤ most-numbers
+  pub hops-again-most : numberPlace (hopsIn b) ≤ most-numbers
   hops-again-most = omega (arith, hops-most b room z)
 
   pub block-within : blockPlace b + blockLength b ≤ length b
   block-within =
-      ⊎-elim (λ e. let (n, p, l) = names-on b e in omega (arith, names-within b small sound)) (λ e. let (n, p, l) = names-off b e in omega arith) (decided (hasNames b))
+      ⊎-elim (λ e. let (n, p, l) = names-on b e in omega (arith, names-within b sound)) (λ e. let (n, p, l) = names-off b e in omega arith) (decided (hasNames b))
 
   block-accepted : hasNames b ≡ true → blockAnswer (blockIn b) (labelsIn b - 1) ≡ accepted
   unfolding need restOf
@@ -86,7 +88,7 @@ module _ (b : List ℕ) (room : ℕ) (small : Bytes b) (z : readAnswer b room .n
       (sym (block-good (restOf b) (namesIn b) refl (omega (arith, sized, sound .exact)) (omega (arith, sized, sound .exact)) refl
       (omega (arith, name-later (restOf b) (sound .clean))))) where
         sized : length (restOf b) + namesPlace b ≡ length b
-        sized = omega (arith, length-drop (namesPlace b) b, names-within b small sound)
+        sized = omega (arith, length-drop (namesPlace b) b, names-within b sound)
 
   names-accepted : namesGiven (shapeIn b) (blockIn b) ≡ accepted
   unfolding namesGiven shapeIn
@@ -94,8 +96,8 @@ module _ (b : List ℕ) (room : ℕ) (small : Bytes b) (z : readAnswer b room .n
       ⊎-elim (λ e. rw (ne-eqb (length (blockIn b)) 0 (λ y. omega (arith, block-some b small sound e))) (block-accepted e))
       (λ e. rw (eq-eqb (length (blockIn b)) 0 (block-none b small sound e))) (decided (hasNames b))
 
-  pub graph-accepted : graphAnswer (shapeIn b) (hopListIn b) (blockIn b) ≡ accepted
-  unfolding graphAnswer
+  pub graph-accepted : givenAnswer (shapeIn b) (hopListIn b) (blockIn b) ≡ accepted
+  unfolding givenAnswer
   graph-accepted = rw (admitted-check (shapeIn b) (hopListIn b) admitted-again) names-accepted
 
 -- the ways out of reading and writing again
@@ -130,7 +132,7 @@ module _ (b before : List ℕ) (small : Bytes b) (l : length before ≡ most-num
     found : (readAnswer b most-numbers .number ≡ 0) × (c ≡ contentsOf b)
     found = found-accepted b most-numbers (e ∙ ap (readOf b) l) y
 
-    pub found-hops : 3 * c .hops ≤ most-numbers
+    pub found-hops : numberPlace (c .hops) ≤ most-numbers
     found-hops = omega (arith, hops-again-most b most-numbers small (found .0), ap (λ (x : Contents). x .hops) (found .1))
 
     pub found-block : c .«names_place» + c .«names_len» ≤ length b
@@ -147,7 +149,7 @@ module _ (b before : List ℕ) (small : Bytes b) (l : length before ≡ most-num
       size : c .«names_place» + c .«names_len» - c .«names_place» ≡ blockLength b
       size = omega (arith, ap (λ (x : Contents). x .«names_len») (found .1))
 
-    pub copy-gives : {hops : List ℕ} (old : List ℕ) {r : Written} {out : List ℕ} {n : ℕ} → hops ≡ readHops b before → n ≡ 3 * c .hops →
+    pub copy-gives : {hops : List ℕ} (old : List ℕ) {r : Written} {out : List ℕ} {n : ℕ} → hops ≡ readHops b before → n ≡ numberPlace (c .hops) →
         r ≡ writeOf (c .shape) (take (n - 0) (drop 0 hops)) (take (c .«names_place» + c .«names_len» - c .«names_place») (drop (c .«names_place») b)) (length old) →
         out ≡ writeBytes (c .shape) (take (n - 0) (drop 0 hops)) (take (c .«names_place» + c .«names_len» - c .«names_place») (drop (c .«names_place») b)) old →
         (r ≡ copyOf b (length old)) × (out ≡ copyBytes b old)
@@ -157,7 +159,7 @@ module _ (b before : List ℕ) (small : Bytes b) (l : length before ≡ most-num
           same-three : {A : Type 0} (f : Shape → List ℕ → List ℕ → A) {hops : List ℕ} → hops ≡ readHops b before →
               f (c .shape) (take (n - 0) (drop 0 hops)) (take (c .«names_place» + c .«names_len» - c .«names_place») (drop (c .«names_place») b)) ≡
               f (shapeIn b) (hopListIn b) (blockIn b)
-          same-three f {hops} h = rw (hops-part b hops before (hops-there h) (m ∙ ap (λ (x : Contents). 3 * x .hops) (found .1)), block-part) (ap (λ (x : Contents). f (x .shape) (hopListIn b) (blockIn b)) (found .1))
+          same-three f {hops} h = rw (hops-part b hops before (hops-there h) (m ∙ ap (λ (x : Contents). numberPlace (x .hops)) (found .1)), block-part) (ap (λ (x : Contents). f (x .shape) (hopListIn b) (blockIn b)) (found .1))
 
 -- the ways out of writing and reading again
 module _ (sh : Shape) (hs ns file again : List ℕ) where
@@ -166,7 +168,7 @@ module _ (sh : Shape) (hs ns file again : List ℕ) where
   unfolding backOf backBytes backHops
   back-refused e n = (rw (← e, ne-eqb _ _ n), (rw (← e, ne-eqb _ _ n), rw (← e, ne-eqb _ _ n)))
 
-  module _ {a : Answer} (e : a ≡ graphAnswer sh hs ns) where
+  module _ {a : Answer} (e : a ≡ givenAnswer sh hs ns) where
     pub back-graph : (a .number ≡ 0 → ⊥) → a ≡ backAnswer sh hs ns (length file) (length again)
     unfolding backAnswer
     back-graph n = rw (← e, ne-eqb _ _ n)
@@ -212,7 +214,7 @@ module _ (sh : Shape) (hs ns file again : List ℕ) where
           pub written-room : length (encode sh hs ns) ≤ length file
           unfolding writeAnswer
           written-room =
-              go (leb (length (encode sh hs ns)) (length file)) refl (both-accept (graphAnswer sh hs ns) (roomFor (length (encode sh hs ns)) (length file)) y .1) where
+              go (leb (length (encode sh hs ns)) (length file)) refl (both-accept (givenAnswer sh hs ns) (roomFor (length (encode sh hs ns)) (length file)) y .1) where
                 go : (t : Bool) → leb (length (encode sh hs ns)) (length file) ≡ t → (cond t accepted (refused 6 0)) .number ≡ 0 → length (encode sh hs ns) ≤ length file
                 go true d x = leb-true _ _ d
                 go false d x = absurd (omega arith)

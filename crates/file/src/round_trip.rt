@@ -1,12 +1,13 @@
 // The two round trips over the entries: a file read and written again, and a graph written and read again.
+use graph::MOST_NUMBERS;
 use graph::Shape;
-use graph::hops::number_place;
 use graph::answers::refuse;
+use graph::hops::number_place;
 use reader::Contents;
 use reader::reading::read;
 use reader::reading::refusal;
 use writer::Written;
-use writer::writing::graph_answer;
+use writer::writing::given_answer;
 use writer::writing::unwritten;
 use writer::writing::write;
 ghost use mathlib.Core.Path.{_≡_};
@@ -18,7 +19,7 @@ pub fn copy_file(file: &[u8], out: &mut [u8]) -> Written
     ensures answers { λ r. ⌜ r ≡ copyOf (now (file .entry)) (length (now (out .entry))) ⌝ }
     ensures writes { λ _. ⌜ now (out .exit) ≡ copyBytes (now (file .entry)) (now (out .entry)) ⌝ }
 {
-    let mut hops = [0u16; 12288];
+    let mut hops = [0u16; MOST_NUMBERS];
     let found = read(file, &mut hops);
     let answer = found.answer;
     if answer.number != 0 {
@@ -43,9 +44,9 @@ pub fn graph_back(
     ensures file { λ _. ⌜ now (file .exit) ≡ backBytes shape (now (hops .entry)) (now (names .entry)) (now (file .entry)) (length (now (again .entry))) ⌝ }
     ensures hops { λ _. ⌜ now (again .exit) ≡ backHops shape (now (hops .entry)) (now (names .entry)) (length (now (file .entry))) (now (again .entry)) ⌝ }
 {
-    let graph = graph_answer(shape, hops, names);
-    if graph.number != 0 {
-        return refusal(graph);
+    let given = given_answer(shape, hops, names);
+    if given.number != 0 {
+        return refusal(given);
     }
     if again.len() < hops.len() {
         return refusal(refuse(6, 0));

@@ -1,6 +1,6 @@
 -- Laws of hops written at the front of a flat list: what then stands at a place, that a hop put at a place changes that hop alone, and that what
 -- lies past the front stays. Assumes nothing.
-use Prim.Native.Nat.{ℕ, zero, suc, _+_, _-_, _*_, _<_, _≤_}
+use Prim.Native.Nat.{ℕ, zero, suc, _+_, _-_, _<_, _≤_}
 use mathlib.Core.Path.{_≡_, refl, sym, ap, _∙_}
 use mathlib.Core.List.{List, [], _∷_, _++_, append-assoc}
 use mathlib.Core.Logic.{⊎-elim}
@@ -8,8 +8,8 @@ use native.Mathlib.Nat.{eq-or-lt-of-le, le-of-suc-le-suc, not-suc-le-zero}
 use native.Mathlib.Numerals.{add-one}
 use native.Mathlib.Omega.{arith}
 use lib.ListN.{length, getD, set, drop, length-append, length-drop, length-set, List·getD-append}
-use lib.Seq.{drop-cons, drop-drop, drop-append-add, getD-at, ext-getD}
-use Rattle.graph.specs.Hops.{count, from, label, to, hopAt, noHop, flat, put, front, over}
+use lib.Seq.{drop-cons, drop-drop, drop-append-add, getD-at, take-at, ext-getD}
+use Rattle.graph.specs.Hops.{count, from, label, to, hopOf, hopAt, noHop, flat, put, front, over, between, numberPlace}
 use Rattle.graph.specs.declared.Hop.{Hop}
 use Rattle.graph.proofs.Places.{length-flat}
 
@@ -28,21 +28,24 @@ module _ (rest : List ℕ) where
   hop-flat (x ∷ xs) {i = zero} l = refl
   hop-flat (x ∷ xs) {i = suc i} l = same ∙ hop-flat xs (le-of-suc-le-suc l) where
     same : hopAt (flat (x ∷ xs) ++ rest) (suc i) ≡ hopAt (flat xs ++ rest) i
-    same = λ d. record {
-      from = getD-later (x .from) (x .label) (x .to) (flat xs ++ rest) (3 * i) {i = 3 * suc i} (omega arith) d;
-      label = getD-later (x .from) (x .label) (x .to) (flat xs ++ rest) (3 * i + 1) {i = 3 * suc i + 1} (omega arith) d;
-      to = getD-later (x .from) (x .label) (x .to) (flat xs ++ rest) (3 * i + 2) {i = 3 * suc i + 2} (omega arith) d;
-    }
+    same = λ d. hopOf
+        (getD-later (x .from) (x .label) (x .to) (flat xs ++ rest) (numberPlace i) {i = numberPlace (suc i)} (omega arith) d)
+        (getD-later (x .from) (x .label) (x .to) (flat xs ++ rest) (numberPlace i + 1) {i = numberPlace (suc i) + 1} (omega arith) d)
+        (getD-later (x .from) (x .label) (x .to) (flat xs ++ rest) (numberPlace i + 2) {i = numberPlace (suc i) + 2} (omega arith) d)
 
   pub put-flat : (h : Hop) (xs : List Hop) {i : ℕ} → i < length xs → put (flat xs ++ rest) i h ≡ flat (set xs i h) ++ rest
   unfolding flat
   put-flat h [] l = absurd (not-suc-le-zero l)
   put-flat h (x ∷ xs) {i = zero} l = refl
   put-flat h (x ∷ xs) {i = suc i} l =
-      ap (λ (m : List ℕ). set (set m (3 * suc i + 1) (h .label)) (3 * suc i + 2) (h .to)) (set-later (x .from) (x .label) (x .to) _ (3 * i) {i = 3 * suc i} (omega arith) (h .from)) ∙
-      ap (λ (m : List ℕ). set m (3 * suc i + 2) (h .to)) (set-later (x .from) (x .label) (x .to) _ (3 * i + 1) {i = 3 * suc i + 1} (omega arith) (h .label)) ∙
-      set-later (x .from) (x .label) (x .to) _ (3 * i + 2) {i = 3 * suc i + 2} (omega arith) (h .to) ∙
+      ap (λ (m : List ℕ). set (set m (numberPlace (suc i) + 1) (h .label)) (numberPlace (suc i) + 2) (h .to)) (set-later (x .from) (x .label) (x .to) _ (numberPlace i) {i = numberPlace (suc i)} (omega arith) (h .from)) ∙
+      ap (λ (m : List ℕ). set m (numberPlace (suc i) + 2) (h .to)) (set-later (x .from) (x .label) (x .to) _ (numberPlace i + 1) {i = numberPlace (suc i) + 1} (omega arith) (h .label)) ∙
+      set-later (x .from) (x .label) (x .to) _ (numberPlace i + 2) {i = numberPlace (suc i) + 2} (omega arith) (h .to) ∙
       ap (λ (m : List ℕ). x .from ∷ x .label ∷ x .to ∷ m) (put-flat h xs (le-of-suc-le-suc l))
+
+-- the front of a list over which hops were written, as a part of it
+pub flat-front : (xs : List Hop) (rest : List ℕ) {n : ℕ} → n ≡ length xs → between (flat xs ++ rest) 0 n ≡ flat xs
+flat-front xs rest {n} e = take-at (flat xs) rest (numberPlace n - numberPlace 0) (omega (arith, length-flat xs))
 
 flat-append : (xs ys : List Hop) → flat (xs ++ ys) ≡ flat xs ++ flat ys
 unfolding flat
@@ -66,30 +69,30 @@ module _ (hs : List ℕ) where
 
 -- a list with hops written at its front
 module _ (hs : List ℕ) where
-  over-is : (xs : List Hop) → over xs hs ≡ flat xs ++ drop (3 * length xs) hs
+  over-is : (xs : List Hop) → over xs hs ≡ flat xs ++ drop (numberPlace (length xs)) hs
   unfolding over
   over-is xs = rw length-flat
 
   pub over-front : (n : ℕ) → n ≤ count hs → over (front n hs) hs ≡ hs
   unfolding front flat
   over-front n l = over-is (front n hs) ∙ rw (length-front hs n) (go n l) where
-    whole-hop : (n : ℕ) → n < count hs → drop (3 * n) hs ≡ from hs n ∷ label hs n ∷ to hs n ∷ drop (3 * suc n) hs
+    whole-hop : (n : ℕ) → n < count hs → drop (numberPlace n) hs ≡ from hs n ∷ label hs n ∷ to hs n ∷ drop (numberPlace (suc n)) hs
     whole-hop n l =
-        drop-cons hs (3 * n) 0 (omega arith) ∙
-        ap (λ (m : List ℕ). from hs n ∷ m) (ap (λ (k : ℕ). drop k hs) (sym (add-one (3 * n))) ∙ drop-cons hs (3 * n + 1) 0 (omega arith)) ∙
-        ap (λ (m : List ℕ). from hs n ∷ label hs n ∷ m) (ap (λ (k : ℕ). drop k hs) two ∙ drop-cons hs (3 * n + 2) 0 (omega arith)) ∙
+        drop-cons hs (numberPlace n) 0 (omega arith) ∙
+        ap (λ (m : List ℕ). from hs n ∷ m) (ap (λ (k : ℕ). drop k hs) (sym (add-one (numberPlace n))) ∙ drop-cons hs (numberPlace n + 1) 0 (omega arith)) ∙
+        ap (λ (m : List ℕ). from hs n ∷ label hs n ∷ m) (ap (λ (k : ℕ). drop k hs) two ∙ drop-cons hs (numberPlace n + 2) 0 (omega arith)) ∙
         ap (λ (k : ℕ). from hs n ∷ label hs n ∷ to hs n ∷ drop k hs) three where
-          two : suc (3 * n + 1) ≡ 3 * n + 2
+          two : suc (numberPlace n + 1) ≡ numberPlace n + 2
           two = omega arith
 
-          three : suc (3 * n + 2) ≡ 3 * suc n
+          three : suc (numberPlace n + 2) ≡ numberPlace (suc n)
           three = omega arith
 
-    go : (n : ℕ) → n ≤ count hs → flat (front n hs) ++ drop (3 * n) hs ≡ hs
+    go : (n : ℕ) → n ≤ count hs → flat (front n hs) ++ drop (numberPlace n) hs ≡ hs
     go zero l = refl
     go (suc n) l =
-        ap (λ (m : List ℕ). m ++ drop (3 * suc n) hs) (flat-append (front n hs) (hopAt hs n ∷ [])) ∙
-        append-assoc (flat (front n hs)) (flat (hopAt hs n ∷ [])) (drop (3 * suc n) hs) ∙
+        ap (λ (m : List ℕ). m ++ drop (numberPlace (suc n)) hs) (flat-append (front n hs) (hopAt hs n ∷ [])) ∙
+        append-assoc (flat (front n hs)) (flat (hopAt hs n ∷ [])) (drop (numberPlace (suc n)) hs) ∙
         ap (λ (m : List ℕ). flat (front n hs) ++ m) (sym (whole-hop n (omega arith))) ∙ go n (omega arith)
 
   pub hop-over : (xs : List Hop) {i : ℕ} → i < length xs → hopAt (over xs hs) i ≡ getD xs i noHop
@@ -99,7 +102,7 @@ module _ (hs : List ℕ) where
   pub put-over : (h : Hop) (xs : List Hop) {i : ℕ} → i < length xs → put (over xs hs) i h ≡ over (set xs i h) hs
   put-over h xs {i} l =
       ap (λ (m : List ℕ). put m i h) (over-is xs) ∙ put-flat _ h xs l ∙
-      ap (λ (k : ℕ). flat (set xs i h) ++ drop (3 * k) hs) (sym (length-set xs i h)) ∙ sym (over-is (set xs i h))
+      ap (λ (k : ℕ). flat (set xs i h) ++ drop (numberPlace k) hs) (sym (length-set xs i h)) ∙ sym (over-is (set xs i h))
 
   pub length-over : (xs : List Hop) → length xs ≤ count hs → length (over xs hs) ≡ length hs
   unfolding over
@@ -109,6 +112,10 @@ module _ (hs : List ℕ) where
   front-over xs =
       ext-getD noHop (front (length xs) (over xs hs)) xs (length-front (over xs hs) (length xs))
       (λ i l. let k : i < length xs = omega (arith, length-front (over xs hs) (length xs)) in getD-front (over xs hs) (length xs) k ∙ hop-over xs k)
+
+  pub over-flat : (xs : List Hop) → between (over xs hs) 0 (length xs) ≡ flat xs
+  unfolding over
+  over-flat xs = flat-front xs _ refl
 
   pub over-over : (xs ys : List Hop) → length xs ≤ length ys → over ys (over xs hs) ≡ over ys hs
   unfolding over

@@ -10,7 +10,7 @@ use native.Mathlib.Omega.{arith}
 use borrow.Author.Tests.{ltb-true, ltb-false, lt-ltb, le-ltb, not-true, not-false}
 use lib.Dec.{ltb}
 use Rattle.below.specs.Tests.{any, all, least}
-use Rattle.graph.specs.Hops.{count, from, label, to, hopAt, is, has}
+use Rattle.graph.specs.Hops.{count, from, hopOf, hopAt, Alike, is, has}
 use Rattle.graph.specs.Order.{before, Ascending}
 use Rattle.graph.specs.Search.{lower, Bracket, found, placed, isAt, firstOf, pastOf}
 use Rattle.graph.specs.declared.Hop.{Hop}
@@ -18,13 +18,22 @@ use Rattle.graph.specs.declared.Found.{Found}
 use Rattle.graph.specs.declared.Found.the-variants.{At, Gap}
 use Rattle.below.proofs.Bools.{clash, decided, not-yes, not-no, no-test, and-left, and-right, and-no-right, same-test, lt-or-le}
 use Rattle.below.proofs.Tests.{least-is, least-passes, least-before, least-within, any-found, any-no, all-yes}
-use Rattle.graph.proofs.Places.{is-yes, has-place}
-use Rattle.graph.proofs.Ordered.{Below, before-below, below-before, before-trans, before-itself, ascending-lt}
+use Rattle.graph.proofs.Places.{is-alike, alike-is, has-place}
+use Rattle.graph.proofs.Ordered.{Below, before-below, below-before, before-trans, before-total, before-alike, alike-itself, alike-back, alike-then, alike-not-before, ascending-lt, ascending-place}
 
 module _ (hs : List ℕ) (h : Hop) where
   pub lower-within : lower hs h ≤ count hs
   unfolding lower
   lower-within = least-within (λ (i : ℕ). not (before (hopAt hs i) h)) (count hs)
+
+  -- the whole list brackets every hop
+  pub whole-bracket : {past : ℕ} → past ≡ count hs → Bracket hs h 0 past
+  whole-bracket e = record {
+    lo-le = omega arith;
+    hi-le = omega arith;
+    below = λ j l. absurd (omega arith);
+    above = λ j l k. absurd (omega arith);
+  }
 
   pub lower-met : {lo hi : ℕ} → Bracket hs h lo hi → hi ≤ lo → lower hs h ≡ lo
   unfolding lower
@@ -70,20 +79,19 @@ module _ (hs : List ℕ) (h : Hop) where
       no k = le-ltb _ _ k ∙ sym (after k l (not-true (before (hopAt hs (lower hs h)) h) (least-passes test (count hs) (omega arith))))
 
     -- a hop that stands in the list stands where the search looks
-    pub lower-at : {p : ℕ} → p < count hs → hopAt hs p ≡ h → lower hs h ≡ p
+    pub lower-at : {p : ℕ} → p < count hs → Alike (hopAt hs p) h → lower hs h ≡ p
     lower-at {p} l e = ⊎-elim over (λ k. omega (arith, not-over)) (lt-or-le (lower hs h) p) where
       not-over : lower hs h ≤ p
-      not-over = ltb-false _ _ (lower-law l ∙ (rw e (before-itself h)))
+      not-over = ltb-false _ _ (lower-law l ∙ alike-not-before e)
 
       over : lower hs h < p → lower hs h ≡ p
       over k =
           let m : lower hs h < count hs = omega arith in
-          clash (rw e at (ascending-lt hs up p k l)) (sym (lower-law m) ∙ le-ltb _ _ (le-refl (lower hs h)))
+          clash (before-alike (alike-itself (hopAt hs (lower hs h))) (alike-back e) ∙ ascending-lt hs up p k l) (sym (lower-law m) ∙ le-ltb _ _ (le-refl (lower hs h)))
 
-    pub placed-at : {p : ℕ} → p < count hs → hopAt hs p ≡ h → placed hs h ≡ At p
+    pub placed-at : {p : ℕ} → p < count hs → Alike (hopAt hs p) h → placed hs h ≡ At p
     unfolding placed
-    placed-at {p} l e =
-        rw (lower-at l e, lt-ltb _ _ l, is-yes hs (h .from) (h .label) (h .to) p (ap (λ (x : Hop). x .from) e) (ap (λ (x : Hop). x .label) e) (ap (λ (x : Hop). x .to) e))
+    placed-at {p} l e = rw (lower-at l e, lt-ltb _ _ l, alike-is hs h p e)
 
   -- the ways out of `find`, where r is the place that was searched for
   module _ {r : ℕ} (e : r ≡ lower hs h) where
@@ -118,7 +126,7 @@ module _ (hs : List ℕ) (h : Hop) where
   pub placed-has : Ascending hs → isAt (placed hs h) ≡ has hs (h .from) (h .label) (h .to)
   placed-has up =
       same-test (isAt (placed hs h)) (has hs (h .from) (h .label) (h .to)) (told (placed hs h) refl)
-      (λ e. let q = has-place hs (h .from) (h .label) (h .to) e in rw (placed-at up (q .within) (λ i. record { from = q .from-is i; label = q .label-is i; to = q .to-is i }))) where
+      (λ e. let q = has-place hs (h .from) (h .label) (h .to) e in rw (placed-at up (q .within) (record { same-from = q .from-is; same-label = q .label-is; same-to = q .to-is }))) where
         told : (x : Found) → placed hs h ≡ x → isAt x ≡ true → has hs (h .from) (h .label) (h .to) ≡ true
         told (At p) d e = at-has d
         told (Gap p) d e = clash e refl
@@ -126,13 +134,39 @@ module _ (hs : List ℕ) (h : Hop) where
   pub gap-has : {p : ℕ} → Ascending hs → placed hs h ≡ Gap p → has hs (h .from) (h .label) (h .to) ≡ false
   gap-has up e = sym (placed-has up) ∙ ap isAt e
 
+-- in an ascending list a hop stands at one place only
+pub one-place : (hs : List ℕ) → Ascending hs → (s a t : ℕ) {i j : ℕ} → i < count hs → j < count hs → is hs s a t i ≡ true → is hs s a t j ≡ true → i ≡ j
+one-place hs up s a t {i} {j} l m p q =
+    ascending-place hs up l m (alike-then (is-alike hs (hopOf s a t) i p) (alike-back (is-alike hs (hopOf s a t) j q)))
+
+-- a hop that does not come before another is not searched for before it
+pub lower-rises : (hs : List ℕ) → Ascending hs → (a b : Hop) → before b a ≡ false → lower hs a ≤ lower hs b
+lower-rises hs up a b e = ⊎-elim over (λ l. l) (lt-or-le (lower hs b) (lower hs a)) where
+  over : lower hs b < lower hs a → lower hs a ≤ lower hs b
+  over l = go (decided (before b (hopAt hs (lower hs b)))) where
+    within : lower hs b < count hs
+    within = omega (arith, lower-within hs a)
+
+    x : Hop
+    x = hopAt hs (lower hs b)
+
+    x-a : before x a ≡ true
+    x-a = sym (lower-law hs a up within) ∙ lt-ltb _ _ l
+
+    x-b : before x b ≡ false
+    x-b = sym (lower-law hs b up within) ∙ le-ltb _ _ (le-refl (lower hs b))
+
+    go : (before b x ≡ true) ⊎ (before b x ≡ false) → lower hs a ≤ lower hs b
+    go (inl d) = clash (before-trans b x a d x-a) e
+    go (inr d) = clash (sym (before-alike (before-total x b x-b d) (alike-itself a)) ∙ x-a) e
+
 -- the hops of a state
 module _ (hs : List ℕ) (up : Ascending hs) where
   pub first-law : (s : ℕ) {i : ℕ} → i < count hs → ltb i (firstOf hs s) ≡ ltb (from hs i) s
   unfolding firstOf
   first-law s {i} l = lower-law hs h up l ∙ same-test (before (hopAt hs i) h) (ltb (from hs i) s) (λ e. only (before-below (hopAt hs i) h e)) (λ e. below-before (hopAt hs i) h (inl (ltb-true _ _ e))) where
     h : Hop
-    h = record { from = s; label = 0; to = 0 }
+    h = hopOf s 0 0
 
     only : Below (hopAt hs i) h → ltb (from hs i) s ≡ true
     only (inl k) = lt-ltb _ _ k
@@ -141,7 +175,7 @@ module _ (hs : List ℕ) (up : Ascending hs) where
 
   pub first-within : (s : ℕ) → firstOf hs s ≤ count hs
   unfolding firstOf
-  first-within s = lower-within hs (record { from = s; label = 0; to = 0 })
+  first-within s = lower-within hs (hopOf s 0 0)
 
   -- a hop of s stands from firstOf on and before pastOf
   pub range-holds : (s : ℕ) {i : ℕ} → i < count hs → from hs i ≡ s → (firstOf hs s ≤ i) × (i < pastOf hs s)
@@ -157,14 +191,11 @@ module _ (hs : List ℕ) (up : Ascending hs) where
       omega arith
 
   pub first-past : (s : ℕ) → firstOf hs s ≤ pastOf hs s
-  unfolding pastOf
-  first-past s = ⊎-elim over (λ l. l) (lt-or-le (pastOf hs s) (firstOf hs s)) where
-    over : pastOf hs s < firstOf hs s → firstOf hs s ≤ pastOf hs s
-    over l =
-        let m : firstOf hs (s + 1) < count hs = omega (arith, first-within s) in
-        let a : from hs (firstOf hs (s + 1)) < s = ltb-true _ _ (sym (first-law s m) ∙ lt-ltb _ _ l) in
-        let b : s + 1 ≤ from hs (firstOf hs (s + 1)) = ltb-false _ _ (sym (first-law (s + 1) m) ∙ le-ltb _ _ (le-refl (firstOf hs (s + 1)))) in
-        absurd (omega arith)
+  unfolding firstOf pastOf
+  first-past s = lower-rises hs up (hopOf s 0 0) (hopOf (s + 1) 0 0) (no-test (before (hopOf (s + 1) 0 0) (hopOf s 0 0)) (λ e. go (before-below (hopOf (s + 1) 0 0) (hopOf s 0 0) e))) where
+    go : Below (hopOf (s + 1) 0 0) (hopOf s 0 0) → ⊥
+    go (inl l) = omega arith
+    go (inr (e, l)) = omega arith
 
   pub past-within : (s : ℕ) → pastOf hs s ≤ count hs
   unfolding pastOf

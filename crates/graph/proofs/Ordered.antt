@@ -1,6 +1,6 @@
 -- The order of hops is a strict total order, so that in an ascending list an earlier place holds an earlier hop. Assumes nothing.
 use Prim.Native.Nat.{ℕ, zero, suc, _<_, _≤_}
-use mathlib.Core.Path.{_≡_, sym, _∙_, subst, subst⁻¹}
+use mathlib.Core.Path.{_≡_, refl, sym, _∙_, subst, subst⁻¹}
 use mathlib.Core.Bool.{true, false, _&&_, _||_}
 use mathlib.Core.List.{List}
 use mathlib.Core.Logic.{_⊎_, inl, inr, ⊎-elim}
@@ -9,7 +9,7 @@ use native.Mathlib.Numerals.{add-one}
 use native.Mathlib.Omega.{arith}
 use borrow.Author.Tests.{ltb-true, lt-ltb, eqb-true, eq-eqb}
 use lib.Dec.{ltb, eqb}
-use Rattle.graph.specs.Hops.{count, from, label, to, hopAt}
+use Rattle.graph.specs.Hops.{count, hopAt, Alike}
 use Rattle.graph.specs.Order.{before, Ascending}
 use Rattle.graph.specs.declared.Hop.{Hop}
 use Rattle.below.proofs.Bools.{clash, and-yes, and-left, and-right, or-left, or-right, or-yes, no-test, lt-or-le}
@@ -72,6 +72,27 @@ before-not-back a b p = no-test (before b a) (λ q. below-self a b (before-below
 pub before-itself : (a : Hop) → before a a ≡ false
 before-itself a = no-test (before a a) (λ q. below-self a a (before-below a a q) (before-below a a q))
 
+-- being alike is an equivalence, and the order does not tell hops that are alike apart
+pub alike-itself : (a : Hop) → Alike a a
+alike-itself a = record { same-from = refl; same-label = refl; same-to = refl }
+
+pub alike-back : {a b : Hop} → Alike a b → Alike b a
+alike-back q = record { same-from = sym (q .same-from); same-label = sym (q .same-label); same-to = sym (q .same-to) }
+
+pub alike-then : {a b c : Hop} → Alike a b → Alike b c → Alike a c
+alike-then p q = record {
+  same-from = p .same-from ∙ q .same-from;
+  same-label = p .same-label ∙ q .same-label;
+  same-to = p .same-to ∙ q .same-to;
+}
+
+pub before-alike : {a a' b b' : Hop} → Alike a a' → Alike b b' → before a b ≡ before a' b'
+unfolding before
+before-alike p q = rw (p .same-from, p .same-label, p .same-to, q .same-from, q .same-label, q .same-to)
+
+pub alike-not-before : {a b : Hop} → Alike a b → before a b ≡ false
+alike-not-before {a} {b} q = before-alike q (alike-itself b) ∙ before-itself b
+
 -- of two hops neither of which is before the other, the numbers are the same
 trichotomy : (m n : ℕ) → (m < n) ⊎ ((m ≡ n) ⊎ (n < m))
 trichotomy m n = go (lt-or-le m n) (lt-or-le n m) where
@@ -80,25 +101,25 @@ trichotomy m n = go (lt-or-le m n) (lt-or-le n m) where
   go (inr l) (inl k) = inr (inr k)
   go (inr l) (inr k) = inr (inl (omega arith))
 
-pub before-total : (a b : Hop) → before a b ≡ false → before b a ≡ false → a ≡ b
+pub before-total : (a b : Hop) → before a b ≡ false → before b a ≡ false → Alike a b
 before-total a b p q = froms (trichotomy (a .from) (b .from)) where
-  no : Below a b → a ≡ b
+  no : Below a b → Alike a b
   no d = clash (below-before a b d) p
 
-  back : Below b a → a ≡ b
+  back : Below b a → Alike a b
   back d = clash (below-before b a d) q
 
-  tos : a .from ≡ b .from → a .label ≡ b .label → (a .to < b .to) ⊎ ((a .to ≡ b .to) ⊎ (b .to < a .to)) → a ≡ b
+  tos : a .from ≡ b .from → a .label ≡ b .label → (a .to < b .to) ⊎ ((a .to ≡ b .to) ⊎ (b .to < a .to)) → Alike a b
   tos e f (inl l) = no (inr (e, inr (f, l)))
-  tos e f (inr (inl g)) = λ i. record { from = e i; label = f i; to = g i }
+  tos e f (inr (inl g)) = record { same-from = e; same-label = f; same-to = g }
   tos e f (inr (inr l)) = back (inr (sym e, inr (sym f, l)))
 
-  labels : a .from ≡ b .from → (a .label < b .label) ⊎ ((a .label ≡ b .label) ⊎ (b .label < a .label)) → a ≡ b
+  labels : a .from ≡ b .from → (a .label < b .label) ⊎ ((a .label ≡ b .label) ⊎ (b .label < a .label)) → Alike a b
   labels e (inl l) = no (inr (e, inl l))
   labels e (inr (inl f)) = tos e f (trichotomy (a .to) (b .to))
   labels e (inr (inr l)) = back (inr (sym e, inl l))
 
-  froms : (a .from < b .from) ⊎ ((a .from ≡ b .from) ⊎ (b .from < a .from)) → a ≡ b
+  froms : (a .from < b .from) ⊎ ((a .from ≡ b .from) ⊎ (b .from < a .from)) → Alike a b
   froms (inl l) = no (inl l)
   froms (inr (inl e)) = labels e (trichotomy (a .label) (b .label))
   froms (inr (inr l)) = back (inl l)
@@ -117,9 +138,9 @@ module _ (hs : List ℕ) (up : Ascending hs) where
       (eq-or-lt-of-le (le-of-suc-le-suc l))
 
   -- a place is told by its hop
-  pub ascending-place : {i j : ℕ} → i < count hs → j < count hs → hopAt hs i ≡ hopAt hs j → i ≡ j
+  pub ascending-place : {i j : ℕ} → i < count hs → j < count hs → Alike (hopAt hs i) (hopAt hs j) → i ≡ j
   ascending-place {i} {j} l m e = go (trichotomy i j) where
     go : (i < j) ⊎ ((i ≡ j) ⊎ (j < i)) → i ≡ j
-    go (inl k) = clash (ascending-lt j k m) (rw e (before-itself (hopAt hs j)))
+    go (inl k) = clash (ascending-lt j k m) (alike-not-before e)
     go (inr (inl q)) = q
-    go (inr (inr k)) = clash (ascending-lt i k l) (rw e (before-itself (hopAt hs j)))
+    go (inr (inr k)) = clash (ascending-lt i k l) (alike-not-before (alike-back e))

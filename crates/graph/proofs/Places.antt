@@ -1,5 +1,5 @@
 -- Laws of the flat hop list: what a place holds, and that the graph has a hop exactly when some place holds it. Assumes nothing.
-use Prim.Native.Nat.{ℕ, zero, suc, _+_, _*_, _<_}
+use Prim.Native.Nat.{ℕ, zero, suc, _+_, _<_}
 use mathlib.Core.Path.{_≡_, refl, ap, _∙_}
 use mathlib.Core.Bool.{true}
 use mathlib.Core.List.{List, [], _∷_}
@@ -9,9 +9,9 @@ use borrow.Author.Tests.{eq-eqb, eqb-true}
 use lib.ListN.{length, getD}
 use lib.Dec.{eqb}
 use Rattle.below.specs.Tests.{any}
-use Rattle.graph.specs.Hops.{count, from, label, to, hopAt, noHop, flat, is, has}
+use Rattle.graph.specs.Hops.{count, from, label, to, hopOf, hopAt, noHop, Alike, numberPlace, flat, is, labelled, has}
 use Rattle.graph.specs.declared.Hop.{Hop}
-use Rattle.below.proofs.Bools.{and-left, and-right}
+use Rattle.below.proofs.Bools.{and-yes, and-left, and-right}
 use Rattle.below.proofs.Tests.{any-found, any-at}
 
 module _ (hs : List ℕ) (s a t i : ℕ) where
@@ -30,6 +30,28 @@ module _ (hs : List ℕ) (s a t i : ℕ) where
   pub is-to : is hs s a t i ≡ true → to hs i ≡ t
   unfolding is
   is-to e = eqb-true _ _ (and-right (eqb (label hs i) a) _ (and-right (eqb (from hs i) s) _ e))
+
+-- the hop at a place is one of s labelled a
+module _ (hs : List ℕ) (s a i : ℕ) where
+  pub labelled-yes : from hs i ≡ s → label hs i ≡ a → labelled hs s a i ≡ true
+  unfolding labelled
+  labelled-yes p q = and-yes (eq-eqb _ _ p) (eq-eqb _ _ q)
+
+  pub labelled-parts : labelled hs s a i ≡ true → (from hs i ≡ s) × (label hs i ≡ a)
+  unfolding labelled
+  labelled-parts e = (eqb-true _ _ (and-left (eqb (from hs i) s) _ e), eqb-true _ _ (and-right (eqb (from hs i) s) _ e))
+
+-- the hop at a place is h: the two are alike
+module _ (hs : List ℕ) (h : Hop) (i : ℕ) where
+  pub is-alike : is hs (h .from) (h .label) (h .to) i ≡ true → Alike (hopAt hs i) h
+  is-alike e = record {
+    same-from = is-from hs (h .from) (h .label) (h .to) i e;
+    same-label = is-label hs (h .from) (h .label) (h .to) i e;
+    same-to = is-to hs (h .from) (h .label) (h .to) i e;
+  }
+
+  pub alike-is : Alike (hopAt hs i) h → is hs (h .from) (h .label) (h .to) i ≡ true
+  alike-is q = is-yes hs (h .from) (h .label) (h .to) i (q .same-from) (q .same-label) (q .same-to)
 
 -- the hop at a place is a hop of the graph
 pub has-at : (hs : List ℕ) {i : ℕ} → i < count hs → has hs (from hs i) (label hs i) (to hs i) ≡ true
@@ -55,23 +77,22 @@ unfolding has
 place-has hs s a t p = any-found _ (count hs) (p .within) (is-yes hs s a t (p .at) (p .from-is) (p .label-is) (p .to-is))
 
 -- the flat list of a list of hops holds those hops
-pub length-flat : (xs : List Hop) → length (flat xs) ≡ 3 * length xs
+pub length-flat : (xs : List Hop) → length (flat xs) ≡ numberPlace (length xs)
 unfolding flat
 length-flat [] = refl
-length-flat (x ∷ xs) = let h : length (flat xs) ≡ 3 * length xs = length-flat xs in omega arith
+length-flat (x ∷ xs) = let h : length (flat xs) ≡ numberPlace (length xs) = length-flat xs in omega arith
 
 pub count-flat : (xs : List Hop) → count (flat xs) ≡ length xs
-count-flat xs = let h : length (flat xs) ≡ 3 * length xs = length-flat xs in omega arith
+count-flat xs = let h : length (flat xs) ≡ numberPlace (length xs) = length-flat xs in omega arith
 
 pub flat-at : (xs : List Hop) (i : ℕ) → hopAt (flat xs) i ≡ getD xs i noHop
 unfolding flat
 flat-at [] i = refl
 flat-at (x ∷ xs) zero = refl
-flat-at (x ∷ xs) (suc i) = shift (3 * suc i) (3 * i) (omega arith) ∙ flat-at xs i where
+flat-at (x ∷ xs) (suc i) = shift (numberPlace (suc i)) (numberPlace i) (omega arith) ∙ flat-at xs i where
   three : List ℕ
   three = x .from ∷ x .label ∷ x .to ∷ flat xs
 
   shift : (m n : ℕ) → m ≡ suc (suc (suc n)) →
-      _≡_ {A = Hop} (record { from = getD three m 0; label = getD three (m + 1) 0; to = getD three (m + 2) 0 })
-      (record { from = getD (flat xs) n 0; label = getD (flat xs) (n + 1) 0; to = getD (flat xs) (n + 2) 0 })
+      hopOf (getD three m 0) (getD three (m + 1) 0) (getD three (m + 2) 0) ≡ hopOf (getD (flat xs) n 0) (getD (flat xs) (n + 1) 0) (getD (flat xs) (n + 2) 0)
   shift m n e = rw (e, add-one, add-two, add-one, add-two)

@@ -2,6 +2,7 @@
 use Prim.Native.Nat.{ℕ}
 use mathlib.Core.Bool.{cond}
 use lib.Dec.{eqb, leb}
+use Rattle.graph.specs.Hops.{numberPlace}
 use Rattle.graph.specs.declared.Answer.{Answer}
 
 -- "A graph has a state count of 1 to 1,024, a label count of 1 to 1,024, .. and 0 to 4,096 hops"
@@ -13,6 +14,10 @@ most-labels = 1024
 
 abbrev pub most-hops : ℕ
 most-hops = 4096
+
+-- how many numbers the flat list of a graph then has
+abbrev pub most-numbers : ℕ
+most-numbers = numberPlace most-hops
 
 -- "An answer holds number, table .. and place": accepted is 0, table 1, place 0
 abbrev pub accepted : Answer

@@ -1,26 +1,27 @@
 // What stands at a place of a flat hop list, and where a hop's numbers begin: the code above asks here.
 use super::Hop;
 use super::Label;
+use super::NUMBERS_A_HOP;
 use super::NewState;
 use super::OldState;
 ghost use mathlib.Core.Path.{_≡_};
 ghost use Prim.Native.Nat.{_<_, _≤_};
 ghost use denote.Ref.{ptr};
-ghost use Rattle.graph.specs.Hops.{count, whole, from, label, to, hopAt, put, is, between, standsAt, numberPlace};
+ghost use Rattle.graph.specs.Hops.{count, whole, from, label, to, hopOf, hopAt, put, is, between, standsAt, numberPlace};
 ghost use Rattle.graph.specs.Answers.{most-hops};
 
 // How many hops the list holds.
 pub fn hop_count(hops: &[u16]) -> usize
     ensures { λ r. ⌜ r ≡ count (now (hops .entry)) ⌝ }
 {
-    hops.len() / 3
+    hops.len() / NUMBERS_A_HOP
 }
 
 // Whether the list holds whole hops only.
 pub fn is_whole(hops: &[u16]) -> bool
     ensures { λ r. ⌜ r ≡ whole (now (hops .entry)) ⌝ }
 {
-    hops.len() % 3 == 0
+    hops.len() % NUMBERS_A_HOP == 0
 }
 
 // Where the hop at a place begins, in numbers of the list.
@@ -28,7 +29,7 @@ pub fn number_place(i: usize) -> usize
     requires { ⌜ i ≤ most-hops ⌝ }
     ensures { λ r. ⌜ r ≡ numberPlace i ⌝ }
 {
-    3 * i
+    NUMBERS_A_HOP * i
 }
 
 // The states and the label of a hop, by kind: old numbers in the graph that is read, new numbers in the short graph.
@@ -36,35 +37,42 @@ pub fn from_at(hops: &[u16], i: usize) -> OldState
     requires { ⌜ i < count (now hops) ⌝ }
     ensures { λ r. ⌜ r .0 ≡ from (now (hops .entry)) i ⌝ }
 {
-    OldState(hops[3 * i])
+    OldState(hops[NUMBERS_A_HOP * i])
 }
 
 pub fn label_at(hops: &[u16], i: usize) -> Label
     requires { ⌜ i < count (now hops) ⌝ }
     ensures { λ r. ⌜ r .0 ≡ label (now (hops .entry)) i ⌝ }
 {
-    Label(hops[3 * i + 1])
+    Label(hops[NUMBERS_A_HOP * i + 1])
 }
 
 pub fn to_at(hops: &[u16], i: usize) -> OldState
     requires { ⌜ i < count (now hops) ⌝ }
     ensures { λ r. ⌜ r .0 ≡ to (now (hops .entry)) i ⌝ }
 {
-    OldState(hops[3 * i + 2])
+    OldState(hops[NUMBERS_A_HOP * i + 2])
 }
 
 pub fn new_from_at(hops: &[u16], i: usize) -> NewState
     requires { ⌜ i < count (now hops) ⌝ }
     ensures { λ r. ⌜ r .0 ≡ from (now (hops .entry)) i ⌝ }
 {
-    NewState(hops[3 * i])
+    NewState(hops[NUMBERS_A_HOP * i])
 }
 
 pub fn new_to_at(hops: &[u16], i: usize) -> NewState
     requires { ⌜ i < count (now hops) ⌝ }
     ensures { λ r. ⌜ r .0 ≡ to (now (hops .entry)) i ⌝ }
 {
-    NewState(hops[3 * i + 2])
+    NewState(hops[NUMBERS_A_HOP * i + 2])
+}
+
+// The hop of three numbers: hops are made here and in hop_at, and nowhere else.
+pub fn hop_of(from: u16, label: u16, to: u16) -> Hop
+    ensures { λ r. ⌜ r ≡ hopOf from label to ⌝ }
+{
+    Hop { from, label, to }
 }
 
 // The whole hop, by bare numbers: of either graph.
@@ -73,18 +81,19 @@ pub fn hop_at(hops: &[u16], i: usize) -> Hop
     ensures { λ r. ⌜ r ≡ hopAt (now (hops .entry)) i ⌝ }
 {
     Hop {
-        from: hops[3 * i],
-        label: hops[3 * i + 1],
-        to: hops[3 * i + 2],
+        from: hops[NUMBERS_A_HOP * i],
+        label: hops[NUMBERS_A_HOP * i + 1],
+        to: hops[NUMBERS_A_HOP * i + 2],
     }
 }
 
-// Whether the hop at the place is h.
+// Whether the hop at the place is h, by its three numbers.
 pub fn is_hop_at(hops: &[u16], i: usize, h: Hop) -> bool
     requires { ⌜ i < count (now hops) ⌝ }
     ensures { λ r. ⌜ r ≡ is (now (hops .entry)) (h .from) (h .label) (h .to) i ⌝ }
 {
-    (hops[3 * i] == h.from) & ((hops[3 * i + 1] == h.label) & (hops[3 * i + 2] == h.to))
+    let at = hop_at(hops, i);
+    (at.from == h.from) & ((at.label == h.label) & (at.to == h.to))
 }
 
 // Writes the hop at the place.
@@ -92,18 +101,19 @@ pub fn put_hop(hops: &mut [u16], i: usize, h: Hop)
     requires { ⌜ i < count (now hops) ⌝ }
     ensures { λ _. ⌜ now (hops .exit) ≡ put (now (hops .entry)) i h ⌝ }
 {
-    hops[3 * i] = h.from;
-    hops[3 * i + 1] = h.label;
-    hops[3 * i + 2] = h.to;
+    hops[NUMBERS_A_HOP * i] = h.from;
+    hops[NUMBERS_A_HOP * i + 1] = h.label;
+    hops[NUMBERS_A_HOP * i + 2] = h.to;
 }
 
 // The hops from one place up to another, as a part of the list itself.
 pub fn part<'a>(hops: &'a [u16], first: usize, past: usize) -> &'a [u16]
-    requires { ⌜ (first ≤ past) × (past ≤ count (now hops)) ⌝ }
+    requires rising { ⌜ first ≤ past ⌝ }
+    requires within { ⌜ past ≤ count (now hops) ⌝ }
     ensures shows { λ r. ⌜ now r ≡ between (now (hops .entry)) first past ⌝ }
     ensures stands { λ r. ⌜ ptr r ≡ standsAt (hops .entry) first ⌝ }
 {
-    let a = 3 * first;
-    let e = 3 * past;
+    let a = NUMBERS_A_HOP * first;
+    let e = NUMBERS_A_HOP * past;
     &hops[a..e]
 }

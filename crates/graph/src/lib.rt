@@ -1,4 +1,6 @@
-// Mode graphs as flat hop lists: their types, the accessors, the order of hops, the one search, and answers.
+// Mode graphs as flat hop lists: their types and limits, what stands at a place, the order of hops, the one search, and answers. Everything above looks
+// at hops by the accessors of hops.rt and by places that count hops, so that how a hop lies in the list is said here alone. Two hops that have the same
+// from, label and to are alike (specs/Hops): order, search and meaning look at no more of a hop.
 pub mod hops; // hops.rt: what stands at a place of a flat list
 pub mod map; // map.rt: a map at a state
 pub mod order; // order.rt: the one comparison of hops

@@ -4,6 +4,7 @@ use super::Found;
 use super::Hop;
 use super::hops::hop_at;
 use super::hops::hop_count;
+use super::hops::hop_of;
 use super::hops::is_hop_at;
 use super::order::is_before;
 ghost use mathlib.Core.Path.{_≡_};
@@ -14,7 +15,8 @@ ghost use Rattle.graph.specs.Search.{lower, Bracket, placed, firstOf, pa
 
 // The first place whose hop is not before h, searched for by halving between two places that bracket it.
 pub fn lower_between(hops: &[u16], h: Hop, first: usize, past: usize) -> usize
-    requires { ⌜ Ascending (now hops) × Bracket (now hops) h first past ⌝ }
+    requires ascending { ⌜ Ascending (now hops) ⌝ }
+    requires bracket { ⌜ Bracket (now hops) h first past ⌝ }
     ensures { λ r. ⌜ r ≡ lower (now (hops .entry)) h ⌝ }
 {
     let mut lo = first;
@@ -38,18 +40,27 @@ pub fn lower_place(hops: &[u16], h: Hop) -> usize
     lower_between(hops, h, 0, hop_count(hops))
 }
 
-// Where the hop stands, or would stand.
-pub fn find(hops: &[u16], h: Hop) -> Found
-    requires { ⌜ Ascending (now hops) ⌝ }
+// Where the hop stands or would stand, searched for between two places that bracket it.
+pub fn find_between(hops: &[u16], h: Hop, first: usize, past: usize) -> Found
+    requires ascending { ⌜ Ascending (now hops) ⌝ }
+    requires bracket { ⌜ Bracket (now hops) h first past ⌝ }
     ensures { λ r. ⌜ r ≡ placed (now (hops .entry)) h ⌝ }
 {
-    let at = lower_place(hops, h);
+    let at = lower_between(hops, h, first, past);
     if at < hop_count(hops) {
         if is_hop_at(hops, at, h) {
             return Found::At(at);
         }
     }
     Found::Gap(at)
+}
+
+// Where the hop stands or would stand, in the whole list.
+pub fn find(hops: &[u16], h: Hop) -> Found
+    requires { ⌜ Ascending (now hops) ⌝ }
+    ensures { λ r. ⌜ r ≡ placed (now (hops .entry)) h ⌝ }
+{
+    find_between(hops, h, 0, hop_count(hops))
 }
 
 // Whether the graph has the hop.
@@ -69,19 +80,13 @@ pub fn first_of(hops: &[u16], s: u16) -> usize
     requires { ⌜ Ascending (now hops) ⌝ }
     ensures { λ r. ⌜ r ≡ firstOf (now (hops .entry)) s ⌝ }
 {
-    lower_place(
-        hops,
-        Hop {
-            from: s,
-            label: 0,
-            to: 0,
-        },
-    )
+    lower_place(hops, hop_of(s, 0, 0))
 }
 
 // The place past the last hop of s.
 pub fn past_of(hops: &[u16], s: u16) -> usize
-    requires { ⌜ Ascending (now hops) × (s < 65535) ⌝ }
+    requires ascending { ⌜ Ascending (now hops) ⌝ }
+    requires state { ⌜ s < 65535 ⌝ }
     ensures { λ r. ⌜ r ≡ pastOf (now (hops .entry)) s ⌝ }
 {
     first_of(hops, s + 1)

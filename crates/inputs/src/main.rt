@@ -1,12 +1,13 @@
 // Several files through the library in one program: what is printed of each, behind its name. The whole program is run over more files by
 // tests/program.sh.
 use libc::STDOUT_FILENO;
+use report::print::MOST_TEXT;
 use report::print::print_file;
 
 fn show(name: &[u8], file: &[u8]) {
     io::write_all(STDOUT_FILENO, name);
     io::write_all(STDOUT_FILENO, b":\n");
-    let mut out = [0u8; 196608];
+    let mut out = [0u8; MOST_TEXT];
     let n = print_file(file, &mut out);
     io::write_all(STDOUT_FILENO, &out[..n]);
 }

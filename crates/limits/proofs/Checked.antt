@@ -12,7 +12,7 @@ use borrow.Author.Tests.{ltb-true, ltb-false, leb-true, leb-false, eqb-true, lt-
 use lib.ListN.{length}
 use lib.Dec.{eqb, leb, ltb}
 use Rattle.below.specs.Tests.{least, FirstFailing}
-use Rattle.graph.specs.Hops.{count, from, label, to, hopAt}
+use Rattle.graph.specs.Hops.{numbers-a-hop, count, from, label, to, hopAt}
 use Rattle.graph.specs.Order.{before, Ascending}
 use Rattle.graph.specs.Answers.{most-states, most-labels, most-hops, accepted, refused}
 use Rattle.limits.specs.Check.{countsFit, inside, firstOutside, rises, firstFalling, checkOf, InRange, Admitted}
@@ -110,7 +110,7 @@ module _ (sh : Shape) (hs : List ℕ) where
     pub labels-some : 1 ≤ sh .labels
     pub labels-most : sh .labels ≤ most-labels
     pub hops-most : count hs ≤ most-hops
-    pub three-a-hop : length hs % 3 ≡ 0
+    pub three-a-hop : length hs % numbers-a-hop ≡ 0
 
   counts-limits : countsFit sh hs ≡ true → Limits
   unfolding countsFit

@@ -1,1 +1,1 @@
-pub mod Checked -- accepted exactly when admitted, and which row speaks where
+pub mod Checked  -- accepted exactly when admitted, and which row speaks where

@@ -1,4 +1,6 @@
-// The entry `check`: whether a graph is one that document 01 admits, and if not, by which row and where.
+// The entry `check`: whether a graph is one that document 01 admits, and if not, by which row and where. Every other entry asks here first, and what it
+// learns is `Admitted` (specs/Check): the counts are within their limits, every hop is in range, and the list ascends. A pass over the list for row 3 and
+// one for row 4, on the accessors and the order of graph.
 use graph::Answer;
 use graph::MOST_HOPS;
 use graph::MOST_LABELS;

@@ -1,5 +1,5 @@
-pub mod Star
-pub mod Sense
-pub mod Confluence
-pub mod Compose
-pub mod Branching
+pub mod Star  -- laws of the closures
+pub mod Sense  -- each sense implies the weak one
+pub mod Confluence  -- one representative a class, and that reducing loses nothing
+pub mod Compose  -- maps that keep branching bisimilarity compose
+pub mod Branching  -- such maps and branching bisimulations

@@ -1,4 +1,4 @@
-pub mod Star
-pub mod Sense
-pub mod Reduction
-pub mod Branching
+pub mod Star  -- zero or more steps, and steps taken either way
+pub mod Sense  -- the senses of confluence
+pub mod Reduction  -- reduction by confluence, and maps that keep branching bisimilarity
+pub mod Branching  -- branching bisimulations over any relations

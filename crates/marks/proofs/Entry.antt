@@ -1,10 +1,10 @@
 -- The answer of `mark` row by row, and what its acceptance gives: an admitted graph, with room for one mark a hop. Assumes nothing.
 use Prim.Native.Nat.{ℕ, _<_, _≤_}
 use mathlib.Core.Path.{_≡_, sym, _∙_}
-use mathlib.Core.List.{List, _++_}
-use lib.ListN.{length, drop}
-use lib.Dec.{eqb, leb}
+use mathlib.Core.List.{List}
+use lib.ListN.{length}
 use borrow.Author.Tests.{eq-eqb, ne-eqb, le-leb, lt-leb}
+use Rattle.outputs.specs.Output.{onFront}
 use Rattle.graph.specs.Hops.{count}
 use Rattle.graph.specs.Answers.{accepted, refused, andThen, roomFor}
 use Rattle.limits.specs.Check.{checkOf, Admitted}
@@ -13,7 +13,9 @@ use Rattle.graph.specs.declared.Answer.{Answer}
 use Rattle.limits.proofs.Checked.{check-admitted}
 use Rattle.graph.proofs.Accepts.{then-first, then-next, both-accept, room-accepts}
 use Rattle.silent.specs.Silent.{ringless}
-use Rattle.marks.specs.Mark.{marksOf, markAnswer, markOutput}
+use Rattle.confluence.specs.Rounds.{marked}
+use Rattle.confluence.specs.Held.{marksOf}
+use Rattle.marks.specs.Mark.{markAnswer, markOutput}
 
 module _ (sh : Shape) (hs out : List ℕ) where
   -- the ways out of the code, in order
@@ -49,7 +51,7 @@ module _ (sh : Shape) (hs out : List ℕ) where
       room-accepts (count hs) (length out) (both-accept (ringless sh hs) _ (both-accept (checkOf sh hs) _ e .1) .1) .1
 
   -- what stands in the output afterwards
-  pub output-marked : markAnswer sh hs out .number ≡ 0 → marksOf hs ++ drop (count hs) out ≡ markOutput sh hs out
+  pub output-marked : markAnswer sh hs out .number ≡ 0 → onFront (marksOf hs (marked hs)) out ≡ markOutput sh hs out
   unfolding markOutput
   output-marked e = rw (eq-eqb (markAnswer sh hs out .number) 0 e)
 

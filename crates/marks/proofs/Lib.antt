@@ -1,3 +1,1 @@
-pub mod Writing
-pub mod Sweeping
-pub mod Entry
+pub mod Entry  -- the answer of `mark` row by row, and what its acceptance gives

@@ -1,2 +1,1 @@
-pub mod Mark
-pub mod Sweep
+pub mod Mark  -- the marks of a set, and the entry's answer and output

@@ -1,12 +1,12 @@
 // The entry `mark`: the marks of a graph without rings, or the row that refuses it.
-use super::sweep::mark_all;
 use graph::Answer;
 use graph::Shape;
-use graph::hops::hop_count;
 use graph::answers::accept;
-use limits::check;
 use graph::answers::refuse;
-use silent::ring::ring_answer;
+use graph::hops::hop_count;
+use limits::check;
+use rings::ring_answer;
+use sweeps::mark_all;
 ghost use mathlib.Core.Path.{_≡_};
 ghost use Rattle.marks.specs.Mark.{markAnswer, markOutput};
 

@@ -1,10 +1,12 @@
-// Hops of a state: the outgoing hops, shown as a part of the lent table itself.
+// Hops of a state: for a side and a state of two lent tables, the outgoing hops as a part of that table itself (`hops_of`), or by numbers, where in the
+// table that part stands (`span_of`). Any side, state and tables may be asked for: where nothing is to be shown the part is empty. It stands on `check` of
+// limits and the one search of graph; Rust and C callers look at hops by it without a copy.
 use graph::Shape;
 use graph::hops::number_place;
 use graph::hops::part;
-use limits::check;
 use graph::search::first_of;
 use graph::search::past_of;
+use limits::check;
 ghost use mathlib.Core.Path.{_≡_};
 ghost use Prim.Native.Nat.{_<_, _≤_};
 ghost use denote.Ref.{ptr};
@@ -46,7 +48,8 @@ fn choose(side: u32, state: u32, shape1: Shape, hops1: &[u16], shape2: Shape, ho
 
 // The hops of a state of an ascending list.
 fn out_of<'a>(hops: &'a [u16], state: u32) -> &'a [u16]
-    requires { ⌜ Ascending (now hops) × (state < 65535) ⌝ }
+    requires ascending { ⌜ Ascending (now hops) ⌝ }
+    requires state { ⌜ state < 65535 ⌝ }
     ensures shows { λ r. ⌜ now r ≡ outgoing (now (hops .entry)) state ⌝ }
     ensures stands { λ r. ⌜ ptr r ≡ standsAt (hops .entry) (firstOf (now (hops .entry)) state) ⌝ }
 {
@@ -91,7 +94,9 @@ fn no_span() -> Span
 
 // Where the hops of a state stand in an ascending list.
 fn span_in(hops: &[u16], state: u32) -> Span
-    requires { ⌜ Ascending (now hops) × (count (now hops) ≤ most-hops) × (state < 65535) ⌝ }
+    requires ascending { ⌜ Ascending (now hops) ⌝ }
+    requires few { ⌜ count (now hops) ≤ most-hops ⌝ }
+    requires state { ⌜ state < 65535 ⌝ }
     ensures { λ r. ⌜ r ≡ spanIn (now (hops .entry)) state ⌝ }
 {
     let s = state as u16;

@@ -1,1 +1,1 @@
-pub mod Front -- lists written over the front or a part of an older one
+pub mod Front  -- lists written over the front or a part of an older one

@@ -1,1 +1,1 @@
-pub mod Output -- what a lent output holds afterwards
+pub mod Output  -- what a lent output holds afterwards

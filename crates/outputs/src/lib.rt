@@ -1,4 +1,6 @@
-// Outputs: what is written into a lent slice, and that nothing else of it moves.
+// Outputs: what a lent slice holds after an entry wrote into it, and that nothing else of it moves. Every entry that writes says it by the definitions of
+// specs/Output: the new elements at the front or at a place, what was there around them, and on a refusal all of it as it was. The laws (proofs/Front)
+// grow such an output element by element. It stands on nothing but lists of values below a bound.
 ghost use mathlib.Core.Path.{_≡_};
 ghost use Prim.Native.Nat.{_+_, _≤_};
 ghost use lib.ListN.{length};

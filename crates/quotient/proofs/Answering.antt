@@ -8,6 +8,7 @@ use native.Mathlib.Omega.{arith}
 use borrow.Author.Tests.{ne-eqb, le-leb, lt-leb, ltb-true, ltb-false}
 use lib.ListN.{length}
 use lib.Dec.{eqb, ltb}
+use Rattle.outputs.specs.Output.{onFront, written}
 use Rattle.graph.specs.Answers.{accepted, refused, andThen, roomFor}
 use Rattle.limits.specs.Check.{checkOf}
 use Rattle.graph.specs.Hops.{flat}
@@ -18,8 +19,7 @@ use Rattle.limits.proofs.Checked.{check-admitted}
 use Rattle.silent.specs.Silent.{ringless}
 use Rattle.graph.proofs.Accepts.{then-first, then-next, both-accept, room-accepts}
 use Rattle.representatives.specs.Tables.{Reducible}
-use Rattle.short.specs.Short.{shortHops, mapList}
-use Rattle.quotient.specs.Reduce.{reduceAnswer, reduction, reduceOf, written, mapOutput, shortOutput}
+use Rattle.quotient.specs.Reduce.{reduceAnswer, reduction, reduceOf, markedMap, markedHops, mapOutput, shortOutput}
 use Rattle.quotient.specs.Refusal.{refusal}
 
 module _ (sh : Shape) (hs : List ℕ) (m k : ℕ) where
@@ -116,10 +116,10 @@ module _ (sh : Shape) (hs map short : List ℕ) {a : Answer} (e : a ≡ reduceAn
     unfolding reduceOf
     accepted-returns = ap (reduction sh hs) (sym (reduce-accepted sh hs (length map) (length short) accepts))
 
-    pub accepted-map : written accepted (mapList sh hs) map ≡ mapOutput sh hs map short
+    pub accepted-map : onFront (markedMap sh hs) map ≡ mapOutput sh hs map short
     unfolding mapOutput
-    accepted-map = ap (λ (x : Answer). written x (mapList sh hs) map) (sym (reduce-accepted sh hs (length map) (length short) accepts))
+    accepted-map = ap (λ (x : Answer). written (x .number) (markedMap sh hs) map) (sym (reduce-accepted sh hs (length map) (length short) accepts))
 
-    pub accepted-short : written accepted (flat (shortHops sh hs)) short ≡ shortOutput sh hs map short
+    pub accepted-short : onFront (flat (markedHops sh hs)) short ≡ shortOutput sh hs map short
     unfolding shortOutput
-    accepted-short = ap (λ (x : Answer). written x (flat (shortHops sh hs)) short) (sym (reduce-accepted sh hs (length map) (length short) accepts))
+    accepted-short = ap (λ (x : Answer). written (x .number) (flat (markedHops sh hs)) short) (sym (reduce-accepted sh hs (length map) (length short) accepts))

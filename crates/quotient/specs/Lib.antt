@@ -1,2 +1,2 @@
-pub mod Reduce
-pub mod Refusal
+pub mod Reduce  -- what `reduce` returns and leaves
+pub mod Refusal  -- what it returns with a refusal

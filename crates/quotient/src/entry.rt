@@ -1,27 +1,22 @@
 // The entry `reduce`: the map and the short graph of a graph without rings, or the row that refuses it.
 use super::Reduction;
 use graph::Answer;
-use graph::OldState;
+use graph::MOST_HOPS;
 use graph::Shape;
 use graph::answers::accept;
-use limits::check;
 use graph::answers::refuse;
-use marks::sweep::mark_all;
-use representatives::follow::next_states;
-use representatives::renumber::fill_map;
-use graph::map::map_at;
-use representatives::renumber::new_numbers;
-use short::shorten::shorten;
-use silent::ring::ring_answer;
+use limits::check;
+use reducing::reduce_marked;
+use rings::ring_answer;
+use sweeps::mark_all;
 ghost use mathlib.Core.Path.{_≡_};
 ghost use Prim.Native.Nat.{_≤_};
 ghost use lib.ListN.{length};
+ghost use Rattle.outputs.specs.Output.{onFront};
 ghost use Rattle.graph.specs.Hops.{flat};
 ghost use Rattle.graph.specs.Answers.{accepted};
-ghost use Rattle.starts.specs.Starts.{Ready};
-ghost use Rattle.representatives.specs.Tables.{Reducible, Onward};
-ghost use Rattle.short.specs.Short.{shortHops, mapList};
-ghost use Rattle.quotient.specs.Reduce.{reduceAnswer, reduceOf, mapOutput, shortOutput, reduction, written};
+ghost use Rattle.representatives.specs.Tables.{Reducible};
+ghost use Rattle.quotient.specs.Reduce.{reduceAnswer, reduceOf, mapOutput, shortOutput, reduction, markedMap, markedHops};
 ghost use Rattle.quotient.specs.Refusal.{refusal};
 
 // The answer, before anything is written: rows 1 to 4, then 5, then 6.
@@ -42,38 +37,23 @@ pub fn reduce_answer(shape: Shape, hops: &[u16], entries: usize, numbers: usize)
     accept()
 }
 
-// Where the first marked hop of each state leads.
-fn marked_next(hops: &[u16]) -> [u16; 1024]
-    requires { ⌜ Ready (now hops) ⌝ }
-    ensures { λ r. ⌜ Onward (now (hops .entry)) r ⌝ }
-{
-    let mut marks = [0u8; 4096];
-    mark_all(hops, &mut marks);
-    next_states(hops, &marks)
-}
-
-// The reduction of a graph that every row lets pass.
+// The reduction of a graph that every row lets pass: it is marked, and reduced along the marks.
 fn accepted_reduction(shape: Shape, hops: &[u16], map: &mut [u16], short: &mut [u16]) -> Reduction
-    requires { ⌜ Reducible shape (now hops) ⌝ ∗ ⌜ shape .states ≤ length (now map) ⌝ ∗ ⌜ length (now hops) ≤ length (now short) ⌝ }
+    requires reducible { ⌜ Reducible shape (now hops) ⌝ }
+    requires map_room { ⌜ shape .states ≤ length (now map) ⌝ }
+    requires short_room { ⌜ length (now hops) ≤ length (now short) ⌝ }
     ensures returned { λ r. ⌜ r ≡ reduction shape (now (hops .entry)) accepted ⌝ }
-    ensures mapped { λ r. ⌜ now (map .exit) ≡ written accepted (mapList shape (now (hops .entry))) (now (map .entry)) ⌝ }
-    ensures shortened { λ r. ⌜ now (short .exit) ≡ written accepted (flat (shortHops shape (now (hops .entry)))) (now (short .entry)) ⌝ }
+    ensures mapped { λ r. ⌜ now (map .exit) ≡ onFront (markedMap shape (now (hops .entry))) (now (map .entry)) ⌝ }
+    ensures shortened { λ r. ⌜ now (short .exit) ≡ onFront (flat (markedHops shape (now (hops .entry)))) (now (short .entry)) ⌝ }
 {
-    let states = shape.states as usize;
-    let next = marked_next(hops);
-    let news = new_numbers(&next);
-    fill_map(states, &next, &news, map);
-    let n = shorten(hops, &next, map, short);
-    let initial = map_at(map, OldState(shape.initial as u16));
-    let kept = news[states];
+    let mut marks = [0u8; MOST_HOPS];
+    mark_all(hops, &mut marks);
+    let made = reduce_marked(shape, hops, &marks, map, short);
+    let short_shape = made.shape;
     Reduction {
         answer: accept(),
-        shape: Shape {
-            states: kept as u32,
-            labels: shape.labels,
-            initial: initial.0 as u32,
-        },
-        hops: n,
+        shape: short_shape,
+        hops: made.hops,
     }
 }
 

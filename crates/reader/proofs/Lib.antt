@@ -1,4 +1,1 @@
-pub mod Answers
-pub mod Entry
-pub mod Sound
-pub mod Cut
+pub mod Entry  -- the ways out of reading, and what acceptance says

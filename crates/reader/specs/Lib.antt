@@ -1,1 +1,1 @@
-pub mod Read
+pub mod Read  -- what reading a file answers, gives and writes

@@ -1,7 +1,7 @@
 -- Laws of the flat list of records: writing it record by record, and what the entries say of more records than a graph may have hops.
 --     done ys xs i     xs with the first i of ys written at its front.        done-n, done-length, done-step: at last, as long as xs, and one record more
 -- Assumes nothing.
-use Prim.Native.Nat.{ℕ, suc, _+_, _-_, _*_, _<_, _≤_}
+use Prim.Native.Nat.{ℕ, suc, _+_, _<_, _≤_}
 use mathlib.Core.Path.{_≡_, refl, sym, _∙_, ap}
 use mathlib.Core.Bool.{Bool, true, false, cond, _&&_}
 use mathlib.Core.List.{List, [], _∷_, _++_}
@@ -9,9 +9,9 @@ use native.Mathlib.Numerals.{add-one}
 use native.Mathlib.Omega.{arith}
 use borrow.Author.Tests.{ltb-true, ltb-false, lt-leb}
 use lib.Dec.{ltb, leb}
-use lib.ListN.{length, take, drop, getD, set}
-use lib.Seq.{length-take-le, take-length, take-suc, take-at, set-at}
-use Rattle.graph.specs.Hops.{count, whole, hopAt, noHop, flat, put, front, over, between}
+use lib.ListN.{length, take, getD, set}
+use lib.Seq.{length-take-le, take-length, take-suc, set-at}
+use Rattle.graph.specs.Hops.{count, whole, hopAt, noHop, flat, put, front, over}
 use Rattle.graph.specs.Answers.{most-states, most-labels, most-hops, refused}
 use Rattle.limits.specs.Check.{countsFit, checkOf}
 use Rattle.graph.specs.declared.Hop.{Hop}
@@ -19,7 +19,7 @@ use Rattle.graph.specs.declared.Shape.{Shape}
 use Rattle.below.proofs.Bools.{not-no, and-no-left, and-no-right}
 use Rattle.limits.proofs.Checked.{check-counts}
 use Rattle.graph.proofs.Fronts.{length-front, over-front, put-over, length-over, front-over, over-over}
-use Rattle.graph.proofs.Places.{length-flat, count-flat}
+use Rattle.graph.proofs.Places.{count-flat}
 use Rattle.marks.specs.Mark.{markAnswer, markOutput}
 use Rattle.records.specs.Records.{unlessOver}
 
@@ -56,11 +56,6 @@ module _ (ys : List Hop) (xs : List ℕ) where
             set-at (front i hs) (hopAt hs i) [] h i (length-front hs i)
             ∙ ap (λ (z : List Hop). z ++ (h ∷ [])) (ap (λ (k : ℕ). front k hs) (sym as-many) ∙ front-over xs (take i ys))
             ∙ (sym (take-suc ys i noHop l) ∙ ap (λ (k : ℕ). take k ys) (sym (add-one i)))
-
--- the flat list, read back from the front of the list that it was written to
-pub over-flat : (ys : List Hop) (xs : List ℕ) → between (over ys xs) 0 (length ys) ≡ flat ys
-unfolding over
-over-flat ys xs = take-at (flat ys) (drop (length (flat ys)) xs) (3 * length ys - 3 * 0) (omega (arith, length-flat ys))
 
 -- what is said of a list that stands for another wherever there are not too many hops, and where there are, is known
 pub unless-over : {A : Type 0} (n : ℕ) (z : A) (f : List ℕ → A) (a b : List ℕ) → (n ≤ most-hops → a ≡ b) → (most-hops < n → f b ≡ z) →

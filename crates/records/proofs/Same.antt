@@ -7,7 +7,7 @@ use native.Mathlib.Omega.{arith}
 use borrow.Author.Tests.{eqb-true, eq-eqb}
 use lib.ListN.{length, drop}
 use lib.Seq.{drop-length, ext-getD}
-use Rattle.graph.specs.Hops.{noHop, flat, front, over}
+use Rattle.graph.specs.Hops.{numbers-a-hop, noHop, flat, front, over}
 use Rattle.limits.specs.Check.{checkOf}
 use Rattle.graph.specs.declared.Hop.{Hop}
 use Rattle.graph.specs.declared.Shape.{Shape}
@@ -19,7 +19,7 @@ use Rattle.records.specs.Records.{Holds}
 -- the flat list of the records holds them
 pub flat-holds : (ys : List Hop) → Holds (flat ys) ys
 flat-holds ys = record {
-  three-a-hop = eq-eqb (length (flat ys) % 3) 0 (omega (arith, length-flat ys));
+  three-a-hop = eq-eqb (length (flat ys) % numbers-a-hop) 0 (omega (arith, length-flat ys));
   as-many = count-flat ys;
   at-each = λ i l. flat-at ys i;
 }
@@ -29,7 +29,7 @@ pub holds-flat : (hs : List ℕ) (ys : List Hop) → Holds hs ys → flat ys ≡
 unfolding over
 holds-flat hs ys h = sym (append-nil (flat ys)) ∙ ap (λ (l : List ℕ). flat ys ++ l) (sym nothing-past) ∙ written where
   as-long : length (flat ys) ≡ length hs
-  as-long = omega (arith, length-flat ys, h .as-many, eqb-true (length hs % 3) 0 (h .three-a-hop))
+  as-long = omega (arith, length-flat ys, h .as-many, eqb-true (length hs % numbers-a-hop) 0 (h .three-a-hop))
 
   nothing-past : drop (length (flat ys)) hs ≡ []
   nothing-past = rw as-long (drop-length hs)

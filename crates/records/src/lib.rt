@@ -1,52 +1,54 @@
-// The entries `check` and `mark` over a lent slice of records, with the answers that their flat list is given.
+// The entries `check` and `mark` for callers that hold their hops as a list of records instead of a flat list of numbers. The records are written into
+// an array of numbers and checked or marked there, so that the answers are those of the flat list. It stands on `check` of limits and `mark` of marks.
+// A slice of records is none of the forms that the prover walks by itself: each function that takes one has a walk by hand, and they are few.
 use graph::Answer;
 use graph::Hop;
+use graph::MOST_HOPS;
+use graph::MOST_NUMBERS;
 use graph::Shape;
+use graph::answers::refuse;
 use graph::hops::part;
 use graph::hops::put_hop;
 use limits::check;
-use graph::answers::refuse;
 use marks::mark::mark;
 ghost use mathlib.Core.Path.{_≡_};
 ghost use Prim.Native.Nat.{_≤_};
 ghost use lib.ListN.{length};
-ghost use Rattle.graph.specs.Hops.{count, between, flat, over};
+ghost use lib.Dec.{ltb};
+ghost use Rattle.graph.specs.Hops.{between, flat};
 ghost use Rattle.graph.specs.Answers.{most-hops, refused};
 ghost use Rattle.limits.specs.Check.{checkOf};
 ghost use Rattle.marks.specs.Mark.{markAnswer, markOutput};
 ghost use Rattle.records.specs.Records.{unlessOver};
 
-const MOST_HOPS: usize = 4096;
-
-// Writes the flat list of the records at the front of `out`.
-fn flatten(hops: &[Hop], out: &mut [u16])
-    requires { ⌜ length (now hops) ≤ count (now out) ⌝ }
-    ensures { λ _. ⌜ now (out .exit) ≡ over (now (hops .entry)) (now (out .entry)) ⌝ }
-{
-    let mut i = 0;
-    while i < hops.len() {
-        put_hop(out, i, hops[i]);
-        i += 1;
-    }
-}
-
-// The same at the front of an array of its own. Of more records than a graph may have hops it says nothing.
-fn flat_of(hops: &[Hop]) -> [u16; 12288]
+// The flat list of the records at the front of an array. Of more records than a graph may have hops it says nothing.
+fn flat_of(hops: &[Hop]) -> [u16; MOST_NUMBERS]
     ensures { λ r. ⌜ (length (now (hops .entry)) ≤ most-hops → between r 0 (length (now (hops .entry))) ≡ flat (now (hops .entry))) ⌝ }
 {
-    let mut nums = [0u16; 12288];
+    let mut nums = [0u16; MOST_NUMBERS];
     if MOST_HOPS < hops.len() {
         return nums;
     }
-    flatten(hops, &mut nums);
+    let mut i = 0;
+    while i < hops.len() {
+        put_hop(&mut nums, i, hops[i]);
+        i += 1;
+    }
     nums
 }
 
+// Whether n hops are more than a graph may have.
+fn is_over(n: usize) -> bool
+    ensures { λ r. ⌜ r ≡ ltb most-hops n ⌝ }
+{
+    MOST_HOPS < n
+}
+
 // `check` of the first n hops of an array, where a graph may have as many.
-fn check_of(shape: Shape, nums: [u16; 12288], n: usize) -> Answer
+fn check_of(shape: Shape, nums: [u16; MOST_NUMBERS], n: usize) -> Answer
     ensures { λ r. ⌜ r ≡ unlessOver n (refused 1 0) (checkOf shape (between nums 0 n)) ⌝ }
 {
-    if MOST_HOPS < n {
+    if is_over(n) {
         return refuse(1, 0);
     }
     check(shape, part(&nums, 0, n))
@@ -61,10 +63,11 @@ pub fn check_records(shape: Shape, hops: &[Hop]) -> Answer
 }
 
 // `mark` of the first n hops of an array, where a graph may have as many.
-fn mark_of(shape: Shape, nums: [u16; 12288], n: usize, marks: &mut [u8]) -> Answer
-    ensures { λ r. ⌜ (r ≡ unlessOver n (refused 1 0) (markAnswer shape (between nums 0 n) (now (marks .entry)))) × (now (marks .exit) ≡ unlessOver n (now (marks .entry)) (markOutput shape (between nums 0 n) (now (marks .entry)))) ⌝ }
+fn mark_of(shape: Shape, nums: [u16; MOST_NUMBERS], n: usize, marks: &mut [u8]) -> Answer
+    ensures { λ r. ⌜ (r ≡ unlessOver n (refused 1 0) (markAnswer shape (between nums 0 n) (now (marks .entry)))) ×
+        (now (marks .exit) ≡ unlessOver n (now (marks .entry)) (markOutput shape (between nums 0 n) (now (marks .entry)))) ⌝ }
 {
-    if MOST_HOPS < n {
+    if is_over(n) {
         return refuse(1, 0);
     }
     mark(shape, part(&nums, 0, n), marks)

@@ -11,12 +11,13 @@ use Rattle.graph.specs.Hops.{count, from, label, to, flat}
 use Rattle.limits.specs.Check.{Admitted}
 use Rattle.graph.specs.declared.Shape.{Shape}
 use Rattle.graph.specs.declared.Answer.{Answer}
-use Rattle.marks.specs.Mark.{markOf}
+use Rattle.confluence.specs.Held.{markOf}
 use Rattle.representatives.specs.Representative.{mapOf}
-use Rattle.short.specs.Short.{shortHops, shortShape}
+use Rattle.confluence.specs.Rounds.{marked}
+use Rattle.quotient.specs.Reduce.{markedHops, markedShape}
 use Rattle.representatives.specs.Tables.{Reducible}
-use Rattle.short.proofs.Reduced.{short-admitted, map-inside}
-use Rattle.text.specs.Text.{digits, decimal, spaced, ending, line, lines, in-word, marked-word, map-word, out-word, hop-word, no-word}
+use Rattle.quotient.proofs.Reduced.{short-admitted, map-inside}
+use Rattle.text.specs.Text.{digits, decimal, spaced, numbered, line, lines, in-word, marked-word, map-word, out-word, hop-word, no-word}
 use Rattle.rows.specs.Rows.{markedLine, mapLine, hopLine, linesOf, refusalOf}
 use Rattle.report.specs.Report.{reportOf, most-text}
 
@@ -52,11 +53,11 @@ decimal-short =
 -- lines whose numbers take w digits at most
 module _ (w : ℕ) (word : List ℕ) (a b : ℕ) (p : length (decimal a) ≤ w) (q : length (decimal b) ≤ w) where
   line2-most : length (line word (a ∷ b ∷ [])) ≤ length word + (w + w + 3)
-  unfolding line ending spaced
+  unfolding line numbered spaced
   line2-most = simp length-append (omega arith)
 
   line3-most : (c : ℕ) → length (decimal c) ≤ w → length (line word (a ∷ b ∷ c ∷ [])) ≤ length word + (w + w + w + 4)
-  unfolding line ending spaced
+  unfolding line numbered spaced
   line3-most c r = simp length-append (omega arith)
 
 lines-most : (f : ℕ → List ℕ) (w n : ℕ) → ((i : ℕ) → i < n → length (f i) ≤ w) → length (lines n f) ≤ n * w
@@ -107,8 +108,8 @@ report-most {sh} {hs} red =
     (omega (
       arith,
       line2-most 20 in-word (sh .states) (count hs) (decimal-any (sh .states)) (decimal-any (count hs)),
-      lines-most (markedLine hs (markOf hs)) 19 (count hs) (marked-most sh hs (red .admitted) (markOf hs)),
-      lines-most (mapLine (mapOf sh hs)) 16 (sh .states) (map-most sh hs (red .admitted) (mapOf sh hs) (λ s l. omega (arith, map-inside red s l, short .states-most))),
+      lines-most (markedLine hs (markOf hs (marked hs))) 19 (count hs) (marked-most sh hs (red .admitted) (markOf hs (marked hs))),
+      lines-most (mapLine (mapOf sh hs (marked hs))) 16 (sh .states) (map-most sh hs (red .admitted) (mapOf sh hs (marked hs)) (λ s l. omega (arith, map-inside red s l, short .states-most))),
       line3-most 20 out-word (new .states) (count xs) (decimal-any (new .states)) (decimal-any (count xs)) (new .initial) (decimal-any (new .initial)),
       lines-most (hopLine xs) 22 (count xs) (hop-most new xs short),
       red .admitted .hops-most,
@@ -116,10 +117,10 @@ report-most {sh} {hs} red =
       short .hops-most,
     )) where
       new : Shape
-      new = shortShape sh hs
+      new = markedShape sh hs
 
       xs : List ℕ
-      xs = flat (shortHops sh hs)
+      xs = flat (markedHops sh hs)
 
-      short : Admitted (shortShape sh hs) (flat (shortHops sh hs))
+      short : Admitted (markedShape sh hs) (flat (markedHops sh hs))
       short = short-admitted red

@@ -1,5 +1,5 @@
 -- What is printed where a check refuses and where all accept: with outputs of full size row 6 never speaks. Assumes nothing.
-use Prim.Native.Nat.{ℕ, _+_, _*_, _-_, _<_, _≤_}
+use Prim.Native.Nat.{ℕ, _+_, _-_, _<_, _≤_}
 use mathlib.Core.Path.{_≡_, refl, sym, ap, _∙_}
 use mathlib.Core.Bool.{Bool, true, false, cond}
 use mathlib.Core.List.{List, []}
@@ -9,30 +9,33 @@ use lib.ListN.{length, getD, drop, length-append, List·getD-append}
 use lib.Seq.{take-at}
 use lib.Dec.{eqb}
 use Rattle.below.specs.Tests.{listed}
-use Rattle.graph.specs.Hops.{count, flat, between}
-use Rattle.graph.specs.Answers.{andThen, roomFor}
-use Rattle.limits.specs.Check.{checkOf}
+use Rattle.below.proofs.Tests.{length-listed, getD-listed}
+use Rattle.outputs.specs.Output.{onFront}
+use Rattle.graph.specs.Hops.{numberPlace, count, flat, between}
+use Rattle.graph.specs.Answers.{most-hops, most-numbers, andThen, roomFor}
 use Rattle.graph.specs.declared.Shape.{Shape}
 use Rattle.graph.specs.declared.Answer.{Answer}
-use Rattle.limits.proofs.Checked.{check-admitted, admitted-check}
-use Rattle.graph.proofs.Places.{length-flat}
-use Rattle.below.proofs.Tests.{length-listed, getD-listed}
-use Rattle.silent.specs.Silent.{ringless}
-use Rattle.marks.specs.Mark.{markOf, markAnswer, markOutput}
 use Rattle.graph.proofs.Accepts.{both-accept}
-use Rattle.marks.proofs.Entry.{output-marked}
+use Rattle.graph.proofs.Fronts.{flat-front}
+use Rattle.limits.specs.Check.{checkOf, Admitted}
+use Rattle.limits.proofs.Checked.{check-admitted, admitted-check}
+use Rattle.silent.specs.Silent.{ringless}
+use Rattle.confluence.specs.Rounds.{marked}
+use Rattle.confluence.specs.Held.{heldBy, markOf, marksOf}
+use Rattle.sweeps.proofs.Marks.{marks-at, held-marked}
 use Rattle.representatives.specs.Representative.{mapOf}
-use Rattle.representatives.specs.Tables.{Reducible, Marks}
-use Rattle.representatives.proofs.Tabled.{marks-front}
-use Rattle.short.specs.Short.{shortHops, shortShape, mapList}
+use Rattle.representatives.specs.Tables.{Reducible}
+use Rattle.short.specs.Short.{mapList}
 use Rattle.short.proofs.Images.{short-within}
-use Rattle.quotient.specs.Reduce.{reduceAnswer, reduceOf, mapOutput, shortOutput}
-use Rattle.quotient.specs.declared.Reduction.{Reduction}
+use Rattle.reducing.specs.Reducing.{shortGraph, mapLeft, shortLeft}
+use Rattle.reducing.specs.declared.ShortGraph.{ShortGraph}
+use Rattle.quotient.specs.Reduce.{markedHops, markedShape}
+use Rattle.quotient.proofs.Marked.{left-map, left-short}
 use Rattle.fields.specs.Format.{hopsIn, shapeIn, hopListIn}
-use Rattle.outputs.specs.Output.{onFront}
-use Rattle.reader.specs.Read.{formatAnswer, readAnswer, readOf, readHops, contentsOf, nothing}
+use Rattle.fields.proofs.Laws.{length-hop-list, count-hop-list}
+use Rattle.format.specs.Rows.{formatAnswer}
+use Rattle.reader.specs.Read.{readAnswer, readOf, readHops, contentsOf, nothing}
 use Rattle.reader.specs.declared.Contents.{Contents}
-use Rattle.reader.proofs.Entry.{length-hop-list, count-hop-list}
 use Rattle.text.specs.Text.{Room, Put}
 use Rattle.rows.specs.Rows.{linesOf, refusalOf}
 use Rattle.rows.proofs.Parts.{report-same}
@@ -66,98 +69,73 @@ room-text : (n r : ℕ) → n ≤ r → (t : List ℕ) → unlessRefused (roomFo
 unfolding unlessRefused
 room-text n r l t = rw (le-leb n r l)
 
-module _ (sh : Shape) (hs : List ℕ) where
-  hops-fit : checkOf sh hs .number ≡ 0 → count hs ≤ 4096
-  hops-fit z = check-admitted sh hs z .hops-most
+-- a graph that checks 1 to 4 have passed: what is left to ask is row 5
+module _ {sh : Shape} {hs : List ℕ} (adm : Admitted sh hs) {a : Answer} (e : a ≡ ringless sh hs) where
+  past-check : unlessRefused (ringless sh hs) (reportOf sh hs) ≡ printedGraph sh hs
+  unfolding printedGraph
+  past-check =
+      sym (accepted-text (checkOf sh hs) (unlessRefused (ringless sh hs) (reportOf sh hs)) (ap (λ (x : Answer). x .number) (admitted-check sh hs adm)))
 
-  -- marking with room for every mark
-  mark-text : (ms : List ℕ) → 4096 ≡ length ms → unlessRefused (markAnswer sh hs ms) (reportOf sh hs) ≡ printedGraph sh hs
-  unfolding markAnswer printedGraph
-  mark-text ms e =
-      then-text (checkOf sh hs) (andThen (ringless sh hs) (roomFor (count hs) (length ms))) (reportOf sh hs) ∙
-      same-text (checkOf sh hs)
-      (λ z. then-text (ringless sh hs) (roomFor (count hs) (length ms)) (reportOf sh hs) ∙
-      same-text (ringless sh hs) (λ y. room-text (count hs) (length ms) (omega (arith, hops-fit z)) (reportOf sh hs)))
+  pub graph-refused : (a .number ≡ 0 → ⊥) → refusalOf a ≡ printedGraph sh hs
+  graph-refused n = ap refusalOf e ∙ sym (refused-text (ringless sh hs) (reportOf sh hs) (rw e at n)) ∙ past-check
 
-  module _ (ms : List ℕ) (sized : 4096 ≡ length ms) {a : Answer} (e : a ≡ markAnswer sh hs ms) where
-    pub graph-refused : (a .number ≡ 0 → ⊥) → refusalOf a ≡ printedGraph sh hs
-    graph-refused n = ap refusalOf e ∙ sym (refused-text (markAnswer sh hs ms) (reportOf sh hs) (rw e at n)) ∙ mark-text ms sized
+  module _ (z : a .number ≡ 0) where
+    pub graph-reducible : Reducible sh hs
+    graph-reducible = record { admitted = adm; free = rw e at z }
 
-    module _ (z : a .number ≡ 0) where
-      speaks : markAnswer sh hs ms .number ≡ 0
-      speaks = rw e at z
+    pub graph-accepted : reportOf sh hs ≡ printedGraph sh hs
+    graph-accepted = sym (accepted-text (ringless sh hs) (reportOf sh hs) (rw e at z)) ∙ past-check
 
-      parts : (checkOf sh hs .number ≡ 0) × (andThen (ringless sh hs) (roomFor (count hs) (length ms)) .number ≡ 0)
-      unfolding markAnswer
-      parts = both-accept (checkOf sh hs) (andThen (ringless sh hs) (roomFor (count hs) (length ms))) speaks
-
-      pub graph-reducible : Reducible sh hs
-      graph-reducible = record {
-        admitted = check-admitted sh hs (parts .0);
-        free = both-accept (ringless sh hs) (roomFor (count hs) (length ms)) (parts .1) .0;
-      }
-
-      pub graph-accepted : reportOf sh hs ≡ printedGraph sh hs
-      graph-accepted = sym (accepted-text (markAnswer sh hs ms) (reportOf sh hs) speaks) ∙ mark-text ms sized
-
-      pub graph-marks : {after : List ℕ} → after ≡ markOutput sh hs ms → Marks hs after
-      graph-marks d = marks-front hs _ (drop (count hs) ms) (d ∙ sym (output-marked sh hs ms speaks))
-
--- reducing with room for the map and the short hops of any graph
+-- what marking, and reducing along the marks, leave
 module _ {sh : Shape} {hs : List ℕ} (red : Reducible sh hs) where
-  reduces : (m k : ℕ) → 1024 ≤ m → 12288 ≤ k → eqb (reduceAnswer sh hs m k .number) 0 ≡ true
-  unfolding reduceAnswer
-  reduces m k p q =
-      rw (
-        eq-eqb (checkOf sh hs .number) 0 (ap (λ (x : Answer). x .number) (admitted-check sh hs (red .admitted))),
-        eq-eqb (ringless sh hs .number) 0 (red .free),
-        le-leb (sh .states) m (omega (arith, red .admitted .states-most)),
-        le-leb (length hs) k (omega (arith, red .admitted .hops-most, red .admitted .three-a-hop)),
-      )
+  module _ (ms0 : List ℕ) {ms : List ℕ} (e : ms ≡ onFront (marksOf hs (marked hs)) ms0) where
+    pub reduced-marks : (i : ℕ) → i < count hs → getD ms i 0 ≡ markOf hs (marked hs) i
+    reduced-marks i l = marks-at hs (marked hs) ms ms0 e l
 
-  module _ (m0 s0 : List ℕ) (p : 1024 ≤ length m0) (q : 12288 ≤ length s0) where
-    module _ {r : Reduction} (d : r ≡ reduceOf sh hs (length m0) (length s0)) where
-      pub reduced-shape : r .shape ≡ shortShape sh hs
-      unfolding reduceOf
-      reduced-shape = ap (λ (x : Reduction). x .shape) d ∙ rw (reduces (length m0) (length s0) p q)
+    pub reduced-map : (m0 : List ℕ) {m : List ℕ} → m ≡ mapLeft sh hs ms m0 → (s : ℕ) → s < sh .states → getD m s 0 ≡ mapOf sh hs (marked hs) s
+    unfolding mapList
+    reduced-map m0 f s l =
+        rw (left-map sh hs ms ms0 e m0 f)
+        (List·getD-append (listed (sh .states) (mapOf sh hs (marked hs))) _ 0 s (rw (length-listed (mapOf sh hs (marked hs)) (sh .states)) l) ∙
+        getD-listed (mapOf sh hs (marked hs)) (sh .states) l)
 
-      pub reduced-hops : r .hops ≡ length (shortHops sh hs)
-      unfolding reduceOf
-      reduced-hops = ap (λ (x : Reduction). x .hops) d ∙ rw (reduces (length m0) (length s0) p q)
+    module _ {r : ShortGraph} (d : r ≡ shortGraph sh hs (heldBy hs ms)) where
+      made : r ≡ shortGraph sh hs (marked hs)
+      made = d ∙ ap (shortGraph sh hs) (held-marked hs ms ms0 e)
 
-      pub reduced-most : r .hops ≤ 4096
-      reduced-most = omega (arith, reduced-hops, short-within sh hs, red .admitted .hops-most)
+      pub reduced-shape : r .shape ≡ markedShape sh hs
+      reduced-shape = ap (λ (x : ShortGraph). x .shape) made
 
-      pub reduced-short : {after part : List ℕ} → after ≡ shortOutput sh hs m0 s0 → part ≡ between after 0 (r .hops) → part ≡ flat (shortHops sh hs)
-      unfolding shortOutput
-      reduced-short e f =
-          f ∙ rw (e, reduces (length m0) (length s0) p q)
-          (take-at (flat (shortHops sh hs)) _ (3 * r .hops - 0) (omega (arith, length-flat (shortHops sh hs), reduced-hops)))
+      reduced-hops : r .hops ≡ length (markedHops sh hs)
+      reduced-hops = ap (λ (x : ShortGraph). x .hops) made
 
-    pub reduced-map : {after : List ℕ} → after ≡ mapOutput sh hs m0 s0 → (s : ℕ) → s < sh .states → getD after s 0 ≡ mapOf sh hs s
-    unfolding mapOutput mapList
-    reduced-map e s l =
-        rw (e, reduces (length m0) (length s0) p q)
-        (List·getD-append (listed (sh .states) (mapOf sh hs)) _ 0 s (rw (length-listed (mapOf sh hs) (sh .states)) l) ∙ getD-listed (mapOf sh hs) (sh .states) l)
+      pub reduced-most : r .hops ≤ most-hops
+      reduced-most = omega (arith, reduced-hops, short-within sh hs (marked hs), red .admitted .hops-most)
 
-  pub reduced-lines : {mark map : ℕ → ℕ} {new : Shape} {short : List ℕ} → ((i : ℕ) → i < count hs → mark i ≡ markOf hs i) →
-      ((s : ℕ) → s < sh .states → map s ≡ mapOf sh hs s) → new ≡ shortShape sh hs → short ≡ flat (shortHops sh hs) →
+      pub reduced-short : (s0 : List ℕ) {s part : List ℕ} → s ≡ shortLeft sh hs ms s0 → part ≡ between s 0 (r .hops) → part ≡ flat (markedHops sh hs)
+      reduced-short s0 g p = p ∙ rw (left-short sh hs ms ms0 e s0 g) (flat-front (markedHops sh hs) _ reduced-hops)
+
+  pub reduced-lines : {mark map : ℕ → ℕ} {new : Shape} {short : List ℕ} → ((i : ℕ) → i < count hs → mark i ≡ markOf hs (marked hs) i) →
+      ((s : ℕ) → s < sh .states → map s ≡ mapOf sh hs (marked hs) s) → new ≡ markedShape sh hs → short ≡ flat (markedHops sh hs) →
       linesOf sh hs mark map new short ≡ reportOf sh hs
   unfolding reportOf
   reduced-lines f g d e = report-same sh hs f g d e
 
 -- reading with room for the hops of any graph
 module _ (b : List ℕ) where
-  read-text : (old t : List ℕ) → 12288 ≤ length old →
+  hops-fit : checkOf (shapeIn b) (hopListIn b) .number ≡ 0 → count (hopListIn b) ≤ most-hops
+  hops-fit z = check-admitted (shapeIn b) (hopListIn b) z .hops-most
+
+  read-text : (old t : List ℕ) → most-numbers ≤ length old →
       unlessRefused (readAnswer b (length old)) t ≡ unlessRefused (formatAnswer b) (unlessRefused (checkOf (shapeIn b) (hopListIn b)) t)
   unfolding readAnswer
   read-text old t l =
-      then-text (formatAnswer b) (andThen (checkOf (shapeIn b) (hopListIn b)) (roomFor (3 * hopsIn b) (length old))) t ∙
+      then-text (formatAnswer b) (andThen (checkOf (shapeIn b) (hopListIn b)) (roomFor (numberPlace (hopsIn b)) (length old))) t ∙
       same-text (formatAnswer b)
-      (λ y. then-text (checkOf (shapeIn b) (hopListIn b)) (roomFor (3 * hopsIn b) (length old)) t ∙
-      same-text (checkOf (shapeIn b) (hopListIn b)) (λ z. room-text (3 * hopsIn b) (length old) (omega (arith, hops-fit (shapeIn b) (hopListIn b) z, count-hop-list b)) t))
+      (λ y. then-text (checkOf (shapeIn b) (hopListIn b)) (roomFor (numberPlace (hopsIn b)) (length old)) t ∙
+      same-text (checkOf (shapeIn b) (hopListIn b)) (λ z. room-text (numberPlace (hopsIn b)) (length old) (omega (arith, hops-fit z, count-hop-list b)) t))
 
-  module _ (old : List ℕ) (l : 12288 ≤ length old) {x : Contents} (e : x ≡ readOf b (length old)) where
+  module _ (old : List ℕ) (l : most-numbers ≤ length old) {x : Contents} (e : x ≡ readOf b (length old)) where
     chosen : (t : Bool) → eqb (readAnswer b (length old) .number) 0 ≡ t → x ≡ cond t (contentsOf b) (nothing (readAnswer b (length old)))
     unfolding readOf
     chosen t d = rw d at e
@@ -188,26 +166,34 @@ module _ (b : List ℕ) where
       gives : x ≡ contentsOf b
       gives = chosen true (eq-eqb _ 0 speaks-not)
 
-      both : (formatAnswer b .number ≡ 0) × (andThen (checkOf (shapeIn b) (hopListIn b)) (roomFor (3 * hopsIn b) (length old)) .number ≡ 0)
+      both : (formatAnswer b .number ≡ 0) × (andThen (checkOf (shapeIn b) (hopListIn b)) (roomFor (numberPlace (hopsIn b)) (length old)) .number ≡ 0)
       unfolding readAnswer
-      both = both-accept (formatAnswer b) (andThen (checkOf (shapeIn b) (hopListIn b)) (roomFor (3 * hopsIn b) (length old))) speaks-not
+      both = both-accept (formatAnswer b) (andThen (checkOf (shapeIn b) (hopListIn b)) (roomFor (numberPlace (hopsIn b)) (length old))) speaks-not
 
-      pub file-most : x .hops ≤ 4096
-      file-most =
-          omega (arith, ap (λ (y : Contents). y .hops) gives, count-hop-list b, hops-fit (shapeIn b) (hopListIn b) (both-accept (checkOf (shapeIn b) (hopListIn b)) _ (both .1) .0))
+      checked : checkOf (shapeIn b) (hopListIn b) .number ≡ 0
+      checked = both-accept (checkOf (shapeIn b) (hopListIn b)) _ (both .1) .0
 
-      pub file-printed : {after part : List ℕ} → after ≡ readHops b old → part ≡ between after 0 (x .hops) → printedGraph (x .shape) part ≡ printedOf b
-      unfolding printedOf readHops
-      file-printed {after} {part} d f =
-          ap (λ (sh : Shape). printedGraph sh part) (ap (λ (y : Contents). y .shape) gives) ∙ ap (printedGraph (shapeIn b)) whole ∙
-          sym (accepted-text (formatAnswer b) (printedGraph (shapeIn b) (hopListIn b)) (both .0)) where
-            there : after ≡ onFront (hopListIn b) old
-            there = rw (eq-eqb _ 0 speaks-not) at d
+      pub file-most : x .hops ≤ most-hops
+      file-most = omega (arith, ap (λ (y : Contents). y .hops) gives, count-hop-list b, hops-fit checked)
 
-            whole : part ≡ hopListIn b
-            whole =
-                f ∙ rw there
-                (take-at (hopListIn b) (drop (length (hopListIn b)) old) (3 * x .hops - 0) (omega (arith, length-hop-list b, ap (λ (y : Contents). y .hops) gives)))
+      module _ {after part : List ℕ} (d : after ≡ readHops b old) (f : part ≡ between after 0 (x .hops)) where
+        shape-read : x .shape ≡ shapeIn b
+        shape-read = ap (λ (y : Contents). y .shape) gives
+
+        hops-read : part ≡ hopListIn b
+        unfolding readHops
+        hops-read =
+            f ∙ rw there
+            (take-at (hopListIn b) (drop (length (hopListIn b)) old) (numberPlace (x .hops) - numberPlace 0) (omega (arith, length-hop-list b, ap (λ (y : Contents). y .hops) gives))) where
+              there : after ≡ onFront (hopListIn b) old
+              there = rw (eq-eqb _ 0 speaks-not) at d
+
+        pub file-admitted : Admitted (x .shape) part
+        file-admitted = rw (shape-read, hops-read) (check-admitted (shapeIn b) (hopListIn b) checked)
+
+        pub file-printed : printedGraph (x .shape) part ≡ printedOf b
+        unfolding printedOf
+        file-printed = rw (shape-read, hops-read) (sym (accepted-text (formatAnswer b) (printedGraph (shapeIn b) (hopListIn b)) (both .0)))
 
 -- a buffer that is too short, and one that is not
 module _ (room : ℕ) (t : List ℕ) where

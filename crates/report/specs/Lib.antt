@@ -1,1 +1,1 @@
-pub mod Report
+pub mod Report  -- what the program prints of a file

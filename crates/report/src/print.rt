@@ -1,53 +1,62 @@
 // What the program prints of a file.
+use graph::MOST_HOPS;
+use graph::MOST_NUMBERS;
+use graph::MOST_STATES;
 use graph::Shape;
 use graph::hops::part;
-use marks::mark::mark;
-use quotient::entry::reduce;
 use reader::reading::read;
+use reducing::reduce_marked;
+use rings::ring_answer;
 use rows::put_refusal;
 use rows::put_report;
+use sweeps::mark_all;
 ghost use mathlib.Core.Path.{_≡_};
 ghost use Prim.Native.Nat.{_≤_};
 ghost use lib.ListN.{length};
-ghost use Rattle.representatives.specs.Tables.{Reducible, Marks};
+ghost use Rattle.limits.specs.Check.{Admitted};
+ghost use Rattle.representatives.specs.Tables.{Reducible};
 ghost use Rattle.outputs.specs.Output.{onFront};
 ghost use Rattle.text.specs.Text.{Put};
 ghost use Rattle.report.specs.Report.{most-text, reportOf, printedGraph, printedOf, shownIn};
 
-const MOST_TEXT: usize = 196608;
+// 45 bytes for `in`, 19 a hop, 16 a state, 67 for `out` and 22 a short hop are 184,432 for the largest graph; 48 for each of its hops hold them.
+pub const MOST_TEXT: usize = 48 * MOST_HOPS;
 
-// The report of a graph that every row lets pass, and whose marks are given.
-fn print_reduced(shape: Shape, hops: &[u16], marks: &[u8], out: &mut [u8]) -> usize
-    requires { ⌜ Reducible shape (now hops) ⌝ ∗ ⌜ Marks (now hops) (now marks) ⌝ ∗ ⌜ most-text ≤ length (now out) ⌝ }
+// The report of a graph that every row lets pass: it is marked once, and reduced along the marks.
+fn print_reduced(shape: Shape, hops: &[u16], out: &mut [u8]) -> usize
+    requires reducible { ⌜ Reducible shape (now hops) ⌝ }
+    requires room { ⌜ most-text ≤ length (now out) ⌝ }
     ensures { λ r. ⌜ Put (now (out .entry)) 0 (reportOf shape (now (hops .entry))) r (now (out .exit)) ⌝ }
 {
-    let mut map = [0u16; 1024];
-    let mut short = [0u16; 12288];
-    let reduction = reduce(shape, hops, &mut map, &mut short);
-    let new = reduction.shape;
-    let n = reduction.hops;
-    put_report(shape, hops, marks, &map, new, part(&short, 0, n), out)
+    let mut marks = [0u8; MOST_HOPS];
+    let mut map = [0u16; MOST_STATES];
+    let mut short = [0u16; MOST_NUMBERS];
+    mark_all(hops, &mut marks);
+    let made = reduce_marked(shape, hops, &marks, &mut map, &mut short);
+    let new = made.shape;
+    let n = made.hops;
+    put_report(shape, hops, &marks, &map, new, part(&short, 0, n), out)
 }
 
-// The report of a graph, or its refusal.
+// The report of an admitted graph, or its refusal by row 5.
 fn print_graph(shape: Shape, hops: &[u16], out: &mut [u8]) -> usize
-    requires { ⌜ most-text ≤ length (now out) ⌝ }
+    requires admitted { ⌜ Admitted shape (now hops) ⌝ }
+    requires room { ⌜ most-text ≤ length (now out) ⌝ }
     ensures { λ r. ⌜ Put (now (out .entry)) 0 (printedGraph shape (now (hops .entry))) r (now (out .exit)) ⌝ }
 {
-    let mut marks = [0u8; 4096];
-    let answer = mark(shape, hops, &mut marks);
+    let answer = ring_answer(shape, hops);
     if answer.number != 0 {
         return put_refusal(out, 0, answer);
     }
-    print_reduced(shape, hops, &marks, out)
+    print_reduced(shape, hops, out)
 }
 
-// The same of a file.
+// The same of a file. Reading has checked the graph, so that nothing is checked, searched for rings or marked twice.
 fn print_contents(file: &[u8], out: &mut [u8]) -> usize
     requires { ⌜ most-text ≤ length (now out) ⌝ }
     ensures { λ r. ⌜ Put (now (out .entry)) 0 (printedOf (now (file .entry))) r (now (out .exit)) ⌝ }
 {
-    let mut hops = [0u16; 12288];
+    let mut hops = [0u16; MOST_NUMBERS];
     let contents = read(file, &mut hops);
     let answer = contents.answer;
     if answer.number != 0 {

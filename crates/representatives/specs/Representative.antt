@@ -1,5 +1,6 @@
--- Classes and representatives (document 01 "Reducing"; SEN-R0123, section 4). Assumes nothing: these are definitions.
-use Prim.Native.Nat.{ℕ, zero, suc}
+-- Classes and representatives (document 01 "Reducing"; SEN-R0123, section 4), along any set u of silent hops; document 01's is the marked set. Assumes
+-- nothing: these are definitions.
+use Prim.Native.Nat.{ℕ, zero, suc, _<_, _≤_}
 use mathlib.Core.Path.{_≡_}
 use mathlib.Core.Bool.{Bool, true, cond, not, _&&_}
 use mathlib.Core.List.{List}
@@ -9,43 +10,48 @@ use Rattle.graph.specs.Hops.{count, from, label, to}
 use Rattle.graph.specs.declared.Shape.{Shape}
 use Rattle.lts.specs.Star.{Joined}
 use Rattle.lts.specs.Sense.{Normal}
-use Rattle.confluence.specs.Rounds.{marked}
+use Rattle.silent.specs.Silent.{HopOf}
+use Rattle.shrinking.specs.Pairs.{Pairs, In}
 
--- the marked hops as a relation on states
-abbrev pub MarkedHop : List ℕ → ℕ → ℕ → Type 0
-MarkedHop hs s t = marked hs s t ≡ true
+-- walks along the hops of u come to rest: u is a set of silent hops of the graph, and a rank of at most the state count falls along each, so that they
+-- make no ring. This is all that the map and the short graph need to be made
+pub record Settles (sh : Shape) (hs : List ℕ) (u : Pairs) : Type 0 where
+  pub silent : (s t : ℕ) → In u s t → HopOf hs s 0 t
+  pub rank : ℕ → ℕ
+  pub falls : (s t : ℕ) → In u s t → rank t < rank s
+  pub bound : (s : ℕ) → rank s ≤ sh .states
 
 -- "A class is a set of states joined by marked hops taken either way." "each class has exactly one state that no marked hop leaves: its representative"
-pub record IsRepresentative (hs : List ℕ) (s r : ℕ) : Type 0 where
-  pub joined : Joined (MarkedHop hs) s r
-  pub rests : Normal (MarkedHop hs) r
-  pub only : (q : ℕ) → Joined (MarkedHop hs) s q → Normal (MarkedHop hs) q → q ≡ r
+pub record IsRepresentative (u : Pairs) (s r : ℕ) : Type 0 where
+  pub joined : Joined (In u) s r
+  pub rests : Normal (In u) r
+  pub only : (q : ℕ) → Joined (In u) s q → Normal (In u) q → q ≡ r
 
--- the hop at place i is a marked one from s
-unfoldable pub markedFrom : List ℕ → ℕ → ℕ → Bool
-markedFrom hs s i = eqb (from hs i) s && (eqb (label hs i) 0 && marked hs (from hs i) (to hs i))
+-- the hop at place i is one of u from s
+unfoldable pub markedFrom : List ℕ → Pairs → ℕ → ℕ → Bool
+markedFrom hs u s i = eqb (from hs i) s && (eqb (label hs i) 0 && u (from hs i) (to hs i))
 
--- no marked hop leaves s
-unfoldable pub resting : List ℕ → ℕ → Bool
-resting hs s = not (any (count hs) (markedFrom hs s))
+-- no hop of u leaves s
+unfoldable pub resting : List ℕ → Pairs → ℕ → Bool
+resting hs u s = not (any (count hs) (markedFrom hs u s))
 
--- where the first marked hop of s leads; s itself where it has none
-unfoldable pub onward : List ℕ → ℕ → ℕ
-onward hs s = cond (resting hs s) s (to hs (least (count hs) (markedFrom hs s)))
+-- where the first hop of s in u leads; s itself where it has none
+unfoldable pub onward : List ℕ → Pairs → ℕ → ℕ
+onward hs u s = cond (resting hs u s) s (to hs (least (count hs) (markedFrom hs u s)))
 
 -- the state that s comes to by k such hops
-unfoldable pub followed : List ℕ → ℕ → ℕ → ℕ
-followed hs zero s = s
-followed hs (suc k) s = followed hs k (onward hs s)
+unfoldable pub followed : List ℕ → Pairs → ℕ → ℕ → ℕ
+followed hs u zero s = s
+followed hs u (suc k) s = followed hs u k (onward hs u s)
 
 -- the representative of s: without rings it is reached within as many hops as there are states
-unfoldable pub repOf : Shape → List ℕ → ℕ → ℕ
-repOf sh hs s = followed hs (sh .states) s
+unfoldable pub repOf : Shape → List ℕ → Pairs → ℕ → ℕ
+repOf sh hs u s = followed hs u (sh .states) s
 
 -- "Representatives are renumbered 0, 1, 2 in ascending old order": a representative's new number is how many stand below it
-unfoldable pub newOf : List ℕ → ℕ → ℕ
-newOf hs r = tally r (resting hs)
+unfoldable pub newOf : List ℕ → Pairs → ℕ → ℕ
+newOf hs u r = tally r (resting hs u)
 
 -- "The map gives each old state the new number of its representative."
-unfoldable pub mapOf : Shape → List ℕ → ℕ → ℕ
-mapOf sh hs s = newOf hs (repOf sh hs s)
+unfoldable pub mapOf : Shape → List ℕ → Pairs → ℕ → ℕ
+mapOf sh hs u s = newOf hs u (repOf sh hs u s)

@@ -1,16 +1,18 @@
--- What the parts of `reduce` hand to one another: tables with one number a state. Assumes nothing: these are definitions.
+-- What the parts of `reduce` hand to one another: marks, one a hop, and tables with one number a state. Assumes nothing: these are definitions.
 use Prim.Native.Nat.{ℕ, zero, suc, _<_, _≤_}
 use mathlib.Core.Path.{_≡_}
-use mathlib.Core.Bool.{Bool, cond}
+use mathlib.Core.Bool.{Bool, true, cond, _&&_}
 use mathlib.Core.List.{List}
 use lib.ListN.{length, getD, set}
 use lib.Dec.{eqb}
-use Rattle.graph.specs.Hops.{count, from, to}
+use Rattle.below.specs.Tests.{tally}
+use Rattle.graph.specs.Hops.{count, from, label, to}
 use Rattle.graph.specs.Answers.{most-states}
 use Rattle.limits.specs.Check.{Admitted}
 use Rattle.graph.specs.declared.Shape.{Shape}
 use Rattle.silent.specs.Silent.{ringless}
-use Rattle.marks.specs.Mark.{markOf}
+use Rattle.shrinking.specs.Pairs.{Pairs}
+use Rattle.confluence.specs.Held.{isMarked}
 use Rattle.representatives.specs.Representative.{onward}
 
 -- a graph that rows 1 to 5 let pass
@@ -18,18 +20,31 @@ pub record Reducible (sh : Shape) (hs : List ℕ) : Type 0 where
   pub admitted : Admitted sh hs
   pub free : ringless sh hs .number ≡ 0
 
--- the marks of the graph stand in the list
-pub record Marks (hs ms : List ℕ) : Type 0 where
+-- the marks of the set u stand in the list: 1 at its hops and only there
+pub record Marks (hs : List ℕ) (u : Pairs) (ms : List ℕ) : Type 0 where
   pub room : count hs ≤ length ms
-  pub marks : (i : ℕ) → i < count hs → getD ms i 0 ≡ markOf hs i
+  pub marks : (i : ℕ) → i < count hs → isMarked ms i ≡ (eqb (label hs i) 0 && u (from hs i) (to hs i))
+
+-- marks, one a hop, of which no visible hop has one
+pub record SilentMarks (hs ms : List ℕ) : Type 0 where
+  pub room : count hs ≤ length ms
+  pub silent : (i : ℕ) → i < count hs → isMarked ms i ≡ true → label hs i ≡ 0
 
 -- the table of next states with the hop at place i, if it is marked, as the first of its state
-unfoldable pub noted : List ℕ → List ℕ → ℕ → List ℕ → List ℕ
-noted hs ms i next = cond (eqb (getD ms i 0) 1) (set next (from hs i) (to hs i)) next
+unfoldable pub entered : List ℕ → List ℕ → ℕ → List ℕ → List ℕ
+entered hs ms i next = cond (isMarked ms i) (set next (from hs i) (to hs i)) next
 
--- the table says where the first marked hop of each state leads
-unfoldable pub Onward : List ℕ → List ℕ → Type 0
-Onward hs next = (s : ℕ) → s < most-states → getD next s 0 ≡ onward hs s
+-- the table leads from each state to itself
+unfoldable pub Own : List ℕ → Type 0
+Own next = (s : ℕ) → s < most-states → getD next s 0 ≡ s
+
+-- each hop leaves a state that the table has
+unfoldable pub FromIn : List ℕ → Type 0
+FromIn hs = (i : ℕ) → i < count hs → from hs i < most-states
+
+-- the table says where the first hop of each state in u leads
+unfoldable pub Onward : List ℕ → Pairs → List ℕ → Type 0
+Onward hs u next = (s : ℕ) → s < most-states → getD next s 0 ≡ onward hs u s
 
 -- by the table no state is left
 unfoldable pub stays : List ℕ → ℕ → Bool
@@ -39,6 +54,10 @@ stays next s = eqb (getD next s 0) s
 unfoldable pub stepped : List ℕ → ℕ → ℕ → ℕ
 stepped next zero s = s
 stepped next (suc k) s = stepped next k (getD next s 0)
+
+-- the table says how many of the states below each stay, up to one past the last
+unfoldable pub Numbers : List ℕ → List ℕ → Type 0
+Numbers next news = (s : ℕ) → s ≤ most-states → getD news s 0 ≡ tally s (stays next)
 
 -- the number of the state that s comes to
 unfoldable pub numbered : List ℕ → List ℕ → ℕ → ℕ → ℕ

@@ -1,31 +1,36 @@
 // Where the first marked hop of each state leads, and the representative that these hops lead to.
+use graph::MOST_STATES;
 use graph::OldState;
 use graph::hops::from_at;
 use graph::hops::hop_count;
 use graph::hops::to_at;
 ghost use mathlib.Core.Path.{_≡_};
-ghost use Prim.Native.Nat.{ℕ, _<_, _≤_};
-ghost use lib.ListN.{length, getD};
+ghost use Prim.Native.Nat.{_<_, _≤_};
+ghost use lib.ListN.{length};
 ghost use Rattle.graph.specs.Hops.{count, from};
-ghost use Rattle.representatives.specs.Tables.{Marks, Onward, Closed, noted, stays, stepped};
+ghost use Rattle.graph.specs.Answers.{most-states};
+ghost use Rattle.confluence.specs.Held.{heldBy};
+ghost use Rattle.representatives.specs.Tables.{Marks, Own, FromIn, Onward, Closed, entered, stays, stepped};
 
 // A table that leads from each state to itself.
-fn own_states() -> [u16; 1024]
-    ensures { λ r. ⌜ ((s : ℕ) → s < 1024 → getD r s 0 ≡ s) ⌝ }
+fn own_states() -> [u16; MOST_STATES]
+    ensures { λ r. ⌜ Own r ⌝ }
 {
-    let mut next = [0u16; 1024];
+    let mut next = [0u16; MOST_STATES];
     let mut s = 0;
-    while s < 1024 {
+    while s < MOST_STATES {
         next[s] = s as u16;
         s += 1;
     }
     next
 }
 
-// Notes the hop at the place, if it is marked, as the first of its state.
-fn note(hops: &[u16], marks: &[u8], next: &mut [u16; 1024], i: usize)
-    requires { ⌜ i < count (now hops) ⌝ ∗ ⌜ i < length (now marks) ⌝ ∗ ⌜ from (now hops) i < 1024 ⌝ }
-    ensures { λ r. ⌜ now (next .exit) ≡ noted (now (hops .entry)) (now (marks .entry)) i (now (next .entry)) ⌝ }
+// Enters the hop at the place, if it is marked, as the first of its state.
+fn enter(hops: &[u16], marks: &[u8], next: &mut [u16; MOST_STATES], i: usize)
+    requires inside { ⌜ i < count (now hops) ⌝ }
+    requires marked { ⌜ i < length (now marks) ⌝ }
+    requires tabled { ⌜ from (now hops) i < most-states ⌝ }
+    ensures { λ r. ⌜ now (next .exit) ≡ entered (now (hops .entry)) (now (marks .entry)) i (now (next .entry)) ⌝ }
 {
     if marks[i] == 1 {
         let at = from_at(hops, i).0 as usize;
@@ -33,23 +38,24 @@ fn note(hops: &[u16], marks: &[u8], next: &mut [u16; 1024], i: usize)
     }
 }
 
-// The table: the hops are noted from the last to the first, so that the first stands.
-pub fn next_states(hops: &[u16], marks: &[u8]) -> [u16; 1024]
-    requires { ⌜ Marks (now hops) (now marks) ⌝ ∗ ⌜ ((i : ℕ) → i < count (now hops) → from (now hops) i < 1024) ⌝ }
-    ensures { λ r. ⌜ Onward (now (hops .entry)) r ⌝ }
+// The table: the hops are entered from the last to the first, so that the first stands.
+pub fn next_states(hops: &[u16], marks: &[u8]) -> [u16; MOST_STATES]
+    requires marks { ⌜ Marks (now hops) (heldBy (now hops) (now marks)) (now marks) ⌝ }
+    requires tabled { ⌜ FromIn (now hops) ⌝ }
+    ensures { λ r. ⌜ Onward (now (hops .entry)) (heldBy (now (hops .entry)) (now (marks .entry))) r ⌝ }
 {
     let mut next = own_states();
     let mut i = hop_count(hops);
     while 0 < i {
         i -= 1;
-        note(hops, marks, &mut next, i);
+        enter(hops, marks, &mut next, i);
     }
     next
 }
 
 // Whether the table leads from s to s.
-pub fn is_at_rest(next: &[u16; 1024], s: OldState) -> bool
-    requires { ⌜ s .0 < 1024 ⌝ }
+pub fn is_at_rest(next: &[u16; MOST_STATES], s: OldState) -> bool
+    requires { ⌜ s .0 < most-states ⌝ }
     ensures { λ r. ⌜ r ≡ stays (now (next .entry)) (s .0) ⌝ }
 {
     let at = s.0 as usize;
@@ -57,8 +63,10 @@ pub fn is_at_rest(next: &[u16; 1024], s: OldState) -> bool
 }
 
 // The state that s comes to within as many steps as there are states.
-pub fn follow(next: &[u16; 1024], states: usize, s: OldState) -> OldState
-    requires { ⌜ s .0 < states ⌝ ∗ ⌜ states ≤ 1024 ⌝ ∗ ⌜ Closed states (now next) ⌝ }
+pub fn follow(next: &[u16; MOST_STATES], states: usize, s: OldState) -> OldState
+    requires inside { ⌜ s .0 < states ⌝ }
+    requires few { ⌜ states ≤ most-states ⌝ }
+    requires closed { ⌜ Closed states (now next) ⌝ }
     ensures { λ r. ⌜ r .0 ≡ stepped (now (next .entry)) states (s .0) ⌝ }
 {
     let mut at = s.0;

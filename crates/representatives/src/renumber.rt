@@ -1,23 +1,26 @@
 // New numbers: "Representatives are renumbered 0, 1, 2 in ascending old order", and the map.
+use super::NUMBERS;
 use super::follow::follow;
 use super::follow::is_at_rest;
+use graph::MOST_STATES;
 use graph::OldState;
 use graph::map::map_at;
 ghost use mathlib.Core.Path.{_≡_};
-ghost use mathlib.Core.List.{_++_};
-ghost use Prim.Native.Nat.{ℕ, _<_, _≤_};
-ghost use lib.ListN.{length, getD, drop};
-ghost use Rattle.below.specs.Tests.{tally, listed};
-ghost use Rattle.representatives.specs.Tables.{Closed, stays, numbered};
+ghost use Prim.Native.Nat.{_≤_};
+ghost use lib.ListN.{length};
+ghost use Rattle.below.specs.Tests.{listed};
+ghost use Rattle.outputs.specs.Output.{onFront};
+ghost use Rattle.graph.specs.Answers.{most-states};
+ghost use Rattle.representatives.specs.Tables.{Closed, Numbers, numbered};
 
-// How many states below s rest, for each s up to 1,024: the new number of s where s rests.
-pub fn new_numbers(next: &[u16; 1024]) -> [u16; 1025]
-    ensures { λ r. ⌜ ((s : ℕ) → s ≤ 1024 → getD r s 0 ≡ tally s (stays (now (next .entry)))) ⌝ }
+// How many states below s rest, for each s up to the one past the last: the new number of s where s rests.
+pub fn new_numbers(next: &[u16; MOST_STATES]) -> [u16; NUMBERS]
+    ensures { λ r. ⌜ Numbers (now (next .entry)) r ⌝ }
 {
-    let mut news = [0u16; 1025];
+    let mut news = [0u16; NUMBERS];
     let mut found = 0u16;
     let mut s = 0;
-    while s < 1024 {
+    while s < MOST_STATES {
         if is_at_rest(next, OldState(s as u16)) {
             found += 1;
         }
@@ -28,9 +31,12 @@ pub fn new_numbers(next: &[u16; 1024]) -> [u16; 1025]
 }
 
 // The map: each state has the new number of its representative.
-pub fn fill_map(states: usize, next: &[u16; 1024], news: &[u16], map: &mut [u16])
-    requires { ⌜ states ≤ 1024 ⌝ ∗ ⌜ states ≤ length (now news) ⌝ ∗ ⌜ states ≤ length (now map) ⌝ ∗ ⌜ Closed states (now next) ⌝ }
-    ensures { λ r. ⌜ now (map .exit) ≡ listed states (numbered (now (next .entry)) (now (news .entry)) states) ++ drop states (now (map .entry)) ⌝ }
+pub fn fill_map(states: usize, next: &[u16; MOST_STATES], news: &[u16], map: &mut [u16])
+    requires few { ⌜ states ≤ most-states ⌝ }
+    requires numbers { ⌜ states ≤ length (now news) ⌝ }
+    requires room { ⌜ states ≤ length (now map) ⌝ }
+    requires closed { ⌜ Closed states (now next) ⌝ }
+    ensures { λ r. ⌜ now (map .exit) ≡ onFront (listed states (numbered (now (next .entry)) (now (news .entry)) states)) (now (map .entry)) ⌝ }
 {
     let mut s = 0;
     while s < states {

@@ -1,4 +1,1 @@
-pub mod Firsts
-pub mod Noted
-pub mod Equations
-pub mod Rows
+pub mod Rows  -- the ways out of the entry, and what is known where no row speaks

@@ -85,12 +85,12 @@ module _ (sh : Shape) (hs : List ℕ) (i k : ℕ) where
     question-refused n = rw (← p, ne-eqb _ _ n)
 
     module _ (z : a .number ≡ 0) where
-      pub question-asks : Admitted sh hs × ((i < count hs) × (label hs i ≡ 0) × (k ≤ most-rounds))
+      pub question-asks : Admitted sh hs × ((i < count hs) × ((label hs i ≡ 0) × (k ≤ most-rounds)))
       unfolding questionAnswer
       question-asks =
           let (c, d) = both-accept (checkOf sh hs) _ (sym (ap (λ (x : Answer). x .number) p) ∙ z) in
           let (e, f) = both-accept (silentPlace hs i) (fewRounds k) d in
-          (check-admitted sh hs c, (place-accepted hs i e .0, place-accepted hs i e .1, rounds-accepted k f))
+          (check-admitted sh hs c, (place-accepted hs i e .0, (place-accepted hs i e .1, rounds-accepted k f)))
 
       pub question-judged : {v : Bool} → v ≡ survives hs k (from hs i) (to hs i) → record { answer = a; survives = boolByte v } ≡ questionOf sh hs i k
       unfolding questionOf

@@ -1,3 +1,1 @@
-pub mod Question
-pub mod Index
-pub mod Known
+pub mod Question  -- the entry's rows and its answer

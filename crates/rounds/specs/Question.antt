@@ -12,6 +12,7 @@ use Rattle.graph.specs.declared.Answer.{Answer}
 use Rattle.confluence.specs.Rounds.{survives}
 use Rattle.rounds.specs.declared.RoundAnswer.{RoundAnswer}
 
+-- "k from 0 to 4"
 abbrev pub most-rounds : ℕ
 most-rounds = 4
 

@@ -1,13 +1,14 @@
 // The entry: rows 1 to 4, then 9, then 10, and then the equations.
 use super::RoundAnswer;
-use super::cycle::x;
+use cycle::x;
 use graph::Answer;
+use graph::MOST_HOPS;
 use graph::Shape;
+use graph::answers::accept;
+use graph::answers::refuse;
 use graph::hops::hop_count;
 use graph::hops::label_at;
-use graph::answers::accept;
 use limits::check;
-use graph::answers::refuse;
 use starts::starts_of;
 ghost use mathlib.Core.Path.{_≡_};
 ghost use Prim.Native.Nat.{_<_, _≤_};
@@ -16,7 +17,11 @@ ghost use Rattle.limits.specs.Check.{Admitted};
 ghost use Rattle.confluence.specs.Rounds.{survives};
 ghost use Rattle.rounds.specs.Question.{most-rounds, silentPlace, fewRounds, questionAnswer, questionOf};
 
-const MOST_ROUNDS: u32 = 4;
+// "k from 0 to 4"
+const MOST_ROUNDS: usize = 4;
+
+// The table of answers: one a hop for each number of rounds.
+const KNOWN: usize = (MOST_ROUNDS + 1) * MOST_HOPS;
 
 // Row 9.
 fn check_place(hops: &[u16], place: usize) -> Answer
@@ -36,7 +41,7 @@ fn check_place(hops: &[u16], place: usize) -> Answer
 fn check_rounds(rounds: u32) -> Answer
     ensures { λ r. ⌜ r ≡ fewRounds rounds ⌝ }
 {
-    if rounds <= MOST_ROUNDS {
+    if rounds as usize <= MOST_ROUNDS {
         accept()
     } else {
         refuse(10, 0)
@@ -60,13 +65,15 @@ fn question_answer(shape: Shape, hops: &[u16], place: usize, rounds: u32) -> Ans
 
 // The equations, with nothing known yet.
 fn survives_rounds(shape: Shape, hops: &[u16], place: usize, rounds: usize) -> bool
-    requires { ⌜ Admitted shape (now hops) ⌝ }
-    requires { ⌜ (place < count (now hops)) × (label (now hops) place ≡ 0) × (rounds ≤ most-rounds) ⌝ }
+    requires admitted { ⌜ Admitted shape (now hops) ⌝ }
+    requires place { ⌜ place < count (now hops) ⌝ }
+    requires silent { ⌜ label (now hops) place ≡ 0 ⌝ }
+    requires few { ⌜ rounds ≤ most-rounds ⌝ }
     ensures { λ r. ⌜ r ≡ survives (now (hops .entry)) rounds (from (now (hops .entry)) place) (to (now (hops .entry)) place) ⌝ }
 {
-    let firsts = starts_of(hops);
-    let mut known = [0u8; 20480];
-    x(hops, &firsts, place, rounds, &mut known)
+    let starts = starts_of(hops);
+    let mut known = [0u8; KNOWN];
+    x(hops, &starts, place, rounds, &mut known)
 }
 
 // The entry.

@@ -1,13 +1,14 @@
--- The lines of a report in the words of the code that puts them, and reports that show the same. Assumes nothing.
+-- The lines of a report in the words of the code that puts them, reports that show the same, and the parts of a report put one behind the other. Assumes nothing.
 use Prim.Native.Nat.{ℕ, zero, suc, _<_}
-use mathlib.Core.Path.{_≡_, refl}
+use mathlib.Core.Path.{_≡_, refl, sym}
 use mathlib.Core.List.{List, [], _∷_, _++_}
 use native.Mathlib.Omega.{arith}
 use borrow.Author.Tests.{eq-eqb, ne-eqb}
 use Rattle.graph.specs.Hops.{count, from, label, to}
 use Rattle.graph.specs.declared.Shape.{Shape}
-use Rattle.text.specs.Text.{line, lines, in-word, marked-word, map-word, out-word, hop-word}
-use Rattle.rows.specs.Rows.{markedLine, mapLine, hopLine, linesOf}
+use Rattle.text.specs.Text.{line, lines, in-word, marked-word, map-word, out-word, hop-word, Room, Put}
+use Rattle.text.proofs.Puts.{put-same, put-then, room-same, room-first, room-rest}
+use Rattle.rows.specs.Rows.{byPlace, markedLine, markedLines, mapLine, mapLines, hopLine, hopLines, linesOf, lentLines}
 
 module _ (hs : List ℕ) (mark : ℕ → ℕ) (i : ℕ) where
   pub mark-yes : mark i ≡ 1 → {f t : ℕ} → f ≡ from hs i → t ≡ to hs i → markedLine hs mark i ≡ line marked-word (f ∷ t ∷ [])
@@ -47,3 +48,62 @@ pub report-same : (sh : Shape) (hs : List ℕ) {mark mark' map map' : ℕ → �
 unfolding linesOf markedLine mapLine
 report-same sh hs {mark} {mark'} {map} {map'} f g e d =
     rw (e, d, lines-same (markedLine hs mark) (markedLine hs mark') (count hs) (λ i l. rw (f i l)), lines-same (mapLine map) (mapLine map') (sh .states) (λ s l. rw (g s l)))
+
+-- the five parts of a report, put one behind the other: what room there is for each, and that they are the report
+module _ (sh : Shape) (hs ms m : List ℕ) (new : Shape) (short out : List ℕ) (n k : ℕ) (e : n ≡ count hs) (d : k ≡ count short)
+    (room : Room 0 (lentLines sh hs ms m new short) out) where
+  abbrev inLine : List ℕ
+  inLine = line in-word (sh .states ∷ n ∷ [])
+
+  abbrev outLine : List ℕ
+  outLine = line out-word (new .states ∷ k ∷ new .initial ∷ [])
+
+  abbrev from-out : List ℕ
+  from-out = outLine ++ hopLines short
+
+  abbrev from-map : List ℕ
+  from-map = mapLines (sh .states) m ++ from-out
+
+  abbrev from-marks : List ℕ
+  from-marks = markedLines hs ms ++ from-map
+
+  parts : lentLines sh hs ms m new short ≡ inLine ++ from-marks
+  parts = report-parts sh hs (byPlace ms) (byPlace m) new short e d
+
+  whole : Room 0 (inLine ++ from-marks) out
+  whole = room-same parts room
+
+  pub room-in : Room 0 inLine out
+  room-in = room-first inLine from-marks whole
+
+  module _ {o1 : List ℕ} {a1 : ℕ} (p1 : Put out 0 inLine a1 o1) where
+    rest1 : Room a1 from-marks o1
+    rest1 = room-rest inLine from-marks whole p1
+
+    pub room-marks : Room a1 (markedLines hs ms) o1
+    room-marks = room-first (markedLines hs ms) from-map rest1
+
+    module _ {o2 : List ℕ} {a2 : ℕ} (p2 : Put o1 a1 (markedLines hs ms) a2 o2) where
+      rest2 : Room a2 from-map o2
+      rest2 = room-rest (markedLines hs ms) from-map rest1 p2
+
+      pub room-map : Room a2 (mapLines (sh .states) m) o2
+      room-map = room-first (mapLines (sh .states) m) from-out rest2
+
+      module _ {o3 : List ℕ} {a3 : ℕ} (p3 : Put o2 a2 (mapLines (sh .states) m) a3 o3) where
+        rest3 : Room a3 from-out o3
+        rest3 = room-rest (mapLines (sh .states) m) from-out rest2 p3
+
+        pub room-out : Room a3 outLine o3
+        room-out = room-first outLine (hopLines short) rest3
+
+        module _ {o4 : List ℕ} {a4 : ℕ} (p4 : Put o3 a3 outLine a4 o4) where
+          pub room-hops : Room a4 (hopLines short) o4
+          room-hops = room-rest outLine (hopLines short) rest3 p4
+
+          pub report-put : {o5 : List ℕ} {a5 : ℕ} → Put o4 a4 (hopLines short) a5 o5 → Put out 0 (lentLines sh hs ms m new short) a5 o5
+          report-put p5 =
+              put-same (sym parts)
+              (put-then inLine from-marks whole p1
+              (put-then (markedLines hs ms) from-map rest1 p2
+              (put-then (mapLines (sh .states) m) from-out rest2 p3 (put-then outLine (hopLines short) rest3 p4 p5))))

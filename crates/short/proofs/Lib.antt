@@ -1,7 +1,4 @@
-pub mod Insertion
-pub mod Images
-pub mod Reduces
-pub mod Gaps
-pub mod Collected
-pub mod Reduced
-pub mod Tabled
+pub mod Collecting  -- one turn of the code that collects the short hops
+pub mod Images  -- the short hops ascend, and are exactly the images of the representatives' hops
+pub mod Reduces  -- the short graph is admitted, and the map to it keeps branching bisimilarity
+pub mod Tabled  -- what the map and the short hops by the tables are, in the words of the definitions

@@ -1,8 +1,3 @@
-pub mod Hops
-pub mod Leads
-pub mod Rings
-pub mod Front
-pub mod Spread
-pub mod Search
-pub mod Ranking
-pub mod Closing
+pub mod Hops  -- where silent hops stand, and that they are a chosen set
+pub mod Leads  -- the bounded test agrees with silent walks of any length
+pub mod Rings  -- what the answer of row 5 says; without rings a rank falls along every silent hop

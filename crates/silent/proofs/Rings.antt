@@ -9,28 +9,28 @@ use native.Mathlib.Omega.{arith}
 use borrow.Author.Tests.{ltb-false, le-ltb}
 use lib.Dec.{ltb}
 use Rattle.below.specs.Tests.{tally}
-use Rattle.graph.specs.Hops.{count, to}
+use Rattle.graph.specs.Hops.{count, to, labelled}
 use Rattle.graph.specs.Answers.{refused, accepted}
 use Rattle.limits.specs.Check.{InRange}
 use Rattle.graph.specs.declared.Shape.{Shape}
 use Rattle.below.proofs.Bools.{clash, and-left, and-right, and-yes, no-test, lt-or-le}
 use Rattle.below.proofs.Tests.{any-at, any-found, least-passes, least-before, least-is, tally-less}
 use Rattle.lts.specs.Star.{go}
-use Rattle.silent.specs.Silent.{SilentOf, OnRing, silentFrom, leads, onRing, lowestOnRing, ringless}
+use Rattle.silent.specs.Silent.{SilentOf, OnRing, leads, onRing, lowestOnRing, ringless}
 use Rattle.silent.proofs.Hops.{silent-here, silent-place, silent-start}
 use Rattle.silent.proofs.Leads.{leads-self, leads-walk, walk-leads}
 
 -- the hop at place i, and a way back
 abbrev back : List ℕ → ℕ → ℕ → ℕ → Bool
-back hs n s i = silentFrom hs s i && leads hs n (to hs i) s
+back hs n s i = labelled hs s 0 i && leads hs n (to hs i) s
 
 pub ring-walk : (hs : List ℕ) (n s : ℕ) → onRing hs n s ≡ true → OnRing hs s
 unfolding onRing
 ring-walk hs n s h =
     let (i, l, e) = any-at (back hs n s) (count hs) h in (
       to hs i,
-      silent-here hs s i l (and-left (silentFrom hs s i) (leads hs n (to hs i) s) e),
-      leads-walk hs n (to hs i) s (and-right (silentFrom hs s i) (leads hs n (to hs i) s) e),
+      silent-here hs s i l (and-left (labelled hs s 0 i) (leads hs n (to hs i) s) e),
+      leads-walk hs n (to hs i) s (and-right (labelled hs s 0 i) (leads hs n (to hs i) s) e),
     )
 
 module _ {sh : Shape} {hs : List ℕ} (ranged : InRange sh hs) where

@@ -1,3 +1,2 @@
-pub mod Silent
-pub mod Reach
-pub mod Ring
+pub mod Silent  -- silent hops, what they lead to, rings, and the answer of row 5
+pub mod Chosen  -- the silent hops as bytes

@@ -1,1 +1,1 @@
-pub mod Starts
+pub mod Starts  -- the table of first places, and what it needs of a hop list

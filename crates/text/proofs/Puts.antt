@@ -1,17 +1,17 @@
 -- Texts put one behind the other are the joined text, and what room is left. Lines one behind the other, as a loop puts them. Assumes nothing.
 use Prim.Native.Nat.{ℕ, zero, suc, _+_, _-_, _/_, _%_, _<_, _≤_}
-use mathlib.Core.Path.{_≡_, refl, ap, _∙_}
-use mathlib.Core.List.{List, [], _∷_, _++_}
+use mathlib.Core.Path.{_≡_, refl, sym, ap, _∙_}
+use mathlib.Core.List.{List, [], _∷_, _++_, append-assoc, append-nil}
 use mathlib.Core.Logic.{⊎-elim}
 use native.Mathlib.Nat.{eq-or-lt-of-le, le-refl}
 use native.Mathlib.Numerals.{add-one}
 use native.Mathlib.Omega.{arith}
 use borrow.Author.Tests.{lt-ltb, le-ltb}
-use lib.ListN.{length, set, length-append, length-drop}
+use lib.ListN.{length, getD, set, length-append, length-drop}
 use lib.Seq.{set-split, length-take-le}
 use Rattle.outputs.specs.Output.{overAt}
 use Rattle.outputs.proofs.Front.{over-none, over-then}
-use Rattle.text.specs.Text.{digits, decimal, spaced, ending, line, lines, Room, Put}
+use Rattle.text.specs.Text.{digits, decimal, spaced, numbered, line, lines, Room, Put}
 
 length-over : (at : ℕ) (text old : List ℕ) → at + length text ≤ length old → length (overAt at text old) ≡ length old
 length-over at text old l = rw (length-append, length-append, length-drop, length-take-le at old (omega arith)) (omega arith)
@@ -67,14 +67,23 @@ pub spaced-parts : (n : ℕ) → spaced n ≡ (32 ∷ []) ++ digits 20 n
 unfolding spaced decimal
 spaced-parts n = refl
 
-module _ (word : List ℕ) (a b : ℕ) where
-  pub line2-parts : line word (a ∷ b ∷ []) ≡ word ++ (spaced a ++ (spaced b ++ (10 ∷ [])))
-  unfolding line ending
-  line2-parts = refl
+pub line-parts : (word ns : List ℕ) → line word ns ≡ word ++ (numbered ns ++ (10 ∷ []))
+unfolding line
+line-parts word ns = refl
 
-  pub line3-parts : (c : ℕ) → line word (a ∷ b ∷ c ∷ []) ≡ word ++ (spaced a ++ (spaced b ++ (spaced c ++ (10 ∷ []))))
-  unfolding line ending
-  line3-parts c = refl
+-- the numbers of a line are put as lines are: one behind the other
+abbrev pub spacedAt : List ℕ → ℕ → List ℕ
+spacedAt ns i = spaced (getD ns i 0)
+
+lines-first : (f : ℕ → List ℕ) (n : ℕ) → lines (suc n) f ≡ f 0 ++ lines n (λ (i : ℕ). f (suc i))
+unfolding lines
+lines-first f zero = sym (append-nil (f 0))
+lines-first f (suc n) = ap (λ (xs : List ℕ). xs ++ f (suc n)) (lines-first f n) ∙ append-assoc (f 0) (lines n (λ (i : ℕ). f (suc i))) (f (suc n))
+
+pub numbered-lines : (ns : List ℕ) → numbered ns ≡ lines (length ns) (spacedAt ns)
+unfolding numbered lines
+numbered-lines [] = refl
+numbered-lines (n ∷ ns) = ap (λ (xs : List ℕ). spaced n ++ xs) (numbered-lines ns) ∙ sym (lines-first (spacedAt (n ∷ ns)) (length ns))
 
 -- lines, the first i of n being put
 module _ (f : ℕ → List ℕ) where

@@ -1,1 +1,1 @@
-pub mod Text
+pub mod Text  -- printed text as bytes, and what it is to put it into a buffer

@@ -26,14 +26,14 @@ shownBy before (d ∷ ds) = shownBy (10 * before + (d - 48)) ds
 unfoldable pub spaced : ℕ → List ℕ
 spaced n = 32 ∷ decimal n
 
--- each number behind a space, then a line feed
-unfoldable pub ending : List ℕ → List ℕ
-ending [] = 10 ∷ []
-ending (n ∷ ns) = spaced n ++ ending ns
+-- each number behind a space
+unfoldable pub numbered : List ℕ → List ℕ
+numbered [] = []
+numbered (n ∷ ns) = spaced n ++ numbered ns
 
--- a line: a word, then the numbers
+-- a line: a word, then the numbers, then a line feed
 unfoldable pub line : List ℕ → List ℕ → List ℕ
-line word ns = word ++ ending ns
+line word ns = word ++ (numbered ns ++ (10 ∷ []))
 
 -- f 0, f 1, .. up to f (n - 1), one behind the other
 unfoldable pub lines : ℕ → (ℕ → List ℕ) → List ℕ

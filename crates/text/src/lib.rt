@@ -1,7 +1,9 @@
-// Text put into a buffer: each function puts one text at a place, over what was there, and returns the place behind it.
+// Text put into a buffer, for the program's report: numbers in decimal, and lines of a word and numbers. Each function puts one text at a place, over what
+// was there and over nothing else, and returns the place behind it; the caller shows that there is room.
+// Stands on outputs (what a lent slice holds afterwards).
 use outputs::put_bytes;
 ghost use mathlib.Core.List.{[], _∷_};
-ghost use Rattle.text.specs.Text.{digits, spaced, line, Room, Put};
+ghost use Rattle.text.specs.Text.{digits, spaced, numbered, line, Room, Put};
 
 fn put_byte(out: &mut [u8], at: usize, byte: u8) -> usize
     requires { ⌜ Room at (byte ∷ []) (now out) ⌝ }
@@ -43,25 +45,26 @@ fn put_number(out: &mut [u8], at: usize, n: usize) -> usize
     put_digits(out, next, n, 20)
 }
 
-// A line of two numbers.
-pub fn put_line2(out: &mut [u8], at: usize, word: &[u8], a: usize, b: usize) -> usize
-    requires { ⌜ Room at (line (now word) (a ∷ b ∷ [])) (now out) ⌝ }
-    ensures { λ r. ⌜ Put (now (out .entry)) at (line (now (word .entry)) (a ∷ b ∷ [])) r (now (out .exit)) ⌝ }
+// Each number behind a space.
+fn put_numbers(out: &mut [u8], at: usize, numbers: &[usize]) -> usize
+    requires { ⌜ Room at (numbered (now numbers)) (now out) ⌝ }
+    ensures { λ r. ⌜ Put (now (out .entry)) at (numbered (now (numbers .entry))) r (now (out .exit)) ⌝ }
 {
-    let first = put_word(out, at, word);
-    let second = put_number(out, first, a);
-    let end = put_number(out, second, b);
-    put_byte(out, end, b'\n')
+    let mut next = at;
+    let mut i = 0;
+    while i < numbers.len() {
+        next = put_number(out, next, numbers[i]);
+        i += 1;
+    }
+    next
 }
 
-// A line of three numbers.
-pub fn put_line3(out: &mut [u8], at: usize, word: &[u8], a: usize, b: usize, c: usize) -> usize
-    requires { ⌜ Room at (line (now word) (a ∷ b ∷ c ∷ [])) (now out) ⌝ }
-    ensures { λ r. ⌜ Put (now (out .entry)) at (line (now (word .entry)) (a ∷ b ∷ c ∷ [])) r (now (out .exit)) ⌝ }
+// A line of a word and numbers.
+pub fn put_line(out: &mut [u8], at: usize, word: &[u8], numbers: &[usize]) -> usize
+    requires { ⌜ Room at (line (now word) (now numbers)) (now out) ⌝ }
+    ensures { λ r. ⌜ Put (now (out .entry)) at (line (now (word .entry)) (now (numbers .entry))) r (now (out .exit)) ⌝ }
 {
     let first = put_word(out, at, word);
-    let second = put_number(out, first, a);
-    let third = put_number(out, second, b);
-    let end = put_number(out, third, c);
+    let end = put_numbers(out, first, numbers);
     put_byte(out, end, b'\n')
 }

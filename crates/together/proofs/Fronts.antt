@@ -1,6 +1,6 @@
 -- Demand 3 over the outputs themselves. The fronts of the two outputs of an accepted `reduce` are the map and the short hops, whatever the outputs
 -- held before, so the audit of them is that of `reduce-right`. Assumes nothing.
-use Prim.Native.Nat.{ℕ, _-_, _*_, _≤_}
+use Prim.Native.Nat.{ℕ, _≤_}
 use mathlib.Core.Path.{_≡_, refl, _∙_}
 use mathlib.Core.Bool.{Bool, true, false, cond}
 use mathlib.Core.List.{List}
@@ -13,11 +13,12 @@ use Rattle.graph.specs.Answers.{accepted}
 use Rattle.graph.specs.declared.Shape.{Shape}
 use Rattle.graph.specs.declared.Answer.{Answer}
 use Rattle.below.proofs.Tests.{length-listed}
-use Rattle.graph.proofs.Places.{length-flat}
+use Rattle.graph.proofs.Fronts.{flat-front}
 use Rattle.representatives.specs.Representative.{mapOf}
-use Rattle.short.specs.Short.{shortHops, shortShape, mapList}
+use Rattle.confluence.specs.Rounds.{marked}
+use Rattle.short.specs.Short.{mapList}
 use Rattle.short.proofs.Images.{short-within}
-use Rattle.quotient.specs.Reduce.{noShape, reduceAnswer, reduction, reduceOf, mapOutput, shortOutput}
+use Rattle.quotient.specs.Reduce.{noShape, markedMap, markedHops, markedShape, reduceAnswer, reduction, reduceOf, mapOutput, shortOutput}
 use Rattle.quotient.specs.declared.Reduction.{Reduction}
 use Rattle.quotient.proofs.Answering.{reduce-reducible, reduce-map-room, reduce-short-room, accepted-returns, accepted-map, accepted-short}
 use Rattle.bisimulation.specs.declared.Audit.{Audit}
@@ -32,7 +33,7 @@ module _ (sh : Shape) (hs map short : List ℕ) where
   unfolding reduceOf
   answers = go (eqb (answer .number) 0) where
     go : (x : Bool) →
-        cond {A = Reduction} x (record { answer = answer; shape = shortShape sh hs; hops = length (shortHops sh hs) })
+        cond {A = Reduction} x (record { answer = answer; shape = markedShape sh hs; hops = length (markedHops sh hs) })
         (record { answer = answer; shape = noShape; hops = 0 }) .answer ≡ answer
     go true = refl
     go false = refl
@@ -44,14 +45,12 @@ module _ (sh : Shape) (hs map short : List ℕ) where
     figures : reduction sh hs accepted ≡ reduceOf sh hs (length map) (length short)
     figures = accepted-returns sh hs map short refl zero
 
-    front-map : take (sh .states) (mapOutput sh hs map short) ≡ mapList sh hs
+    front-map : take (sh .states) (mapOutput sh hs map short) ≡ markedMap sh hs
     unfolding mapList
-    front-map = rw (← accepted-map sh hs map short refl zero) (take-at (mapList sh hs) _ (sh .states) (length-listed (mapOf sh hs) (sh .states)))
+    front-map = rw (← accepted-map sh hs map short refl zero) (take-at (markedMap sh hs) _ (sh .states) (length-listed (mapOf sh hs (marked hs)) (sh .states)))
 
-    front-short : between (shortOutput sh hs map short) 0 (length (shortHops sh hs)) ≡ flat (shortHops sh hs)
-    front-short =
-        rw (← accepted-short sh hs map short refl zero)
-        (take-at (flat (shortHops sh hs)) _ (3 * length (shortHops sh hs) - 3 * 0) (omega (arith, length-flat (shortHops sh hs))))
+    front-short : between (shortOutput sh hs map short) 0 (length (markedHops sh hs)) ≡ flat (markedHops sh hs)
+    front-short = rw (← accepted-short sh hs map short refl zero) (flat-front (markedHops sh hs) _ refl)
 
     -- demand 3: the audit of what an accepted `reduce` left, whatever the outputs held before, accepts and finds no fault
     pub left-right : auditLeft sh hs (reduceOf sh hs (length map) (length short)) (mapOutput sh hs map short) (shortOutput sh hs map short) ≡ faultless
@@ -69,7 +68,7 @@ module _ (sh : Shape) (hs map short : List ℕ) where
 
     pub short-there : red .hops ≤ count short
     short-there =
-        let few : length (shortHops sh hs) ≤ count hs = short-within sh hs in
+        let few : length (markedHops sh hs) ≤ count hs = short-within sh hs (marked hs) in
         let room : length hs ≤ length short = reduce-short-room sh hs (length map) (length short) (zero accepts) in
         rw (e, ← figures accepts) (omega arith)
 

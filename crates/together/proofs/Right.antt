@@ -6,49 +6,52 @@ use mathlib.Core.List.{List}
 use Rattle.graph.specs.Hops.{flat}
 use Rattle.graph.specs.declared.Shape.{Shape}
 use Rattle.below.proofs.Tests.{length-listed, getD-listed}
+use Rattle.confluence.specs.Rounds.{marked}
 use Rattle.representatives.specs.Representative.{mapOf}
 use Rattle.representatives.specs.Tables.{Reducible}
-use Rattle.short.specs.Short.{shortHops, shortShape, mapList}
-use Rattle.short.proofs.Reduced.{map-inside, short-admitted, short-reduces}
+use Rattle.short.specs.Short.{shortShape, mapList}
+use Rattle.quotient.specs.Reduce.{markedMap, markedHops, markedShape}
+use Rattle.quotient.proofs.Reduced.{map-inside, short-admitted, short-reduces}
 use Rattle.graph.specs.Map.{mapped}
 use Rattle.faults.specs.Faults.{faultsOf}
 use Rattle.bisimulation.specs.Bisimulation.{BranchingBisimulation, MapRelation, JoinsInitial}
 use Rattle.bisimulation.specs.Auditing.{auditOf}
 use Rattle.bisimulation.proofs.Meaning.{zero-means, reduces-zero}
-use Rattle.bisimulation.proofs.Answering.{Audited, audited-answer, audit-counts}
+use Rattle.fitting.proofs.Fits.{Audited, audited-answer}
+use Rattle.bisimulation.proofs.Answering.{audit-counts}
 use Rattle.together.specs.Together.{faultless}
 
 module _ {sh : Shape} {hs : List ℕ} (red : Reducible sh hs) where
-  list-maps : (s : ℕ) → s < sh .states → mapped (mapList sh hs) s ≡ mapOf sh hs s
+  list-maps : (s : ℕ) → s < sh .states → mapped (markedMap sh hs) s ≡ mapOf sh hs (marked hs) s
   unfolding mapList
-  list-maps s l = getD-listed (mapOf sh hs) (sh .states) l
+  list-maps s l = getD-listed (mapOf sh hs (marked hs)) (sh .states) l
 
-  reduced-audited : Audited sh (shortShape sh hs) hs (flat (shortHops sh hs)) (mapList sh hs)
+  reduced-audited : Audited sh (markedShape sh hs) hs (flat (markedHops sh hs)) (markedMap sh hs)
   unfolding mapList shortShape
   reduced-audited = record {
     first = red .admitted;
     second = short-admitted red;
     labels = refl;
-    map = record { one-a-state = length-listed (mapOf sh hs) (sh .states); entries-in = λ s l. rw (list-maps s l) (map-inside red s l) };
+    map = record { one-a-state = length-listed (mapOf sh hs (marked hs)) (sh .states); entries-in = λ s l. rw (list-maps s l) (map-inside red s l) };
   }
 
   -- the audit's count of what `reduce` makes is 0
-  pub reduced-zero : faultsOf sh (shortShape sh hs) hs (flat (shortHops sh hs)) (mapList sh hs) ≡ 0
+  pub reduced-zero : faultsOf sh (markedShape sh hs) hs (flat (markedHops sh hs)) (markedMap sh hs) ≡ 0
   unfolding shortShape
   reduced-zero =
-      reduces-zero sh (shortShape sh hs) hs (flat (shortHops sh hs)) (mapList sh hs) (red .admitted .range) (short-reduces red) list-maps joins where
-        joins : mapped (mapList sh hs) (sh .initial) ≡ shortShape sh hs .initial
+      reduces-zero sh (markedShape sh hs) hs (flat (markedHops sh hs)) (markedMap sh hs) (red .admitted .range) (short-reduces red) list-maps joins where
+        joins : mapped (markedMap sh hs) (sh .initial) ≡ markedShape sh hs .initial
         joins = list-maps (sh .initial) (red .admitted .initial-in)
 
   -- the audit accepts what `reduce` makes, and finds no fault
-  pub reduce-right : auditOf sh (shortShape sh hs) hs (flat (shortHops sh hs)) (mapList sh hs) ≡ faultless
+  pub reduce-right : auditOf sh (markedShape sh hs) hs (flat (markedHops sh hs)) (markedMap sh hs) ≡ faultless
   reduce-right =
-      sym (audit-counts sh (shortShape sh hs) hs (flat (shortHops sh hs)) (mapList sh hs)
-      (sym (audited-answer sh (shortShape sh hs) hs (flat (shortHops sh hs)) (mapList sh hs) reduced-audited)) refl (sym reduced-zero))
+      sym (audit-counts sh (markedShape sh hs) hs (flat (markedHops sh hs)) (markedMap sh hs)
+      (sym (audited-answer sh (markedShape sh hs) hs (flat (markedHops sh hs)) (markedMap sh hs) reduced-audited)) refl (sym reduced-zero))
 
   -- so the map is one of Definition 2.4
   pub reduce-bisimulation :
-      BranchingBisimulation sh (shortShape sh hs) hs (flat (shortHops sh hs)) (MapRelation sh (mapList sh hs)) ×
-      JoinsInitial sh (shortShape sh hs) (MapRelation sh (mapList sh hs))
+      BranchingBisimulation sh (markedShape sh hs) hs (flat (markedHops sh hs)) (MapRelation sh (markedMap sh hs)) ×
+      JoinsInitial sh (markedShape sh hs) (MapRelation sh (markedMap sh hs))
   reduce-bisimulation =
-      zero-means sh (shortShape sh hs) hs (flat (shortHops sh hs)) (mapList sh hs) (reduced-audited .first) (reduced-audited .second) (reduced-audited .map) .0 reduced-zero
+      zero-means sh (markedShape sh hs) hs (flat (markedHops sh hs)) (markedMap sh hs) (reduced-audited .first) (reduced-audited .second) (reduced-audited .map) .0 reduced-zero

@@ -1,1 +1,1 @@
-pub mod Together
+pub mod Together  -- the audit of what an accepted reduce left

@@ -1,4 +1,6 @@
-// Reduce and audit together: demand 3 as one function, whose contract says that the audit of what an accepted `reduce` left finds no fault.
+// Reduce and audit together: demand 3 as one function, whose contract says that the audit of what an accepted `reduce` left finds no fault, whatever the
+// outputs held before. It is the house's proof that reducing is right, in words that the audit alone defines; nobody need call it. It stands on quotient
+// and on the audit.
 use bisimulation::Audit;
 use bisimulation::auditing::audit;
 use graph::Shape;
@@ -26,7 +28,9 @@ fn audit_reduction(
     map: &[u16],
     short: &[u16],
 ) -> Audit
-    requires { ⌜ reduction .answer .number ≡ 0 ⌝ ∗ ⌜ shape .states ≤ length (now map) ⌝ ∗ ⌜ reduction .hops ≤ count (now short) ⌝ }
+    requires accepted { ⌜ reduction .answer .number ≡ 0 ⌝ }
+    requires map_there { ⌜ shape .states ≤ length (now map) ⌝ }
+    requires short_there { ⌜ reduction .hops ≤ count (now short) ⌝ }
     ensures { λ r. ⌜ r ≡ auditLeft shape (now (hops .entry)) reduction (now (map .entry)) (now (short .entry)) ⌝ }
 {
     let states = shape.states as usize;

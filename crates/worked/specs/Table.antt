@@ -6,22 +6,22 @@ use mathlib.Core.List.{List, [], _∷_, map}
 use lib.ListN.{length}
 use lib.Dec.{eqb}
 use Rattle.below.specs.Tests.{least, listed}
-use Rattle.graph.specs.Hops.{count, from, label, to, flat}
+use Rattle.graph.specs.Hops.{count, from, label, to, hopOf, flat}
 use Rattle.graph.specs.Answers.{accepted, refused}
 use Rattle.graph.specs.declared.Hop.{Hop}
 use Rattle.graph.specs.declared.Shape.{Shape}
 use Rattle.graph.specs.declared.Answer.{Answer}
-use Rattle.confluence.specs.Rounds.{survives}
-use Rattle.marks.specs.Mark.{marksOf, markAnswer}
-use Rattle.short.specs.Short.{mapList, shortHops}
-use Rattle.quotient.specs.Reduce.{reduceOf}
+use Rattle.confluence.specs.Rounds.{survives, marked}
+use Rattle.confluence.specs.Held.{marksOf}
+use Rattle.marks.specs.Mark.{markAnswer}
+use Rattle.quotient.specs.Reduce.{markedMap, markedHops, reduceOf}
 use Rattle.quotient.specs.declared.Reduction.{Reduction}
 use Rattle.bisimulation.specs.Auditing.{auditOf}
 use Rattle.bisimulation.specs.declared.Audit.{Audit}
 
 -- a hop as document 01 writes it; a state count, a label count and an initial state, and the same with initial state 0
 abbrev pub hop : ℕ → ℕ → ℕ → Hop
-hop s a t = record { from = s; label = a; to = t }
+hop s a t = hopOf s a t
 
 abbrev pub shapeFrom : ℕ → ℕ → ℕ → Shape
 shapeFrom n l i = record { states = n; labels = l; initial = i }
@@ -72,10 +72,10 @@ outcomeOf sh hs =
     (record {
       answer = markAnswer sh hs hs;
       reduced = reduceOf sh hs (sh .states) (length hs);
-      marks = marksOf hs;
+      marks = marksOf hs (marked hs);
       falls = listed (count hs) (fallsIn hs);
-      map = mapList sh hs;
-      short = shortHops sh hs;
+      map = markedMap sh hs;
+      short = markedHops sh hs;
     })
     (record { answer = markAnswer sh hs hs; reduced = reduceOf sh hs (sh .states) (length hs); marks = []; falls = []; map = []; short = [] })
 

@@ -2,9 +2,9 @@
 // runs the graphs at the limits, and bad input, through `check` and prints what it answers.
 use graph::Answer;
 use graph::Shape;
-use limits::check;
 use io::print_decimal;
 use libc::STDOUT_FILENO;
+use limits::check;
 
 fn print_answer(a: Answer) {
     print_decimal(STDOUT_FILENO, a.number as u64);

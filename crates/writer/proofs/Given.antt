@@ -6,7 +6,8 @@ use mathlib.Core.Logic.{inl}
 use native.Mathlib.Omega.{arith}
 use borrow.Author.Tests.{lt-ltb, le-ltb, lt-leb, le-leb, eq-eqb, ne-eqb}
 use lib.ListN.{length}
-use Rattle.graph.specs.Answers.{accepted, refused, roomFor}
+use Rattle.graph.specs.Hops.{count}
+use Rattle.graph.specs.Answers.{most-labels, most-hops, accepted, refused, roomFor}
 use Rattle.limits.specs.Check.{checkOf, Admitted}
 use Rattle.graph.specs.declared.Shape.{Shape}
 use Rattle.graph.specs.declared.Answer.{Answer}
@@ -15,8 +16,8 @@ use Rattle.graph.proofs.Accepts.{both-accept, second-accepts, room-accepts}
 use Rattle.names.specs.Block.{nameAt, firstBad, Searchable}
 use Rattle.names.proofs.Blocks.{name-less, name-least}
 use Rattle.outputs.specs.Output.{onFront}
-use Rattle.writer.specs.Encode.{encode}
-use Rattle.writer.specs.Write.{blockAnswer, namesGiven, graphAnswer, writeAnswer, nothingWritten, writeOf, writeBytes, Writable}
+use Rattle.encoding.specs.Encode.{encode, Writable}
+use Rattle.writer.specs.Write.{blockAnswer, namesGiven, givenAnswer, writeAnswer, nothingWritten, writeOf, writeBytes}
 use Rattle.writer.specs.declared.Written.{Written}
 
 -- row 14
@@ -30,7 +31,7 @@ module _ (ns : List ℕ) (n : ℕ) {end : ℕ} (e : end ≡ nameAt ns n) where
     unfolding blockAnswer
     block-left m = rw (← e, le-ltb _ _ l, lt-ltb _ _ m)
 
-    pub block-searchable : n ≤ 1023 → {places : ℕ} → n ≤ places → Searchable ns n places
+    pub block-searchable : n < most-labels → {places : ℕ} → n ≤ places → Searchable ns n places
     block-searchable f g = record { whole = rw (← e) l; room = inl (g, omega arith) }
 
     module _ (m : length ns ≤ end) {bad : ℕ} (d : bad ≡ nameAt ns (firstBad ns n)) where
@@ -45,38 +46,38 @@ module _ (ns : List ℕ) (n : ℕ) {end : ℕ} (e : end ≡ nameAt ns n) where
 module _ (sh : Shape) (hs ns : List ℕ) where
   -- rows 1 to 4, then 14
   module _ {a : Answer} (e : a ≡ checkOf sh hs) where
-    pub graph-refused : (a .number ≡ 0 → ⊥) → a ≡ graphAnswer sh hs ns
-    unfolding graphAnswer
+    pub graph-refused : (a .number ≡ 0 → ⊥) → a ≡ givenAnswer sh hs ns
+    unfolding givenAnswer
     graph-refused n = rw (← e, ne-eqb _ _ n)
 
     module _ (z : a .number ≡ 0) where
       admitted : Admitted sh hs
       admitted = check-admitted sh hs (ap (λ (x : Answer). x .number) (sym e) ∙ z)
 
-      pub graph-labels : (1 ≤ sh .labels) × (sh .labels ≤ 1024)
+      pub graph-labels : (1 ≤ sh .labels) × (sh .labels ≤ most-labels)
       graph-labels = (admitted .labels-some, admitted .labels-most)
 
-      pub graph-bare : length ns ≡ 0 → a ≡ graphAnswer sh hs ns
-      unfolding graphAnswer namesGiven
+      pub graph-bare : length ns ≡ 0 → a ≡ givenAnswer sh hs ns
+      unfolding givenAnswer namesGiven
       graph-bare d = rw (← e, eq-eqb _ _ z, eq-eqb _ _ d) (e ∙ admitted-check sh hs admitted)
 
-      pub graph-named : (length ns ≡ 0 → ⊥) → {r : Answer} → r ≡ blockAnswer ns (sh .labels - 1) → r ≡ graphAnswer sh hs ns
-      unfolding graphAnswer namesGiven
+      pub graph-named : (length ns ≡ 0 → ⊥) → {r : Answer} → r ≡ blockAnswer ns (sh .labels - 1) → r ≡ givenAnswer sh hs ns
+      unfolding givenAnswer namesGiven
       graph-named n d = rw (← e, eq-eqb _ _ z, ne-eqb _ _ n) d
 
   -- then 6
-  module _ (room : ℕ) {a : Answer} (e : a ≡ graphAnswer sh hs ns) where
-    pub graph-speaks : (a .number ≡ 0 → ⊥) → a ≡ writeAnswer sh hs ns room
+  module _ (room : ℕ) {a : Answer} (e : a ≡ givenAnswer sh hs ns) where
+    pub given-speaks : (a .number ≡ 0 → ⊥) → a ≡ writeAnswer sh hs ns room
     unfolding writeAnswer
-    graph-speaks n = rw (← e, ne-eqb _ _ n)
+    given-speaks n = rw (← e, ne-eqb _ _ n)
 
     module _ (z : a .number ≡ 0) where
-      pub graph-admitted : Admitted sh hs
-      unfolding graphAnswer
-      graph-admitted = check-admitted sh hs (both-accept (checkOf sh hs) (namesGiven sh ns) (ap (λ (x : Answer). x .number) (sym e) ∙ z) .0)
+      pub given-admitted : Admitted sh hs
+      unfolding givenAnswer
+      given-admitted = check-admitted sh hs (both-accept (checkOf sh hs) (namesGiven sh ns) (ap (λ (x : Answer). x .number) (sym e) ∙ z) .0)
 
-      pub hops-most-numbers : length hs ≤ 12288
-      hops-most-numbers = omega (arith, graph-admitted .hops-most, graph-admitted .three-a-hop)
+      pub given-few : count hs ≤ most-hops
+      given-few = given-admitted .hops-most
 
       module _ {n : ℕ} (d : n ≡ length (encode sh hs ns)) where
         pub room-speaks : room < n → refused 6 0 ≡ writeAnswer sh hs ns room
@@ -89,21 +90,21 @@ module _ (sh : Shape) (hs ns : List ℕ) where
 
         pub writable : n ≤ room → Writable sh hs ns room
         writable l = record {
-          states-fit = omega (arith, graph-admitted .states-most);
-          labels-fit = omega (arith, graph-admitted .labels-most);
-          initial-fits = omega (arith, graph-admitted .states-most, graph-admitted .initial-in);
-          hops-fit = hops-most-numbers;
+          states-fit = omega (arith, given-admitted .states-most);
+          labels-fit = omega (arith, given-admitted .labels-most);
+          initial-fits = omega (arith, given-admitted .states-most, given-admitted .initial-in);
+          hops-fit = given-few;
           fits = rw (← d) l;
         }
 
   -- what acceptance says
   pub write-accepts : (room : ℕ) → writeAnswer sh hs ns room .number ≡ 0 →
-      (writeAnswer sh hs ns room ≡ accepted) × (graphAnswer sh hs ns .number ≡ 0) × (length (encode sh hs ns) ≤ room)
+      (writeAnswer sh hs ns room ≡ accepted) × (givenAnswer sh hs ns .number ≡ 0) × (length (encode sh hs ns) ≤ room)
   unfolding writeAnswer
   write-accepts room z =
-      let (g, r) = both-accept (graphAnswer sh hs ns) (roomFor (length (encode sh hs ns)) room) z in
+      let (g, r) = both-accept (givenAnswer sh hs ns) (roomFor (length (encode sh hs ns)) room) z in
       let (a, l) = room-accepts (length (encode sh hs ns)) room r in
-      (second-accepts (graphAnswer sh hs ns) _ z ∙ a, g, l)
+      (second-accepts (givenAnswer sh hs ns) _ z ∙ a, g, l)
 
   -- what a refusal and an acceptance give and write
   module _ (old : List ℕ) where
@@ -112,7 +113,9 @@ module _ (sh : Shape) (hs ns : List ℕ) where
     unfolding writeOf writeBytes
     refused-writes e n = (rw (← e, ne-eqb _ _ n), rw (← e, ne-eqb _ _ n))
 
-    pub accepted-writes : {a : Answer} {n : ℕ} → a ≡ accepted → n ≡ length (encode sh hs ns) → accepted ≡ writeAnswer sh hs ns (length old) →
-        (_≡_ {A = Written} (record { answer = a; length = n }) (writeOf sh hs ns (length old))) × (onFront (encode sh hs ns) old ≡ writeBytes sh hs ns old)
+    pub accepted-writes : {a : Answer} {n : ℕ} {out : List ℕ} → a ≡ writeAnswer sh hs ns (length old) → a .number ≡ 0 → n ≡ length (encode sh hs ns) → out ≡ onFront (encode sh hs ns) old →
+        (_≡_ {A = Written} (record { answer = a; length = n }) (writeOf sh hs ns (length old))) × (out ≡ writeBytes sh hs ns old)
     unfolding writeOf writeBytes
-    accepted-writes x y e = (rw (x, y, ← e), rw (← e))
+    accepted-writes {a = a} e z d f =
+        let y : accepted ≡ writeAnswer sh hs ns (length old) = sym (write-accepts (length old) (ap (λ (x : Answer). x .number) (sym e) ∙ z) .0) in
+        (rw (e ∙ sym y, d, ← y), f ∙ rw (← y))

@@ -1,2 +1,1 @@
-pub mod Encoded
-pub mod Given
+pub mod Given  -- the ways out of writing, and what acceptance says

@@ -1,2 +1,1 @@
-pub mod Encode
-pub mod Write
+pub mod Write  -- what writing a file answers, gives and writes

@@ -1,5 +1,5 @@
 -- What writing a file answers and writes. Assumes nothing: these are definitions.
-use Prim.Native.Nat.{ℕ, _-_, _<_, _≤_}
+use Prim.Native.Nat.{ℕ, _-_}
 use mathlib.Core.Bool.{cond}
 use mathlib.Core.List.{List}
 use lib.ListN.{length}
@@ -9,8 +9,8 @@ use Rattle.limits.specs.Check.{checkOf}
 use Rattle.graph.specs.declared.Shape.{Shape}
 use Rattle.graph.specs.declared.Answer.{Answer}
 use Rattle.names.specs.Block.{nameAt, firstBad}
-use Rattle.outputs.specs.Output.{onFront}
-use Rattle.writer.specs.Encode.{encode}
+use Rattle.outputs.specs.Output.{written}
+use Rattle.encoding.specs.Encode.{encode}
 use Rattle.writer.specs.declared.Written.{Written}
 
 -- row 14, of a block of n names: "block ending early: its length; bytes left: the first of them; these two speak before any fault in a name"
@@ -25,12 +25,12 @@ blockAnswer ns n =
 unfoldable pub namesGiven : Shape → List ℕ → Answer
 namesGiven sh ns = cond (eqb (length ns) 0) accepted (blockAnswer ns (sh .labels - 1))
 
--- "writing checks 1 to 4, 14, 6"
-unfoldable pub graphAnswer : Shape → List ℕ → List ℕ → Answer
-graphAnswer sh hs ns = andThen (checkOf sh hs) (namesGiven sh ns)
+-- "writing checks 1 to 4, 14, 6": what is said of the graph and the block as they are given, and then of the room
+unfoldable pub givenAnswer : Shape → List ℕ → List ℕ → Answer
+givenAnswer sh hs ns = andThen (checkOf sh hs) (namesGiven sh ns)
 
 unfoldable pub writeAnswer : Shape → List ℕ → List ℕ → ℕ → Answer
-writeAnswer sh hs ns room = andThen (graphAnswer sh hs ns) (roomFor (length (encode sh hs ns)) room)
+writeAnswer sh hs ns room = andThen (givenAnswer sh hs ns) (roomFor (length (encode sh hs ns)) room)
 
 -- "with any number but 0 every other figure in the answer is 0"
 abbrev pub nothingWritten : Answer → Written
@@ -38,16 +38,9 @@ nothingWritten a = record { answer = a; length = 0 }
 
 unfoldable pub writeOf : Shape → List ℕ → List ℕ → ℕ → Written
 writeOf sh hs ns room =
-    cond (eqb (writeAnswer sh hs ns room .number) 0) (record { answer = accepted; length = length (encode sh hs ns) }) (nothingWritten (writeAnswer sh hs ns room))
+    cond (eqb (writeAnswer sh hs ns room .number) 0) (record { answer = accepted; length = length (encode sh hs ns) })
+    (nothingWritten (writeAnswer sh hs ns room))
 
 -- "A refusal leaves all lent elements untouched"; "Acceptance writes the named elements and none past them"
 unfoldable pub writeBytes : Shape → List ℕ → List ℕ → List ℕ → List ℕ
-writeBytes sh hs ns old = cond (eqb (writeAnswer sh hs ns (length old) .number) 0) (onFront (encode sh hs ns) old) old
-
--- what putting a file asks: its numbers are 16-bit, and the output has room
-pub record Writable (sh : Shape) (hs ns : List ℕ) (room : ℕ) : Type 0 where
-  pub states-fit : sh .states < 65536
-  pub labels-fit : sh .labels < 65536
-  pub initial-fits : sh .initial < 65536
-  pub hops-fit : length hs ≤ 12288
-  pub fits : length (encode sh hs ns) ≤ room
+writeBytes sh hs ns old = written (writeAnswer sh hs ns (length old) .number) (encode sh hs ns) old

@@ -4,6 +4,7 @@
 use libc::STDERR_FILENO;
 use libc::STDIN_FILENO;
 use libc::STDOUT_FILENO;
+use report::print::MOST_TEXT;
 use report::print::print_file;
 ghost use Rattle.io.specs.Counts.{Counts};
 
@@ -51,7 +52,7 @@ fn main() {
         return;
     }
     let n = input.taken;
-    let mut out = [0u8; 196608];
+    let mut out = [0u8; MOST_TEXT];
     let length = print_file(&file[..n], &mut out);
     if !io::write_all(STDOUT_FILENO, &out[..length]) {
         io::write_all(

@@ -9,6 +9,9 @@ use Rattle.fields.proofs.hops_place.Tie as tie
 has-initial-requires : tie.Need-has-initial-requires
 has-initial-requires c κs = search needs
 
+add-result : tie.Need-add-result
+add-result c = search needs
+
 returns : tie.Need-returns
 unfolding hopsPlace
 returns c = chosen (c .before .has-initial .ensures) (c .if1 .taken) _ _ refl
@@ -18,4 +21,4 @@ unfolding hopsPlace
 returns-2 c = other (c .before .has-initial .ensures) (c .if1 .left) _ _ refl
 
 pub hops-place-spec : {M : Type 1} → statement M
-hops-place-spec = tie.close (tie.spec has-initial-requires returns returns-2)
+hops-place-spec = tie.close (tie.spec has-initial-requires add-result returns returns-2)

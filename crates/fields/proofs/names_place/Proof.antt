@@ -14,20 +14,14 @@ has-hops-requires c κs = search needs
 hops-in-requires : tie.Need-hops-in-requires
 hops-in-requires c κs = search needs
 
-cast-hops : tie.Need-cast-hops
-cast-hops c = search needs
-
-mul-result : tie.Need-mul-result
-mul-result c = search needs
+field-length-requires : tie.Need-field-length-requires
+field-length-requires c κs = search needs
 
 add-result : tie.Need-add-result
-add-result c = search needs
-
-add-result-2 : tie.Need-add-result-2
-add-result-2 c = omega (arith, c .before .before .before .hops-place .ensures, hops-place-most (c .before .before .before .before .before .args .file .now))
+add-result c = omega (arith, c .before .before .before .before .hops-place .ensures, hops-place-most (c .before .before .before .before .before .before .args .file .now), c .field-length .ensures)
 
 returns : tie.Need-returns
-returns c = place-with-hops _ (c .before .before .before .hops-place .ensures) (c .before .before .has-hops .ensures) (c .before .if1 .taken) (c .hops-in .ensures)
+returns c = place-with-hops _ (c .before .before .before .before .hops-place .ensures) (c .before .before .before .has-hops .ensures) (c .before .before .if1 .taken) (c .before .hops-in .ensures) (c .field-length .ensures)
 
 returns-2 : tie.Need-returns-2
 returns-2 c = place-without _ (c .before .before .hops-place .ensures) (c .before .has-hops .ensures) (c .if1 .left)
@@ -39,9 +33,7 @@ names-place-spec =
     hops-place-requires
     has-hops-requires
     hops-in-requires
-    cast-hops
-    mul-result
+    field-length-requires
     add-result
-    add-result-2
     returns
     returns-2)

@@ -26,13 +26,13 @@ number-place-requires : tie.Need-number-place-requires
 number-place-requires c κs =
     let s = c .before .before .before .before in
     let hs = s .args .hops .now in
-    omega (arith, c .before .before .first-of .ensures, first-past hs (s .pre .0) (s .args .state), past-within hs (s .pre .0) (s .args .state), s .pre .1)
+    omega (arith, c .before .before .first-of .ensures, first-past hs (s .pre .0) (s .args .state), past-within hs (s .pre .0) (s .args .state), s .pre .1 .0)
 
 number-place-requires-2 : tie.Need-number-place-requires-2
 number-place-requires-2 c κs =
     let s = c .before .before .before .before .before in
     let hs = s .args .hops .now in
-    omega (arith, c .before .before .past-of .ensures, past-within hs (s .pre .0) (s .args .state), s .pre .1)
+    omega (arith, c .before .before .past-of .ensures, past-within hs (s .pre .0) (s .args .state), s .pre .1 .0)
 
 sub-t9 : tie.Need-sub-t9
 sub-t9 c =

@@ -14,7 +14,7 @@ choose-requires c κs = search needs
 span-in-requires : tie.Need-span-in-requires
 span-in-requires c κs =
     let t = chosen-shows _ _ _ _ _ _ .0 (sym (c .before .choose .ensures) ∙ c .if1 .taken) in
-    (t .admitted .ascending, t .admitted .hops-most, omega (arith, t .present, t .admitted .states-most))
+    (t .admitted .ascending, (t .admitted .hops-most, omega (arith, t .present, t .admitted .states-most)))
 
 returns : tie.Need-returns
 unfolding spanOf
@@ -23,7 +23,7 @@ returns c = rw (← c .before .before .choose .ensures, eq-eqb _ 1 (c .before .i
 span-in-requires-2 : tie.Need-span-in-requires-2
 span-in-requires-2 c κs =
     let t = chosen-shows _ _ _ _ _ _ .1 (sym (c .before .before .choose .ensures) ∙ c .if2 .taken) in
-    (t .admitted .ascending, t .admitted .hops-most, omega (arith, t .present, t .admitted .states-most))
+    (t .admitted .ascending, (t .admitted .hops-most, omega (arith, t .present, t .admitted .states-most)))
 
 returns-2 : tie.Need-returns-2
 unfolding spanOf

@@ -38,7 +38,7 @@ use denote.Triple.Walked.{says, Stays, stay-none-slice, stay-none, walkOf, goes-
 use denote.Exit.{yes}
 use denote.Struct.Laws as LL
 use Rattle.graph.specs.Hops.{between, flat}
-use Rattle.graph.specs.Answers.{refused}
+use Rattle.graph.specs.Answers.{most-numbers, refused}
 use Rattle.limits.specs.Check.{checkOf}
 use Rattle.graph.specs.declared.Answer.{Answer}
 use Rattle.graph.specs.declared.Shape.{Shape}
@@ -115,8 +115,8 @@ module _ {M : Type 1} (𝓤 : URA M) (H : Heap 𝓤) (A : Atoms 𝓤) (W : Given
   abbrev to-core : List ℕ → Val → Core 𝓤 H A mem run .Ghost
   to-core r u = ((tt, tt, tt, (sh, (r, (n, tt))), (S′.lowered sh ∷ [], (u ∷ [], (vint w64 n ∷ [], tt)))), tt)
 
-  goes-core : (r : List ℕ) (u : Val) → ent 𝓤 (⋆ 𝓤 H A (‵ (Array u16 12288 .own r (u ∷ [])) ∷ ‵ ftrue ∷ [])) (Core 𝓤 H A mem run .pre (to-core r u))
-  goes-core r u = qed W (‵ (Array u16 12288 .own r (u ∷ [])) ∷ ‵ ftrue ∷ []) ∵
+  goes-core : (r : List ℕ) (u : Val) → ent 𝓤 (⋆ 𝓤 H A (‵ (Array u16 most-numbers .own r (u ∷ [])) ∷ ‵ ftrue ∷ [])) (Core 𝓤 H A mem run .pre (to-core r u))
+  goes-core r u = qed W (‵ (Array u16 most-numbers .own r (u ∷ [])) ∷ ‵ ftrue ∷ []) ∵
       nothing ! $ owned ! usize (Is usize) (uint-makes 𝓤 H A W w64) n _ (refl, rooms .0) $ fjoin ! $ move ! (1 ∷ 0 ∷ []) $ fjoin ! $ owned ! S.the-row (Is S.the-row) (LL.makes S.the-type S′.the-plain 𝓤 H A) sh _ is-sh $ fjoin ! $ move ! (1 ∷ 0 ∷ []) $ join ! $ frame ! $ done !
 
   said-core : (r : List ℕ) (m : Answer) → ent 𝓤 (ensured 𝓤 H A core.ended (core.clauses 𝓤 H A mem run) tt (sh, (r, (n, tt))) tt m) (fact 𝓤 (Said r m))
@@ -134,10 +134,10 @@ module _ {M : Type 1} (𝓤 : URA M) (H : Heap 𝓤) (A : Atoms 𝓤) (W : Given
         move ! (11 ∷ []) $ fsplit ! $ move ! (1 ∷ []) $ fsplit ! $ use1 W (‵ Own ⊛ ‵ Own) (shr-slice-copy 𝓤 H A W (named 0) κ T.the-row .twice x (v ∷ [])) $ split ! $
         move ! (14 ∷ []) $ split ! $ nothing ! $ move ! (1 ∷ 0 ∷ []) $ join ! $ move ! (0 ∷ 2 ∷ []) $ use2 W (raw (FlatOf 𝓤 H A mem run .pre to)) (goes-flat-of 𝓤 H A mem run κ q b o γ ys W) $
         calls-at ! fm (FlatOf 𝓤 H A mem run) known-flat-of to (and-then ! (load ! (from ! (stop !)) (look ! 9 refl)) (no-more !)) (λ u.
-        use1 W (later (some (λ (r : List ℕ). ((‵ (flft κ q) ⊛ ‵ ftrue) ⊛ ‵ (Array u16 12288 .own r (u ∷ []))) ⊛ raw (ensured 𝓤 H A flat-of.ended (flat-of.clauses 𝓤 H A mem run) (κ, tt) (x, tt) tt r)))) (id⊢ 𝓤 _) $ await ! tt $ pick ! (λ r.
+        use1 W (later (some (λ (r : List ℕ). ((‵ (flft κ q) ⊛ ‵ ftrue) ⊛ ‵ (Array u16 most-numbers .own r (u ∷ []))) ⊛ raw (ensured 𝓤 H A flat-of.ended (flat-of.clauses 𝓤 H A mem run) (κ, tt) (x, tt) tt r)))) (id⊢ 𝓤 _) $ await ! tt $ pick ! (λ r.
         split ! $ move ! (1 ∷ []) $ use1 W (raw (fact 𝓤 (Flattened ys r))) (said-flat-of 𝓤 H A mem run κ q b o γ ys r) $ heard ! (Flattened ys r) (λ e. split ! $ move ! (1 ∷ []) $
-        peeks ! (Array u16 12288) (Is (Array u16 12288)) (shows 𝓤 H A (Array u16 12288)) r (u ∷ []) (λ is.
-        land ! (from ! (stop !)) (init ! 6 refl (array-lawful 𝓤 H A W u16 (uint-lawful 𝓤 H A W w16) 12288 .typed r _ is .0)) $
+        peeks ! (Array u16 most-numbers) (Is (Array u16 most-numbers)) (shows 𝓤 H A (Array u16 most-numbers)) r (u ∷ []) (λ is.
+        land ! (from ! (stop !)) (init ! 6 refl (array-lawful 𝓤 H A W u16 (uint-lawful 𝓤 H A W w16) most-numbers .typed r _ is .0)) $
         move ! (0 ∷ 2 ∷ []) $ use2 W (raw (Core 𝓤 H A mem run .pre (to-core r u))) (goes-core r u) $
         calls-at ! fm (Core 𝓤 H A mem run) known-core (to-core r u) (and-then ! (load ! (from ! (stop !)) (look ! 11 refl)) (and-then ! (load ! (from ! (stop !)) (look ! 5 refl)) (and-then ! (load ! (from ! (stop !)) (look ! 7 refl)) (no-more !)))) (λ w.
         use1 W (later (some (λ (m : Answer). (‵ ftrue ⊛ ‵ (R.the-row .own m (w ∷ []))) ⊛ raw (ensured 𝓤 H A core.ended (core.clauses 𝓤 H A mem run) tt (sh, (r, (n, tt))) tt m)))) (id⊢ 𝓤 _) $ await ! tt $ pick ! (λ m.

@@ -38,7 +38,7 @@ use denote.Triple.Walked.{says, Stays, stay-none-slice, stay-none, gave-slice, w
 use denote.Exit.{yes}
 use denote.Struct.Laws as LL
 use Rattle.graph.specs.Hops.{between, flat}
-use Rattle.graph.specs.Answers.{refused}
+use Rattle.graph.specs.Answers.{most-numbers, refused}
 use Rattle.graph.specs.declared.Answer.{Answer}
 use Rattle.graph.specs.declared.Shape.{Shape}
 use Rattle.graph.specs.declared.Hop.{Hop}
@@ -125,8 +125,8 @@ module _ {M : Type 1} (𝓤 : URA M) (H : Heap 𝓤) (A : Atoms 𝓤) (W : Given
   abbrev to-core : List ℕ → Val → Core 𝓤 H A mem run .Ghost
   to-core r u = (((κ₂, tt), (q₂, tt), tt, (sh, (r, (n, (y₂, tt)))), (S′.lowered sh ∷ [], (u ∷ [], (vint w64 n ∷ [], (s₂ ∷ [], tt))))), tt)
 
-  goes-core : (r : List ℕ) (u : Val) → ent 𝓤 (⋆ 𝓤 H A (‵ (Array u16 12288 .own r (u ∷ [])) ∷ (‵ (flft κ₂ q₂) ⊛ ‵ ftrue) ∷ ‵ Own₂ ∷ [])) (Core 𝓤 H A mem run .pre (to-core r u))
-  goes-core r u = qed W (‵ (Array u16 12288 .own r (u ∷ [])) ∷ (‵ (flft κ₂ q₂) ⊛ ‵ ftrue) ∷ ‵ Own₂ ∷ []) ∵
+  goes-core : (r : List ℕ) (u : Val) → ent 𝓤 (⋆ 𝓤 H A (‵ (Array u16 most-numbers .own r (u ∷ [])) ∷ (‵ (flft κ₂ q₂) ⊛ ‵ ftrue) ∷ ‵ Own₂ ∷ [])) (Core 𝓤 H A mem run .pre (to-core r u))
+  goes-core r u = qed W (‵ (Array u16 most-numbers .own r (u ∷ [])) ∷ (‵ (flft κ₂ q₂) ⊛ ‵ ftrue) ∷ ‵ Own₂ ∷ []) ∵
       nothing ! $ move ! (3 ∷ 0 ∷ []) $ fjoin ! $ owned ! usize (Is usize) (uint-makes 𝓤 H A W w64) n _ (refl, rooms .0) $ fjoin ! $ move ! (1 ∷ 0 ∷ []) $ fjoin ! $ owned ! S.the-row (Is S.the-row) (LL.makes S.the-type S′.the-plain 𝓤 H A) sh _ is-sh $ fjoin ! $ move ! (1 ∷ 0 ∷ []) $ join ! $ frame ! $ done !
 
   module _ (C : Calls 𝓤 H) (Λ : Loops 𝓤 H) (fm : FmC 𝓤 H (W .laws) C) (known-flat-of : Triple 𝓤 (C #records·flat-of) (FlatOf 𝓤 H A mem run)) (known-core : Triple 𝓤 (C #records·mark-of) (Core 𝓤 H A mem run)) where
@@ -141,10 +141,10 @@ module _ {M : Type 1} (𝓤 : URA M) (H : Heap 𝓤) (A : Atoms 𝓤) (W : Given
         move ! (17 ∷ []) $ fsplit ! $ move ! (1 ∷ []) $ fsplit ! $ use1 W (‵ Own ⊛ ‵ Own) (shr-slice-copy 𝓤 H A W (named 0) κ T.the-row .twice x (v ∷ [])) $ split ! $ move ! (2 ∷ []) $ fsplit ! $
         move ! (21 ∷ []) $ split ! $ nothing ! $ move ! (1 ∷ 0 ∷ []) $ join ! $ move ! (0 ∷ 4 ∷ []) $ use2 W (raw (FlatOf 𝓤 H A mem run .pre to)) (goes-flat-of 𝓤 H A mem run κ q b o γ ys W) $
         calls-at ! fm (FlatOf 𝓤 H A mem run) known-flat-of to (and-then ! (load ! (from ! (stop !)) (look ! 16 refl)) (no-more !)) (λ u.
-        use1 W (later (some (λ (r : List ℕ). ((‵ (flft κ q) ⊛ ‵ ftrue) ⊛ ‵ (Array u16 12288 .own r (u ∷ []))) ⊛ raw (ensured 𝓤 H A flat-of.ended (flat-of.clauses 𝓤 H A mem run) (κ, tt) (x, tt) tt r)))) (id⊢ 𝓤 _) $ await ! tt $ pick ! (λ r.
+        use1 W (later (some (λ (r : List ℕ). ((‵ (flft κ q) ⊛ ‵ ftrue) ⊛ ‵ (Array u16 most-numbers .own r (u ∷ []))) ⊛ raw (ensured 𝓤 H A flat-of.ended (flat-of.clauses 𝓤 H A mem run) (κ, tt) (x, tt) tt r)))) (id⊢ 𝓤 _) $ await ! tt $ pick ! (λ r.
         split ! $ move ! (1 ∷ []) $ use1 W (raw (fact 𝓤 (Flattened ys r))) (said-flat-of 𝓤 H A mem run κ q b o γ ys r) $ heard ! (Flattened ys r) (λ e. split ! $ move ! (1 ∷ []) $
-        peeks ! (Array u16 12288) (Is (Array u16 12288)) (shows 𝓤 H A (Array u16 12288)) r (u ∷ []) (λ is.
-        land ! (from ! (stop !)) (init ! 11 refl (array-lawful 𝓤 H A W u16 (uint-lawful 𝓤 H A W w16) 12288 .typed r _ is .0)) $
+        peeks ! (Array u16 most-numbers) (Is (Array u16 most-numbers)) (shows 𝓤 H A (Array u16 most-numbers)) r (u ∷ []) (λ is.
+        land ! (from ! (stop !)) (init ! 11 refl (array-lawful 𝓤 H A W u16 (uint-lawful 𝓤 H A W w16) most-numbers .typed r _ is .0)) $
         assigns ! (addr ! (from ! (fld ! refl (hop ! (look-in ! 15 (sub ! 0 refl (whole !))) (stop !))))) (from ! (stop !)) (init ! 9 refl (tt, tt)) $
         assigns ! (agg ! (and-then ! (load ! (from ! (stop !)) (look ! 9 refl)) (and-then ! (load ! (from ! (fld ! refl (stop !))) (look-in ! 15 (sub ! 1 refl (whole !)))) (no-more !)))) (from ! (stop !)) (init ! 7 refl (tt, (tt, (record { fits = room₂ .0 }, tt)))) $
         move ! (0 ∷ 2 ∷ 3 ∷ []) $ use3 W (raw (Core 𝓤 H A mem run .pre (to-core r u))) (goes-core r u) $

@@ -24,19 +24,26 @@ new-to-at-requires c κs = search needs
 cast-to : tie.Need-cast-to
 cast-to c = search needs
 
-slice-aggregate-put-line3 : tie.Need-slice-aggregate-put-line3
-slice-aggregate-put-line3 c = search needs
+slice-aggregate-put-line : tie.Need-slice-aggregate-put-line
+slice-aggregate-put-line c = search needs
 
-put-line3-requires : tie.Need-put-line3-requires
-put-line3-requires c κs =
-    room-same (hop-parts _ _ (c .before .before .before .before .before .before .before .new-from-at .ensures) (c .before .before .before .before .before .label-at .ensures) (c .before .before .before .new-to-at .ensures)) (c .before .before .before .before .before .before .before .before .before .before .pre .1)
+slice-aggregate-put-line-2 : tie.Need-slice-aggregate-put-line-2
+slice-aggregate-put-line-2 c = search needs
+
+put-line-requires : tie.Need-put-line-requires
+put-line-requires c κs =
+    let s = c .before .before .before .before .before .before .before .before .before .before .before in
+    let e = hop-parts (s .args .short .now) (s .args .i) (c .before .before .before .before .before .before .before .before .new-from-at .ensures) (c .before .before .before .before .before .before .label-at .ensures) (c .before .before .before .before .new-to-at .ensures) in
+    room-same e (s .pre .1)
 
 same-length : tie.Need-same-length
 same-length c = search needs
 
 returns : tie.Need-returns
 returns c =
-    put-same (sym (hop-parts _ _ (c .before .before .before .before .before .before .before .before .before .before .new-from-at .ensures) (c .before .before .before .before .before .before .before .before .label-at .ensures) (c .before .before .before .before .before .before .new-to-at .ensures))) (c .before .before .put-line3 .ensures)
+    let s = c .before .before .before .before .before .before .before .before .before .before .before .before .before .before in
+    let e = hop-parts (s .args .short .now) (s .args .i) (c .before .before .before .before .before .before .before .before .before .before .before .new-from-at .ensures) (c .before .before .before .before .before .before .before .before .before .label-at .ensures) (c .before .before .before .before .before .before .before .new-to-at .ensures) in
+    put-same (sym e) (c .before .before .put-line .ensures)
 
 pub put-hop-spec : {M : Type 1} → statement M
 put-hop-spec =
@@ -48,7 +55,8 @@ put-hop-spec =
     cast-label
     new-to-at-requires
     cast-to
-    slice-aggregate-put-line3
-    put-line3-requires
+    slice-aggregate-put-line
+    slice-aggregate-put-line-2
+    put-line-requires
     same-length
     returns)

@@ -1,10 +1,10 @@
 -- `rows::put_map` meets its contract: after s turns the lines of the first s states stand there. Assumes nothing.
-use Prim.Native.Nat.{ℕ, _-_, _≤_}
+use Prim.Native.Nat.{_-_, _≤_}
 use mathlib.Core.Path.{_≡_, refl, sym}
 use native.Mathlib.Omega.{arith}
-use lib.ListN.{length, getD}
-use Rattle.text.specs.Text.{lines, Put}
-use Rattle.rows.specs.Rows.{mapLine}
+use lib.ListN.{length}
+use Rattle.text.specs.Text.{Put}
+use Rattle.rows.specs.Rows.{mapLines}
 use Rattle.text.proofs.Puts.{put-same, room-same, lines-none, lines-room, lines-more, lines-done}
 use Rattle.rows.proofs.Parts.{map-parts}
 use borrow.Author.Needs.{needs}
@@ -12,17 +12,17 @@ use Rattle.rows.proofs.put_map.Statement.{statement}
 use Rattle.rows.proofs.put_map.Tie as tie
 
 abbrev Inv-loop : tie.InvT-loop
-Inv-loop out₀ at map states next₀ s₀ t8 out next s =
-    (s ≤ states) × (length out ≡ length out₀) × Put out₀ at (lines s (mapLine (λ (t : ℕ). getD map t 0))) next out
+Inv-loop out₀ at map states next₀ s₀ t9 out next s =
+    (s ≤ states) × (length out ≡ length out₀) × Put out₀ at (mapLines s map) next out
 
 abbrev μ-loop : tie.MeasureT-loop
-μ-loop out₀ at map states next₀ s₀ t8 out next s = states - s
+μ-loop out₀ at map states next₀ s₀ t9 out next s = states - s
 
 loop-holds : tie.Need-loop-holds Inv-loop μ-loop
 loop-holds c = (omega arith, refl, lines-none _)
 
-cast-t11 : tie.Need-cast-t11 Inv-loop μ-loop
-cast-t11 c = omega arith
+cast-t12 : tie.Need-cast-t12 Inv-loop μ-loop
+cast-t12 c = omega arith
 
 map-at-requires : tie.Need-map-at-requires Inv-loop μ-loop
 map-at-requires c κs = omega arith
@@ -30,12 +30,16 @@ map-at-requires c κs = omega arith
 cast-new : tie.Need-cast-new Inv-loop μ-loop
 cast-new c = search needs
 
-slice-aggregate-put-line2 : tie.Need-slice-aggregate-put-line2 Inv-loop μ-loop
-slice-aggregate-put-line2 c = search needs
+slice-aggregate-put-line : tie.Need-slice-aggregate-put-line Inv-loop μ-loop
+slice-aggregate-put-line c = search needs
 
-put-line2-requires : tie.Need-put-line2-requires Inv-loop μ-loop
-put-line2-requires c κs =
-    room-same (map-parts _ _ (c .before .before .before .map-at .ensures)) (lines-room _ _ (c .before .before .before .before .before .before .before .before .pre .1 .1) (omega arith) (c .before .before .before .before .before .loop .inv .2))
+slice-aggregate-put-line-2 : tie.Need-slice-aggregate-put-line-2 Inv-loop μ-loop
+slice-aggregate-put-line-2 c = search needs
+
+put-line-requires : tie.Need-put-line-requires Inv-loop μ-loop
+put-line-requires c κs =
+    let s = c .before .before .before .before .before .before .before .before .before in
+    room-same (map-parts _ _ (c .before .before .before .before .map-at .ensures)) (lines-room _ _ (s .pre .1 .1) (omega arith) (c .before .before .before .before .before .before .loop .inv .2))
 
 add-s : tie.Need-add-s Inv-loop μ-loop
 add-s c = omega arith
@@ -45,8 +49,13 @@ loop-less c = omega arith
 
 loop-again : tie.Need-loop-again Inv-loop μ-loop
 loop-again c =
-    let v = c .before .before .before .before .before .before .before .before .loop .inv in
-    (omega arith, omega arith, lines-more _ _ (c .before .before .before .before .before .before .before .before .before .before .before .pre .1 .1) (omega arith) (v .2) (put-same (sym (map-parts _ _ (c .before .before .before .before .before .before .map-at .ensures))) (c .before .before .put-line2 .ensures)))
+    let s = c .before .before .before .before .before .before .before .before .before .before .before .before in
+    let v = c .before .before .before .before .before .before .before .before .before .loop .inv in (
+      omega arith,
+      omega arith,
+      lines-more _ _ (s .pre .1 .1) (omega arith) (v .2)
+          (put-same (sym (map-parts _ _ (c .before .before .before .before .before .before .before .map-at .ensures))) (c .before .before .put-line .ensures)),
+    )
 
 same-length : tie.Need-same-length Inv-loop μ-loop
 same-length c = omega arith
@@ -61,11 +70,12 @@ put-map-spec =
     Inv-loop
     μ-loop
     loop-holds
-    cast-t11
+    cast-t12
     map-at-requires
     cast-new
-    slice-aggregate-put-line2
-    put-line2-requires
+    slice-aggregate-put-line
+    slice-aggregate-put-line-2
+    put-line-requires
     add-s
     loop-less
     loop-again

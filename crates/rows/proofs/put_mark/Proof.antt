@@ -1,6 +1,7 @@
 -- `rows::put_mark` meets its contract. Assumes nothing.
 use mathlib.Core.Path.{sym}
 use Rattle.text.proofs.Puts.{put-none, put-same, room-same}
+use Rattle.rows.specs.Rows.{byPlace}
 use Rattle.rows.proofs.Parts.{mark-yes, mark-no}
 use borrow.Author.Needs.{needs}
 use Rattle.rows.proofs.put_mark.Statement.{statement}
@@ -21,19 +22,26 @@ to-at-requires c κs = search needs
 cast-to : tie.Need-cast-to
 cast-to c = search needs
 
-slice-aggregate-put-line2 : tie.Need-slice-aggregate-put-line2
-slice-aggregate-put-line2 c = search needs
+slice-aggregate-put-line : tie.Need-slice-aggregate-put-line
+slice-aggregate-put-line c = search needs
 
-put-line2-requires : tie.Need-put-line2-requires
-put-line2-requires c κs =
-    room-same (mark-yes _ _ _ (c .before .before .before .before .before .before .if1 .taken) (c .before .before .before .before .before .from-at .ensures) (c .before .before .before .to-at .ensures)) (c .before .before .before .before .before .before .before .before .before .before .before .pre .1 .1)
+slice-aggregate-put-line-2 : tie.Need-slice-aggregate-put-line-2
+slice-aggregate-put-line-2 c = search needs
+
+put-line-requires : tie.Need-put-line-requires
+put-line-requires c κs =
+    let s = c .before .before .before .before .before .before .before .before .before .before .before .before in
+    let e = mark-yes (s .args .hops .now) (byPlace (s .args .marks .now)) (s .args .i) (c .before .before .before .before .before .before .before .if1 .taken) (c .before .before .before .before .before .before .from-at .ensures) (c .before .before .before .before .to-at .ensures) in
+    room-same e (s .pre .1 .1)
 
 same-length : tie.Need-same-length
 same-length c = search needs
 
 returns : tie.Need-returns
 returns c =
-    put-same (sym (mark-yes _ _ _ (c .before .before .before .before .before .before .before .before .before .if1 .taken) (c .before .before .before .before .before .before .before .before .from-at .ensures) (c .before .before .before .before .before .before .to-at .ensures))) (c .before .before .put-line2 .ensures)
+    let s = c .before .before .before .before .before .before .before .before .before .before .before .before .before .before .before in
+    let e = mark-yes (s .args .hops .now) (byPlace (s .args .marks .now)) (s .args .i) (c .before .before .before .before .before .before .before .before .before .before .if1 .taken) (c .before .before .before .before .before .before .before .before .before .from-at .ensures) (c .before .before .before .before .before .before .before .to-at .ensures) in
+    put-same (sym e) (c .before .before .put-line .ensures)
 
 returns-2 : tie.Need-returns-2
 returns-2 c = put-same (sym (mark-no _ _ _ (c .if1 .left))) (put-none _ _)
@@ -47,8 +55,9 @@ put-mark-spec =
     cast-from
     to-at-requires
     cast-to
-    slice-aggregate-put-line2
-    put-line2-requires
+    slice-aggregate-put-line
+    slice-aggregate-put-line-2
+    put-line-requires
     same-length
     returns
     returns-2)

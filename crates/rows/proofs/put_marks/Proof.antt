@@ -1,11 +1,11 @@
 -- `rows::put_marks` meets its contract: after i turns the lines of the first i hops stand there. Assumes nothing.
-use Prim.Native.Nat.{ℕ, _-_, _≤_}
+use Prim.Native.Nat.{_-_, _≤_}
 use mathlib.Core.Path.{_≡_, refl}
 use native.Mathlib.Omega.{arith}
-use lib.ListN.{length, getD}
+use lib.ListN.{length}
 use Rattle.graph.specs.Hops.{count}
 use Rattle.text.specs.Text.{lines, Put}
-use Rattle.rows.specs.Rows.{markedLine}
+use Rattle.rows.specs.Rows.{byPlace, markedLine}
 use Rattle.text.proofs.Puts.{lines-none, lines-room, lines-more, lines-done}
 use borrow.Author.Needs.{needs}
 use Rattle.rows.proofs.put_marks.Statement.{statement}
@@ -13,7 +13,7 @@ use Rattle.rows.proofs.put_marks.Tie as tie
 
 abbrev Inv-loop : tie.InvT-loop
 Inv-loop out₀ at hops marks n next₀ i₀ out next i =
-    (n ≡ count hops) × (i ≤ n) × (length out ≡ length out₀) × Put out₀ at (lines i (markedLine hops (λ (j : ℕ). getD marks j 0))) next out
+    (n ≡ count hops) × (i ≤ n) × (length out ≡ length out₀) × Put out₀ at (lines i (markedLine hops (byPlace marks))) next out
 
 abbrev μ-loop : tie.MeasureT-loop
 μ-loop out₀ at hops marks n next₀ i₀ out next i = n - i

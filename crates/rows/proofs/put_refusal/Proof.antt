@@ -7,26 +7,30 @@ use Rattle.rows.proofs.put_refusal.Tie as tie
 cast-number : tie.Need-cast-number
 cast-number c = search needs
 
-slice-aggregate-put-line2 : tie.Need-slice-aggregate-put-line2
-slice-aggregate-put-line2 c = search needs
+slice-aggregate-put-line : tie.Need-slice-aggregate-put-line
+slice-aggregate-put-line c = search needs
 
-put-line2-requires : tie.Need-put-line2-requires
+slice-aggregate-put-line-2 : tie.Need-slice-aggregate-put-line-2
+slice-aggregate-put-line-2 c = search needs
+
+put-line-requires : tie.Need-put-line-requires
 unfolding refusalOf
-put-line2-requires c κs = c .before .before .before .before .pre
+put-line-requires c κs = c .before .before .before .before .before .pre
 
 same-length : tie.Need-same-length
 same-length c = search needs
 
 returns : tie.Need-returns
 unfolding refusalOf
-returns c = c .before .before .put-line2 .ensures
+returns c = c .before .before .put-line .ensures
 
 pub put-refusal-spec : {M : Type 1} → statement M
 put-refusal-spec =
     tie.close
     (tie.spec
     cast-number
-    slice-aggregate-put-line2
-    put-line2-requires
+    slice-aggregate-put-line
+    slice-aggregate-put-line-2
+    put-line-requires
     same-length
     returns)

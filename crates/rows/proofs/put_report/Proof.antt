@@ -1,7 +1,7 @@
 -- `rows::put_report` meets its contract: the five parts stand one behind the other. Assumes nothing.
-use mathlib.Core.Path.{refl, sym}
-use Rattle.text.proofs.Puts.{put-same, put-then, room-same, room-first, room-rest}
-use Rattle.rows.proofs.Parts.{report-parts}
+use mathlib.Core.Path.{refl}
+use Rattle.graph.specs.Hops.{count}
+use Rattle.rows.proofs.Parts.{room-in, room-marks, room-map, room-out, room-hops, report-put}
 use borrow.Author.Needs.{needs}
 use Rattle.rows.proofs.put_report.Statement.{statement}
 use Rattle.rows.proofs.put_report.Tie as tie
@@ -12,19 +12,32 @@ cast-states c = search needs
 hop-count-requires : tie.Need-hop-count-requires
 hop-count-requires c κs = search needs
 
-slice-aggregate-put-line2 : tie.Need-slice-aggregate-put-line2
-slice-aggregate-put-line2 c = search needs
+slice-aggregate-put-line : tie.Need-slice-aggregate-put-line
+slice-aggregate-put-line c = search needs
 
-put-line2-requires : tie.Need-put-line2-requires
-put-line2-requires c κs = room-first _ _ (room-same (report-parts _ _ _ _ _ _ (c .before .before .hop-count .ensures) refl) (c .before .before .before .before .before .before .before .before .before .pre .1 .1 .1))
+slice-aggregate-put-line-2 : tie.Need-slice-aggregate-put-line-2
+slice-aggregate-put-line-2 c = search needs
+
+put-line-requires : tie.Need-put-line-requires
+put-line-requires c κs =
+    let s = c .before .before .before .before .before .before .before .before .before .before in
+    let a = s .args in
+    let h = c .before .before .before .hop-count in
+    room-in (a .shape) (a .hops .now) (a .marks .now) (a .map .now) (a .new) (a .short .now) (a .out .now) (h .result) (count (a .short .now)) (h .ensures) refl (s .pre .1 .1 .1)
 
 put-marks-requires : tie.Need-put-marks-requires
-put-marks-requires c κs = (c .before .before .before .before .before .before .before .before .before .before .before .before .before .pre .0, room-first _ _ (room-rest _ _ (room-same (report-parts _ _ _ _ _ _ (c .before .before .before .before .before .before .hop-count .ensures) refl) (c .before .before .before .before .before .before .before .before .before .before .before .before .before .pre .1 .1 .1)) (c .before .before .before .put-line2 .ensures)))
+put-marks-requires c κs =
+    let s = c .before .before .before .before .before .before .before .before .before .before .before .before .before .before in
+    let a = s .args in
+    let h = c .before .before .before .before .before .before .before .hop-count in
+    (s .pre .0, room-marks (a .shape) (a .hops .now) (a .marks .now) (a .map .now) (a .new) (a .short .now) (a .out .now) (h .result) (count (a .short .now)) (h .ensures) refl (s .pre .1 .1 .1) (c .before .before .before .put-line .ensures))
 
 put-map-requires : tie.Need-put-map-requires
 put-map-requires c κs =
-    let s = c .before .before .before .before .before .before .before .before .before .before .before .before .before .before .before .before .before in
-    (s .pre .1 .0, (s .pre .1 .1 .0, room-first _ _ (room-rest _ _ (room-rest _ _ (room-same (report-parts _ _ _ _ _ _ (c .before .before .before .before .before .before .before .before .before .before .hop-count .ensures) refl) (c .before .before .before .before .before .before .before .before .before .before .before .before .before .before .before .before .before .pre .1 .1 .1)) (c .before .before .before .before .before .before .before .put-line2 .ensures)) (c .before .before .before .put-marks .ensures))))
+    let s = c .before .before .before .before .before .before .before .before .before .before .before .before .before .before .before .before .before .before in
+    let a = s .args in
+    let h = c .before .before .before .before .before .before .before .before .before .before .before .hop-count in
+    (s .pre .1 .0, (s .pre .1 .1 .0, room-map (a .shape) (a .hops .now) (a .marks .now) (a .map .now) (a .new) (a .short .now) (a .out .now) (h .result) (count (a .short .now)) (h .ensures) refl (s .pre .1 .1 .1) (c .before .before .before .before .before .before .before .put-line .ensures) (c .before .before .before .put-marks .ensures)))
 
 cast-new-states : tie.Need-cast-new-states
 cast-new-states c = search needs
@@ -35,25 +48,41 @@ hop-count-requires-2 c κs = search needs
 cast-initial : tie.Need-cast-initial
 cast-initial c = search needs
 
-slice-aggregate-put-line3 : tie.Need-slice-aggregate-put-line3
-slice-aggregate-put-line3 c = search needs
+slice-aggregate-put-line-3 : tie.Need-slice-aggregate-put-line-3
+slice-aggregate-put-line-3 c = search needs
 
-put-line3-requires : tie.Need-put-line3-requires
-put-line3-requires c κs = room-first _ _ (room-rest _ _ (room-rest _ _ (room-rest _ _ (room-same (report-parts _ _ _ _ _ _ (c .before .before .before .before .before .before .before .before .before .before .before .before .before .before .before .before .before .before .hop-count .ensures) (c .before .before .before .hop-count2 .ensures)) (c .before .before .before .before .before .before .before .before .before .before .before .before .before .before .before .before .before .before .before .before .before .before .before .before .before .pre .1 .1 .1)) (c .before .before .before .before .before .before .before .before .before .before .before .before .before .before .before .put-line2 .ensures)) (c .before .before .before .before .before .before .before .before .before .before .before .put-marks .ensures)) (c .before .before .before .before .before .before .before .put-map .ensures))
+slice-aggregate-put-line-4 : tie.Need-slice-aggregate-put-line-4
+slice-aggregate-put-line-4 c = search needs
+
+put-line-requires-2 : tie.Need-put-line-requires-2
+put-line-requires-2 c κs =
+    let s = c .before .before .before .before .before .before .before .before .before .before .before .before .before .before .before .before .before .before .before .before .before .before .before .before .before .before .before in
+    let a = s .args in
+    let h = c .before .before .before .before .before .before .before .before .before .before .before .before .before .before .before .before .before .before .before .before .hop-count in
+    let h2 = c .before .before .before .before .hop-count2 in
+    room-out (a .shape) (a .hops .now) (a .marks .now) (a .map .now) (a .new) (a .short .now) (a .out .now) (h .result) (h2 .result) (h .ensures) (h2 .ensures) (s .pre .1 .1 .1)
+    (c .before .before .before .before .before .before .before .before .before .before .before .before .before .before .before .before .put-line .ensures) (c .before .before .before .before .before .before .before .before .before .before .before .before .put-marks .ensures) (c .before .before .before .before .before .before .before .before .put-map .ensures)
 
 put-hops-requires : tie.Need-put-hops-requires
-put-hops-requires c κs = room-rest _ _ (room-rest _ _ (room-rest _ _ (room-rest _ _ (room-same (report-parts _ _ _ _ _ _ (c .before .before .before .before .before .before .before .before .before .before .before .before .before .before .before .before .before .before .before .before .before .before .hop-count .ensures) (c .before .before .before .before .before .before .before .hop-count2 .ensures)) (c .before .before .before .before .before .before .before .before .before .before .before .before .before .before .before .before .before .before .before .before .before .before .before .before .before .before .before .before .before .pre .1 .1 .1)) (c .before .before .before .before .before .before .before .before .before .before .before .before .before .before .before .before .before .before .before .put-line2 .ensures)) (c .before .before .before .before .before .before .before .before .before .before .before .before .before .before .before .put-marks .ensures)) (c .before .before .before .before .before .before .before .before .before .before .before .put-map .ensures)) (c .before .before .before .put-line3 .ensures)
+put-hops-requires c κs =
+    let s = c .before .before .before .before .before .before .before .before .before .before .before .before .before .before .before .before .before .before .before .before .before .before .before .before .before .before .before .before .before .before .before in
+    let a = s .args in
+    let h = c .before .before .before .before .before .before .before .before .before .before .before .before .before .before .before .before .before .before .before .before .before .before .before .before .hop-count in
+    let h2 = c .before .before .before .before .before .before .before .before .hop-count2 in
+    room-hops (a .shape) (a .hops .now) (a .marks .now) (a .map .now) (a .new) (a .short .now) (a .out .now) (h .result) (h2 .result) (h .ensures) (h2 .ensures) (s .pre .1 .1 .1)
+    (c .before .before .before .before .before .before .before .before .before .before .before .before .before .before .before .before .before .before .before .before .put-line .ensures) (c .before .before .before .before .before .before .before .before .before .before .before .before .before .before .before .before .put-marks .ensures) (c .before .before .before .before .before .before .before .before .before .before .before .before .put-map .ensures) (c .before .before .before .put-line2 .ensures)
 
 same-length : tie.Need-same-length
 same-length c = search needs
 
 returns : tie.Need-returns
 returns c =
-    let r0 = room-same (report-parts _ _ _ _ _ _ (c .before .before .before .before .before .before .before .before .before .before .before .before .before .before .before .before .before .before .before .before .before .before .before .before .before .hop-count .ensures) (c .before .before .before .before .before .before .before .before .before .before .hop-count2 .ensures)) (c .before .before .before .before .before .before .before .before .before .before .before .before .before .before .before .before .before .before .before .before .before .before .before .before .before .before .before .before .before .before .before .before .pre .1 .1 .1) in
-    let r1 = room-rest _ _ r0 (c .before .before .before .before .before .before .before .before .before .before .before .before .before .before .before .before .before .before .before .before .before .before .put-line2 .ensures) in
-    let r2 = room-rest _ _ r1 (c .before .before .before .before .before .before .before .before .before .before .before .before .before .before .before .before .before .before .put-marks .ensures) in
-    let r3 = room-rest _ _ r2 (c .before .before .before .before .before .before .before .before .before .before .before .before .before .before .put-map .ensures) in
-    put-same (sym (report-parts _ _ _ _ _ _ (c .before .before .before .before .before .before .before .before .before .before .before .before .before .before .before .before .before .before .before .before .before .before .before .before .before .hop-count .ensures) (c .before .before .before .before .before .before .before .before .before .before .hop-count2 .ensures))) (put-then _ _ r0 (c .before .before .before .before .before .before .before .before .before .before .before .before .before .before .before .before .before .before .before .before .before .before .put-line2 .ensures) (put-then _ _ r1 (c .before .before .before .before .before .before .before .before .before .before .before .before .before .before .before .before .before .before .put-marks .ensures) (put-then _ _ r2 (c .before .before .before .before .before .before .before .before .before .before .before .before .before .before .put-map .ensures) (put-then _ _ r3 (c .before .before .before .before .before .before .put-line3 .ensures) (c .before .before .put-hops .ensures)))))
+    let s = c .before .before .before .before .before .before .before .before .before .before .before .before .before .before .before .before .before .before .before .before .before .before .before .before .before .before .before .before .before .before .before .before .before .before in
+    let a = s .args in
+    let h = c .before .before .before .before .before .before .before .before .before .before .before .before .before .before .before .before .before .before .before .before .before .before .before .before .before .before .before .hop-count in
+    let h2 = c .before .before .before .before .before .before .before .before .before .before .before .hop-count2 in
+    report-put (a .shape) (a .hops .now) (a .marks .now) (a .map .now) (a .new) (a .short .now) (a .out .now) (h .result) (h2 .result) (h .ensures) (h2 .ensures) (s .pre .1 .1 .1)
+    (c .before .before .before .before .before .before .before .before .before .before .before .before .before .before .before .before .before .before .before .before .before .before .before .put-line .ensures) (c .before .before .before .before .before .before .before .before .before .before .before .before .before .before .before .before .before .before .before .put-marks .ensures) (c .before .before .before .before .before .before .before .before .before .before .before .before .before .before .before .put-map .ensures) (c .before .before .before .before .before .before .put-line2 .ensures) (c .before .before .put-hops .ensures)
 
 pub put-report-spec : {M : Type 1} → statement M
 put-report-spec =
@@ -61,15 +90,17 @@ put-report-spec =
     (tie.spec
     cast-states
     hop-count-requires
-    slice-aggregate-put-line2
-    put-line2-requires
+    slice-aggregate-put-line
+    slice-aggregate-put-line-2
+    put-line-requires
     put-marks-requires
     put-map-requires
     cast-new-states
     hop-count-requires-2
     cast-initial
-    slice-aggregate-put-line3
-    put-line3-requires
+    slice-aggregate-put-line-3
+    slice-aggregate-put-line-4
+    put-line-requires-2
     put-hops-requires
     same-length
     returns)

@@ -1,27 +1,27 @@
 -- `starts::starts_of` meets its contract: the elements below s are filled, and `at` is where the hops of s begin. Assumes nothing.
-use Prim.Native.Nat.{ℕ, _-_, _<_, _≤_}
+use Prim.Native.Nat.{ℕ, _+_, _-_, _<_, _≤_}
 use mathlib.Core.Path.{_≡_}
 use native.Mathlib.Omega.{arith}
 use lib.ListN.{length, getD, length-set, length-replicate}
 use Rattle.graph.specs.Search.{firstOf}
+use Rattle.graph.specs.Answers.{most-states}
 use Rattle.graph.proofs.Lookup.{first-within}
 use Rattle.starts.specs.Starts.{Table}
-use Rattle.starts.proofs.Firsts.{first-is}
-use Rattle.starts.proofs.Firsts.{filled-more}
+use Rattle.starts.proofs.Firsts.{first-is, filled-more}
 use Rattle.starts.proofs.starts_of.Statement.{statement}
 use Rattle.starts.proofs.starts_of.Tie as tie
 
 abbrev Inv-loop : tie.InvT-loop
 Inv-loop hops starts₀ at₀ s₀ starts at s =
-    (length starts ≡ 1025) × (s ≤ 1025) × (at ≡ firstOf hops s) × ((t : ℕ) → t < s → getD starts t 0 ≡ firstOf hops t)
+    (length starts ≡ most-states + 1) × (s ≤ most-states + 1) × (at ≡ firstOf hops s) × ((t : ℕ) → t < s → getD starts t 0 ≡ firstOf hops t)
 
 abbrev μ-loop : tie.MeasureT-loop
-μ-loop hops starts₀ at₀ s₀ starts at s = 1025 - s
+μ-loop hops starts₀ at₀ s₀ starts at s = most-states + 1 - s
 
 loop-holds : tie.Need-loop-holds Inv-loop μ-loop
 loop-holds c =
     let st = c .before in (
-      length-replicate {A = ℕ} 1025 0,
+      length-replicate {A = ℕ} (most-states + 1) 0,
       omega arith,
       first-is (st .args .hops .now) (st .pre .ascending) 0 (omega arith) (λ j l. absurd (omega arith)) (λ l. omega arith),
       λ t l. absurd (omega arith),

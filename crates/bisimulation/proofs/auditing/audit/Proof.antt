@@ -2,7 +2,8 @@
 use borrow.Author.Needs.{needs}
 use mathlib.Core.Path.{sym, ap, _∙_}
 use Rattle.graph.specs.declared.Answer.{Answer}
-use Rattle.bisimulation.proofs.Answering.{auditable, answer-audited, audit-refuses, audit-counts}
+use Rattle.fitting.proofs.Fits.{answer-audited}
+use Rattle.bisimulation.proofs.Answering.{auditable, audit-refuses, audit-counts}
 use Rattle.bisimulation.proofs.auditing.audit.Statement.{statement}
 use Rattle.bisimulation.proofs.auditing.audit.Tie as tie
 

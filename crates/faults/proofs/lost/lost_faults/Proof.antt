@@ -1,8 +1,8 @@
 -- `faults::lost::lost_faults` meets its contract: the count is that of the places passed so far. Assumes nothing.
 use borrow.Author.Needs.{needs}
 use Prim.Native.Nat.{ℕ, _≤_, _-_}
-use mathlib.Core.Path.{_≡_, sym, ap, _∙_}
-use mathlib.Core.Bool.{not}
+use mathlib.Core.Path.{_≡_, sym, _∙_}
+use mathlib.Core.Bool.{Bool, not}
 use mathlib.Core.Logic.{⊎-elim}
 use native.Mathlib.Omega.{arith}
 use Rattle.below.specs.Tests.{tally}
@@ -13,10 +13,10 @@ use Rattle.faults.proofs.lost.lost_faults.Statement.{statement}
 use Rattle.faults.proofs.lost.lost_faults.Tie as tie
 
 abbrev Inv-loop : tie.InvT-loop
-Inv-loop shape1 hops1 hops2 map n faults₀ i₀ faults i = (n ≡ count hops1) × (i ≤ n) × (faults ≡ tally i (λ (j : ℕ). not (kept hops1 hops2 map j)))
+Inv-loop shape1 hops1 hops2 map images n faults₀ i₀ faults i = (n ≡ count hops1) × (i ≤ n) × (faults ≡ tally i (λ (j : ℕ). not (kept hops1 hops2 map j)))
 
 abbrev μ-loop : tie.MeasureT-loop
-μ-loop shape1 hops1 hops2 map n faults₀ i₀ faults i = n - i
+μ-loop shape1 hops1 hops2 map images n faults₀ i₀ faults i = n - i
 
 hop-count-requires : tie.Need-hop-count-requires Inv-loop μ-loop
 hop-count-requires c κs = search needs
@@ -24,11 +24,24 @@ hop-count-requires c κs = search needs
 loop-holds : tie.Need-loop-holds Inv-loop μ-loop
 loop-holds c = (search needs, search needs, sym (tally-none _))
 
+-- what the function was called with, and the test that is counted
+module _ (c : tie.At-loop Inv-loop μ-loop) where
+  abbrev start : tie.Start Inv-loop μ-loop
+  start = c .before .before .before .before .before
+
+  abbrev lost : ℕ → Bool
+  lost j = not (kept (start .args .hops1 .now) (start .args .hops2 .now) (start .args .map .now) j)
+
 is-kept-requires : tie.Need-is-kept-requires Inv-loop μ-loop
-is-kept-requires c κs = search needs
+is-kept-requires c κs =
+    let s = start (c .before) in (s .pre .0, (s .pre .1, omega (arith, c .before .loop .inv .0, c .loop-test .taken)))
+
+-- the test at the place that was looked at
+lost-is : (c : tie.After-is-kept Inv-loop μ-loop) {x : Bool} → not (c .is-kept .result) ≡ x → lost (c .before .before) (c .before .before .loop .i) ≡ x
+lost-is c {x} e = rw (c .is-kept .ensures) at e
 
 add-faults : tie.Need-add-faults Inv-loop μ-loop
-add-faults c = omega (arith, tally-within (λ (i : ℕ). not (kept (c .before .before .before .before .before .before .before .before .args .hops1 .now) (c .before .before .before .before .before .before .before .before .args .hops2 .now) (c .before .before .before .before .before .before .before .before .args .map .now) i)) (c .before .before .before .loop .i))
+add-faults c = let a = c .before .before .before in omega (arith, tally-within (lost a) (a .loop .i))
 
 add-i : tie.Need-add-i Inv-loop μ-loop
 add-i c = search needs
@@ -40,8 +53,8 @@ loop-again : tie.Need-loop-again Inv-loop μ-loop
 loop-again c = let a = c .before .before .before in (
   search needs,
   omega arith,
-  ⊎-elim (λ w. w .1 ∙ tally-more _ _ (a .loop .inv .2) (ap not (sym (c .before .is-kept .ensures)) ∙ w .0 .taken))
-      (λ w. w .1 ∙ tally-skip _ _ (a .loop .inv .2) (ap not (sym (c .before .is-kept .ensures)) ∙ w .0 .left)) (c .if1 .came),
+  ⊎-elim (λ w. w .1 ∙ tally-more (lost a) (a .loop .i) (a .loop .inv .2) (lost-is (c .before) (w .0 .taken)))
+      (λ w. w .1 ∙ tally-skip (lost a) (a .loop .i) (a .loop .inv .2) (lost-is (c .before) (w .0 .left))) (c .if1 .came),
 )
 
 returns : tie.Need-returns Inv-loop μ-loop

@@ -1,37 +1,17 @@
--- `graph::search::find` meets its contract. Assumes nothing.
+-- `graph::search::find` meets its contract: the whole list brackets every hop. Assumes nothing.
 use borrow.Author.Needs.{needs}
-use mathlib.Core.Path.{sym, _∙_}
-use native.Mathlib.Omega.{arith}
-use Rattle.graph.proofs.Lookup.{find-there, find-other, find-end}
+use Rattle.graph.proofs.Lookup.{whole-bracket}
 use Rattle.graph.proofs.search.find.Statement.{statement}
 use Rattle.graph.proofs.search.find.Tie as tie
-
-lower-place-requires : tie.Need-lower-place-requires
-lower-place-requires c κs = search needs
 
 hop-count-requires : tie.Need-hop-count-requires
 hop-count-requires c κs = search needs
 
-is-hop-at-requires : tie.Need-is-hop-at-requires
-is-hop-at-requires c κs = search needs
+find-between-requires : tie.Need-find-between-requires
+find-between-requires c κs = (c .before .before .pre, whole-bracket _ _ (c .hop-count .ensures))
 
 returns : tie.Need-returns
-returns c =
-    find-there _ _ (c .before .before .before .before .lower-place .ensures) (omega arith) (sym (c .before .is-hop-at .ensures) ∙ c .if2 .taken)
-
-returns-2 : tie.Need-returns-2
-returns-2 c = find-other _ _ (c .before .before .before .before .lower-place .ensures) (sym (c .before .is-hop-at .ensures) ∙ c .if2 .left)
-
-returns-3 : tie.Need-returns-3
-returns-3 c = find-end _ _ (c .before .before .lower-place .ensures) (omega arith)
+returns c = search needs
 
 pub find-spec : {M : Type 1} → statement M
-find-spec =
-    tie.close
-    (tie.spec
-    lower-place-requires
-    hop-count-requires
-    is-hop-at-requires
-    returns
-    returns-2
-    returns-3)
+find-spec = tie.close (tie.spec hop-count-requires find-between-requires returns)

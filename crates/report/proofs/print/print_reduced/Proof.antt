@@ -1,65 +1,88 @@
--- `report::print::print_reduced` meets its contract: what `reduce` left is what the report shows. Assumes nothing.
-use Prim.Native.Nat.{ℕ, _≤_}
+-- `report::print::print_reduced` meets its contract: what marking and reducing left is what the report shows. Assumes nothing.
 use native.Mathlib.Omega.{arith}
 use mathlib.Core.Path.{sym}
-use lib.ListN.{length, replicate, length-replicate}
+use lib.ListN.{replicate}
+use Rattle.graph.specs.Answers.{most-states, most-hops, most-numbers}
+use Rattle.starts.proofs.Firsts.{admitted-ready}
+use Rattle.representatives.proofs.Marked.{held-settles}
+use Rattle.quotient.proofs.Marked.{left-marks}
 use Rattle.text.proofs.Puts.{put-same, room-same}
 use Rattle.report.proofs.Lengths.{report-most}
-use Rattle.report.proofs.Shown.{reduced-shape, reduced-most, reduced-short, reduced-map, reduced-lines, text-room}
+use Rattle.report.proofs.Shown.{reduced-marks, reduced-shape, reduced-most, reduced-short, reduced-map, reduced-lines, text-room}
 use borrow.Author.Needs.{needs}
 use Rattle.report.proofs.print.print_reduced.Statement.{statement}
 use Rattle.report.proofs.print.print_reduced.Tie as tie
 
-slice-aggregate-reduce : tie.Need-slice-aggregate-reduce
-slice-aggregate-reduce c = search needs
+slice-aggregate-mark-all : tie.Need-slice-aggregate-mark-all
+slice-aggregate-mark-all c = search needs
 
-slice-aggregate-reduce-2 : tie.Need-slice-aggregate-reduce-2
-slice-aggregate-reduce-2 c = search needs
+mark-all-requires : tie.Need-mark-all-requires
+mark-all-requires c κs = let adm = c .before .before .before .pre .0 .admitted in (admitted-ready adm, omega (arith, adm .hops-most))
 
-reduce-requires : tie.Need-reduce-requires
-reduce-requires c κs = search needs
+slice-aggregate-reduce-marked : tie.Need-slice-aggregate-reduce-marked
+slice-aggregate-reduce-marked c = search needs
+
+slice-aggregate-reduce-marked-2 : tie.Need-slice-aggregate-reduce-marked-2
+slice-aggregate-reduce-marked-2 c = search needs
+
+slice-aggregate-reduce-marked-3 : tie.Need-slice-aggregate-reduce-marked-3
+slice-aggregate-reduce-marked-3 c = search needs
+
+reduce-marked-requires : tie.Need-reduce-marked-requires
+reduce-marked-requires c κs =
+    let st = c .before .before .before .before .before .before .before .before in
+    let red = st .pre .0 in
+    let e = c .before .before .before .before .mark-all .ensures in
+    (red .admitted, (held-settles red _, (left-marks (st .args .shape) _ _ _ e (omega (arith, red .admitted .hops-most)), (omega (arith, red .admitted .states-most), omega (arith, red .admitted .hops-most, red .admitted .three-a-hop)))))
 
 slice-aggregate-put-report : tie.Need-slice-aggregate-put-report
 slice-aggregate-put-report c = search needs
+
+slice-aggregate-put-report-2 : tie.Need-slice-aggregate-put-report-2
+slice-aggregate-put-report-2 c = search needs
 
 slice-aggregate-part : tie.Need-slice-aggregate-part
 slice-aggregate-part c = search needs
 
 part-requires : tie.Need-part-requires
 part-requires c κs =
-    let st = c .before .before .before .before .before .before .before .before .before .before .before in
-    let r = c .before .before .before .before .before .reduce .ensures in
-    let l1 : 1024 ≤ length (replicate {A = ℕ} 1024 0) = omega (arith, length-replicate {A = ℕ} 1024 0) in
-    let l2 : 12288 ≤ length (replicate {A = ℕ} 12288 0) = omega (arith, length-replicate {A = ℕ} 12288 0) in
-    (omega arith, omega (arith, reduced-most (st .pre .0) (replicate 1024 0) (replicate 12288 0) l1 l2 (r .0)))
+    let st = c .before .before .before .before .before .before .before .before .before .before .before .before .before .before .before in
+    let red = st .pre .0 in
+    let e = c .before .before .before .before .before .before .before .before .before .before .before .mark-all .ensures in
+    let r = c .before .before .before .before .before .before .reduce-marked .ensures in
+    (omega arith, omega (arith, reduced-most red (replicate most-hops 0) e (r .0)))
 
 put-report-requires : tie.Need-put-report-requires
 put-report-requires c κs =
-    let st = c .before .before .before .before .before .before .before .before .before .before .before .before .before in
-    let r = c .before .before .before .before .before .before .before .reduce .ensures in
-    let l1 : 1024 ≤ length (replicate {A = ℕ} 1024 0) = omega (arith, length-replicate {A = ℕ} 1024 0) in
-    let l2 : 12288 ≤ length (replicate {A = ℕ} 12288 0) = omega (arith, length-replicate {A = ℕ} 12288 0) in
-    (st .pre .1 .0 .room, (omega (arith, st .pre .0 .admitted .states-most), (omega (arith, st .pre .0 .admitted .states-most), room-same (sym (reduced-lines (st .pre .0) (st .pre .1 .0 .marks) (reduced-map (st .pre .0) (replicate 1024 0) (replicate 12288 0) l1 l2 (r .1 .0)) (reduced-shape (st .pre .0) (replicate 1024 0) (replicate 12288 0) l1 l2 (r .0)) (reduced-short (st .pre .0) (replicate 1024 0) (replicate 12288 0) l1 l2 (r .0) (r .1 .1) (c .before .part .ensures .0)))) (text-room (report-most (st .pre .0)) (st .pre .1 .1)))))
+    let st = c .before .before .before .before .before .before .before .before .before .before .before .before .before .before .before .before .before in
+    let red = st .pre .0 in
+    let e = c .before .before .before .before .before .before .before .before .before .before .before .before .before .mark-all .ensures in
+    let r = c .before .before .before .before .before .before .before .before .reduce-marked .ensures in
+    (omega (arith, red .admitted .hops-most), (omega (arith, red .admitted .states-most), (red .admitted .states-most, room-same (sym (reduced-lines red (reduced-marks red (replicate most-hops 0) e) (reduced-map red (replicate most-hops 0) e (replicate most-states 0) (r .1 .0)) (reduced-shape red (replicate most-hops 0) e (r .0)) (reduced-short red (replicate most-hops 0) e (r .0) (replicate most-numbers 0) (r .1 .1) (c .before .part .ensures .0)))) (text-room (report-most red) (st .pre .1)))))
 
 same-length : tie.Need-same-length
 same-length c = search needs
 
 returns : tie.Need-returns
 returns c =
-    let st = c .before .before .before .before .before .before .before .before .before .before .before .before .before .before .before .before in
-    let r = c .before .before .before .before .before .before .before .before .before .before .reduce .ensures in
-    let l1 : 1024 ≤ length (replicate {A = ℕ} 1024 0) = omega (arith, length-replicate {A = ℕ} 1024 0) in
-    let l2 : 12288 ≤ length (replicate {A = ℕ} 12288 0) = omega (arith, length-replicate {A = ℕ} 12288 0) in
-    put-same (reduced-lines (st .pre .0) (st .pre .1 .0 .marks) (reduced-map (st .pre .0) (replicate 1024 0) (replicate 12288 0) l1 l2 (r .1 .0)) (reduced-shape (st .pre .0) (replicate 1024 0) (replicate 12288 0) l1 l2 (r .0)) (reduced-short (st .pre .0) (replicate 1024 0) (replicate 12288 0) l1 l2 (r .0) (r .1 .1) (c .before .before .before .before .part .ensures .0))) (c .before .before .put-report .ensures)
+    let st = c .before .before .before .before .before .before .before .before .before .before .before .before .before .before .before .before .before .before .before .before in
+    let red = st .pre .0 in
+    let e = c .before .before .before .before .before .before .before .before .before .before .before .before .before .before .before .before .mark-all .ensures in
+    let r = c .before .before .before .before .before .before .before .before .before .before .before .reduce-marked .ensures in
+    put-same (reduced-lines red (reduced-marks red (replicate most-hops 0) e) (reduced-map red (replicate most-hops 0) e (replicate most-states 0) (r .1 .0)) (reduced-shape red (replicate most-hops 0) e (r .0)) (reduced-short red (replicate most-hops 0) e (r .0) (replicate most-numbers 0) (r .1 .1) (c .before .before .before .before .part .ensures .0))) (c .before .before .put-report .ensures)
 
 pub print-reduced-spec : {M : Type 1} → statement M
 print-reduced-spec =
     tie.close
     (tie.spec
-    slice-aggregate-reduce
-    slice-aggregate-reduce-2
-    reduce-requires
+    slice-aggregate-mark-all
+    mark-all-requires
+    slice-aggregate-reduce-marked
+    slice-aggregate-reduce-marked-2
+    slice-aggregate-reduce-marked-3
+    reduce-marked-requires
     slice-aggregate-put-report
+    slice-aggregate-put-report-2
     slice-aggregate-part
     part-requires
     put-report-requires

@@ -1,18 +1,20 @@
 -- `representatives::follow::next_states` meets its contract: the table holds where the first marked hop from place i on leads. Assumes nothing.
 use Prim.Native.Nat.{ℕ, suc, _<_, _≤_, _-_}
-use mathlib.Core.Path.{_≡_, ap, _∙_}
+use mathlib.Core.Path.{_≡_}
 use native.Mathlib.Omega.{arith}
 use lib.ListN.{length, getD}
 use Rattle.graph.specs.Hops.{count}
-use Rattle.representatives.specs.Tables.{Onward}
-use Rattle.representatives.proofs.Nexts.{Ends, ends-none, ends-onward, noted-ends, length-noted}
+use Rattle.graph.specs.Answers.{most-states}
+use Rattle.confluence.specs.Held.{heldBy}
+use Rattle.representatives.specs.Tables.{Own, FromIn, Onward}
+use Rattle.representatives.proofs.Nexts.{Ends, ends-none, ends-onward, entered-ends, length-entered}
 use borrow.Author.Needs.{needs}
 use Rattle.representatives.proofs.follow.next_states.Statement.{statement}
 use Rattle.representatives.proofs.follow.next_states.Tie as tie
 
 abbrev Inv-loop : tie.InvT-loop
 Inv-loop hops marks next₀ i₀ next i =
-    (i ≤ count hops) × (length next ≡ 1024) × ((s : ℕ) → s < 1024 → Ends hops s i (getD next s 0))
+    (i ≤ count hops) × (length next ≡ most-states) × ((s : ℕ) → s < most-states → Ends hops (heldBy hops marks) s i (getD next s 0))
 
 abbrev μ-loop : tie.MeasureT-loop
 μ-loop hops marks next₀ i₀ next i = i
@@ -24,14 +26,16 @@ hop-count-requires : tie.Need-hop-count-requires Inv-loop μ-loop
 hop-count-requires c κs = search needs
 
 loop-holds : tie.Need-loop-holds Inv-loop μ-loop
+unfolding Own
 loop-holds c =
-    (omega arith, search needs, λ s l. rw (c .hop-count .ensures) (ends-none _ s _ (c .before .own-states .ensures s l)))
+    (omega arith, search needs, λ s l. rw (c .hop-count .ensures) (ends-none _ _ s _ (c .before .own-states .ensures s l)))
 
 sub-i : tie.Need-sub-i Inv-loop μ-loop
 sub-i c = search needs
 
-note-requires : tie.Need-note-requires Inv-loop μ-loop
-note-requires c κs =
+enter-requires : tie.Need-enter-requires Inv-loop μ-loop
+unfolding FromIn
+enter-requires c κs =
     let st = c .before .before .before .before .before .before .before in
     (omega arith, (omega (arith, st .pre .0 .room), st .pre .1 _ (omega arith)))
 
@@ -39,6 +43,7 @@ loop-less : tie.Need-loop-less Inv-loop μ-loop
 loop-less c = omega arith
 
 loop-again : tie.Need-loop-again Inv-loop μ-loop
+unfolding FromIn
 loop-again c =
     let st = c .before .before .before .before .before .before .before .before in
     let v = c .before .before .before .loop .inv in
@@ -47,15 +52,15 @@ loop-again c =
     let l : i - 1 < count (st .args .hops .now) = omega arith in
     let f = st .pre .1 (i - 1) l in (
       omega arith,
-      ap length (c .note .ensures) ∙ length-noted _ _ _ _ ∙ v .1,
-      λ s m. rw (c .note .ensures) (noted-ends _ (i - 1) l _ _ (st .pre .0 .marks (i - 1) l) (omega arith) s (rw q at (v .2 s m))),
+      length-entered _ _ _ _ (c .enter .ensures) (v .1),
+      λ s m. rw (c .enter .ensures) (entered-ends _ _ (i - 1) l _ _ (st .pre .0 .marks (i - 1) l) (omega arith) s (rw q at (v .2 s m))),
     )
 
 returns : tie.Need-returns Inv-loop μ-loop
 unfolding Onward
 returns c =
     let q : c .before .loop .i ≡ 0 = omega arith in
-    λ s l. ends-onward _ (rw q at (c .before .loop .inv .2 s l))
+    λ s l. ends-onward _ _ (rw q at (c .before .loop .inv .2 s l))
 
 pub next-states-spec : {M : Type 1} → statement M
 next-states-spec =
@@ -67,7 +72,7 @@ next-states-spec =
     hop-count-requires
     loop-holds
     sub-i
-    note-requires
+    enter-requires
     loop-less
     loop-again
     returns)

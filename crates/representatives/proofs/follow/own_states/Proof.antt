@@ -3,18 +3,20 @@ use Prim.Native.Nat.{ℕ, _<_, _≤_, _-_}
 use mathlib.Core.Path.{_≡_, refl}
 use native.Mathlib.Omega.{arith}
 use lib.ListN.{length, getD, length-set, length-replicate}
+use Rattle.graph.specs.Answers.{most-states}
+use Rattle.representatives.specs.Tables.{Own}
 use Rattle.starts.proofs.Firsts.{filled-more}
 use Rattle.representatives.proofs.follow.own_states.Statement.{statement}
 use Rattle.representatives.proofs.follow.own_states.Tie as tie
 
 abbrev Inv-loop : tie.InvT-loop
-Inv-loop next₀ s₀ next s = (length next ≡ 1024) × (s ≤ 1024) × ((t : ℕ) → t < s → getD next t 0 ≡ t)
+Inv-loop next₀ s₀ next s = (length next ≡ most-states) × (s ≤ most-states) × ((t : ℕ) → t < s → getD next t 0 ≡ t)
 
 abbrev μ-loop : tie.MeasureT-loop
-μ-loop next₀ s₀ next s = 1024 - s
+μ-loop next₀ s₀ next s = most-states - s
 
 loop-holds : tie.Need-loop-holds Inv-loop μ-loop
-loop-holds c = (length-replicate {A = ℕ} 1024 0, omega arith, λ t l. absurd (omega arith))
+loop-holds c = (length-replicate {A = ℕ} most-states 0, omega arith, λ t l. absurd (omega arith))
 
 cast-next : tie.Need-cast-next Inv-loop μ-loop
 cast-next c = omega arith
@@ -37,6 +39,7 @@ loop-again c =
     (simp length-set (v .0), omega arith, filled-more (λ (t : ℕ). t) (c .before .loop .next) (omega arith) refl (v .2))
 
 returns : tie.Need-returns Inv-loop μ-loop
+unfolding Own
 returns c = λ t l. c .before .loop .inv .2 t (omega arith)
 
 pub own-states-spec : {M : Type 1} → statement M

@@ -1,12 +1,12 @@
 -- `representatives::renumber::fill_map` meets its contract: the elements below s are written, the others as they were. Assumes nothing.
 use Prim.Native.Nat.{ℕ, _≤_, _-_}
 use mathlib.Core.Path.{_≡_, refl, ap, _∙_}
-use mathlib.Core.List.{_++_}
 use native.Mathlib.Omega.{arith}
-use lib.ListN.{length, getD, drop}
+use lib.ListN.{length, getD, length-set}
 use Rattle.below.specs.Tests.{listed}
 use Rattle.representatives.specs.Tables.{numbered}
-use Rattle.marks.proofs.Writing.{listed-more, length-so-far}
+use Rattle.outputs.specs.Output.{onFront}
+use Rattle.outputs.proofs.Front.{listed-none, listed-more, listed-done}
 use Rattle.representatives.proofs.Nexts.{stepped-in}
 use borrow.Author.Needs.{needs}
 use Rattle.representatives.proofs.renumber.fill_map.Statement.{statement}
@@ -14,14 +14,13 @@ use Rattle.representatives.proofs.renumber.fill_map.Tie as tie
 
 abbrev Inv-loop : tie.InvT-loop
 Inv-loop states next news map₀ s₀ map s =
-    (s ≤ states) × (states ≤ length map₀) × (map ≡ listed s (numbered next news states) ++ drop s map₀)
+    (s ≤ states) × (states ≤ length map₀) × (length map ≡ length map₀) × (map ≡ onFront (listed s (numbered next news states)) map₀)
 
 abbrev μ-loop : tie.MeasureT-loop
 μ-loop states next news map₀ s₀ map s = states - s
 
 loop-holds : tie.Need-loop-holds Inv-loop μ-loop
-unfolding listed
-loop-holds c = (omega arith, omega arith, refl)
+loop-holds c = (omega arith, omega arith, refl, listed-none _ _)
 
 cast-t9 : tie.Need-cast-t9 Inv-loop μ-loop
 cast-t9 c = search needs
@@ -38,8 +37,7 @@ mul-map : tie.Need-mul-map Inv-loop μ-loop
 mul-map c = omega arith
 
 slice-write-map : tie.Need-slice-write-map Inv-loop μ-loop
-slice-write-map c =
-    omega (arith, length-so-far _ _ (c .before .before .before .loop .s) (omega arith) (c .before .before .before .loop .inv .2))
+slice-write-map c = omega arith
 
 add-s : tie.Need-add-s Inv-loop μ-loop
 add-s c = search needs
@@ -54,17 +52,16 @@ loop-again c =
     let st = c .before .before .before .before .before .before in (
       omega arith,
       omega arith,
-      listed-more (numbered (st .args .next .now) (st .args .news .now) (st .args .states)) (st .args .map .now) (omega arith) (v .2)
-          (c .map-at .ensures ∙ ap (λ (k : ℕ). getD (st .args .news .now) k 0) (c .before .follow .ensures)) refl,
+      simp length-set (v .2),
+      listed-more (numbered (st .args .next .now) (st .args .news .now) (st .args .states)) (st .args .map .now) (v .3)
+          (c .map-at .ensures ∙ ap (λ (k : ℕ). getD (st .args .news .now) k 0) (c .before .follow .ensures)) (omega arith),
     )
 
 same-length : tie.Need-same-length Inv-loop μ-loop
-same-length c = length-so-far _ _ (c .before .loop .s) (omega arith) (c .before .loop .inv .2)
+same-length c = omega arith
 
 returns : tie.Need-returns Inv-loop μ-loop
-returns c =
-    let q : c .before .loop .s ≡ c .before .before .before .before .args .states = omega arith in
-    rw q at (c .before .loop .inv .2)
+returns c = listed-done _ _ (c .before .loop .inv .3) (omega arith) (omega arith)
 
 pub fill-map-spec : {M : Type 1} → statement M
 fill-map-spec =

@@ -4,10 +4,10 @@ use mathlib.Core.Path.{_≡_, sym, ap, _∙_}
 use mathlib.Core.Logic.{⊎-elim}
 use native.Mathlib.Omega.{arith}
 use lib.ListN.{length, getD, length-set, length-replicate, getD-replicate}
+use Rattle.graph.specs.Answers.{most-states}
 use Rattle.below.specs.Tests.{tally}
-use Rattle.below.proofs.Tests.{tally-within}
-use Rattle.representatives.specs.Tables.{stays}
-use Rattle.representatives.proofs.Numbers.{tally-none, tally-more, tally-same-at}
+use Rattle.below.proofs.Tests.{tally-none, tally-more, tally-skip, tally-within}
+use Rattle.representatives.specs.Tables.{Numbers, stays}
 use Rattle.starts.proofs.Firsts.{filled-more}
 use borrow.Author.Needs.{needs}
 use Rattle.representatives.proofs.renumber.new_numbers.Statement.{statement}
@@ -15,17 +15,17 @@ use Rattle.representatives.proofs.renumber.new_numbers.Tie as tie
 
 abbrev Inv-loop : tie.InvT-loop
 Inv-loop next news₀ found₀ s₀ news found s =
-    (length news ≡ 1025) × (s ≤ 1024) × (found ≡ tally s (stays next)) × ((t : ℕ) → t < s + 1 → getD news t 0 ≡ tally t (stays next))
+    (length news ≡ most-states + 1) × (s ≤ most-states) × (found ≡ tally s (stays next)) × ((t : ℕ) → t < s + 1 → getD news t 0 ≡ tally t (stays next))
 
 abbrev μ-loop : tie.MeasureT-loop
-μ-loop next news₀ found₀ s₀ news found s = 1024 - s
+μ-loop next news₀ found₀ s₀ news found s = most-states - s
 
 loop-holds : tie.Need-loop-holds Inv-loop μ-loop
 loop-holds c = (
-  length-replicate {A = ℕ} 1025 0,
+  length-replicate {A = ℕ} (most-states + 1) 0,
   omega arith,
   sym (tally-none _),
-  λ t l. let q : t ≡ 0 = omega arith in rw q (getD-replicate {A = ℕ} 1025 0 0 0 (omega arith) ∙ sym (tally-none _)),
+  λ t l. let q : t ≡ 0 = omega arith in rw q (getD-replicate {A = ℕ} (most-states + 1) 0 0 0 (omega arith) ∙ sym (tally-none _)),
 )
 
 cast-t7 : tie.Need-cast-t7 Inv-loop μ-loop
@@ -54,7 +54,7 @@ counted : (c : tie.Joined1 Inv-loop μ-loop) → c .if1 .found ≡ tally (c .bef
 counted c =
     let v = c .before .before .before .loop .inv in
     let e = c .before .is-at-rest .ensures in
-    ⊎-elim (λ w. w .1 ∙ ap (λ (k : ℕ). k + 1) (v .2) ∙ sym (tally-more _ _ (sym e ∙ w .0 .taken))) (λ w. w .1 ∙ v .2 ∙ sym (tally-same-at _ _ (sym e ∙ w .0 .left))) (c .if1 .came)
+    ⊎-elim (λ w. w .1 ∙ tally-more _ _ (v .2) (sym e ∙ w .0 .taken)) (λ w. w .1 ∙ tally-skip _ _ (v .2) (sym e ∙ w .0 .left)) (c .if1 .came)
 
 loop-again : tie.Need-loop-again Inv-loop μ-loop
 loop-again c =
@@ -66,6 +66,7 @@ loop-again c =
     )
 
 returns : tie.Need-returns Inv-loop μ-loop
+unfolding Numbers
 returns c = λ s l. c .before .loop .inv .3 s (omega arith)
 
 pub new-numbers-spec : {M : Type 1} → statement M

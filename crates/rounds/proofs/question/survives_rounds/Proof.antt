@@ -1,11 +1,12 @@
 -- `rounds::question::survives_rounds` meets its contract: an empty table is right. Assumes nothing.
 use borrow.Author.Needs.{needs}
-use Prim.Native.Nat.{ℕ}
+use Prim.Native.Nat.{ℕ, _+_, _*_}
 use native.Mathlib.Omega.{arith}
 use lib.ListN.{length-replicate}
-use Rattle.starts.specs.Starts.{Table}
+use Rattle.graph.specs.Answers.{most-hops}
 use Rattle.starts.proofs.Firsts.{admitted-ready}
-use Rattle.rounds.proofs.Noted.{nothing-told}
+use Rattle.cycle.proofs.Known.{nothing-said}
+use Rattle.rounds.specs.Question.{most-rounds}
 use Rattle.rounds.proofs.question.survives_rounds.Statement.{statement}
 use Rattle.rounds.proofs.question.survives_rounds.Tie as tie
 
@@ -15,32 +16,25 @@ starts-of-requires c κs = admitted-ready (c .before .pre .0)
 slice-aggregate-x : tie.Need-slice-aggregate-x
 slice-aggregate-x c = search needs
 
-slice-aggregate-x-2 : tie.Need-slice-aggregate-x-2
-slice-aggregate-x-2 c = search needs
-
 x-requires : tie.Need-x-requires
-unfolding Table
 x-requires c κs =
-    let s = c .before .before .before .before in (
-      (s .pre .1 .0, s .pre .1 .1),
-      record {
-        shape = s .args .shape;
-        admitted = s .pre .0;
-        index = record { ascending = s .pre .0 .ascending; full = search needs; first = c .before .before .starts-of .ensures };
-        room = omega (arith, length-replicate {A = ℕ} 20480 0);
-        right = nothing-told _ 20480;
-      },
+    let s = c .before .before .before .before in
+    let ok = s .pre .0 in (
+      s .pre .1 .0,
+      (
+        s .pre .1 .1 .0,
+        record {
+          ready = admitted-ready ok;
+          label-in = λ i l. omega (arith, ok .range .label-in i l, ok .labels-most);
+          table = c .before .before .starts-of .ensures;
+          room = omega (arith, length-replicate {A = ℕ} ((most-rounds + 1) * most-hops) 0);
+          right = nothing-said _ ((most-rounds + 1) * most-hops);
+        },
+      ),
     )
 
 returns : tie.Need-returns
-returns c = search needs
+returns c = c .before .x .ensures .0
 
 pub survives-rounds-spec : {M : Type 1} → statement M
-survives-rounds-spec =
-    tie.close
-    (tie.spec
-    starts-of-requires
-    slice-aggregate-x
-    slice-aggregate-x-2
-    x-requires
-    returns)
+survives-rounds-spec = tie.close (tie.spec starts-of-requires slice-aggregate-x x-requires returns)

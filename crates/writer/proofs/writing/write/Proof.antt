@@ -1,7 +1,7 @@
 -- `writer::writing::write` meets its contract: a refusal writes nothing, and acceptance says that there is room. Assumes nothing.
 use borrow.Author.Needs.{needs}
 use mathlib.Core.Path.{refl, sym, _∙_}
-use Rattle.writer.proofs.Given.{hops-most-numbers, write-accepts, writable, refused-writes, accepted-writes}
+use Rattle.writer.proofs.Given.{given-few, write-accepts, writable, refused-writes, accepted-writes}
 use Rattle.writer.proofs.writing.write.Statement.{statement}
 use Rattle.writer.proofs.writing.write.Tie as tie
 
@@ -23,17 +23,13 @@ put-file-requires c κs =
 encoded-length-requires : tie.Need-encoded-length-requires
 encoded-length-requires c κs =
     let w = write-accepts _ _ _ _ (rw (c .before .before .before .before .before .before .write-answer .ensures) at (c .before .before .before .before .if1 .left)) in
-    hops-most-numbers _ _ _ 0 refl (w .1)
+    given-few _ _ _ 0 refl (w .1)
 
 same-length : tie.Need-same-length
 same-length c = search needs
 
 returns-2 : tie.Need-returns-2
-returns-2 c =
-    let e = c .before .before .before .before .before .before .before .write-answer .ensures in
-    let w = write-accepts _ _ _ _ (rw e at (c .before .before .before .before .before .if1 .left)) in
-    let g = accepted-writes _ _ _ _ (e ∙ w .0) (c .encoded-length .ensures) (sym (w .0)) in
-    (g .0, c .before .before .before .put-file .ensures ∙ g .1)
+returns-2 c = accepted-writes _ _ _ _ (c .before .before .before .before .before .before .before .write-answer .ensures) (c .before .before .before .before .before .if1 .left) (c .encoded-length .ensures) (c .before .before .before .put-file .ensures)
 
 pub write-spec : {M : Type 1} → statement M
 write-spec =

@@ -1,0 +1,1 @@
+pub mod Front  -- the front of a local array, lent and given back

@@ -1,0 +1,188 @@
+// A program for tests: the two entries over records, `check_records` and `mark_records`, over P1, bad input and the limits. What they answer is printed
+// and held to the file stdout. An element of the output for marks that was not written is 7.
+// Stands on records (the entries) and show (how it is printed).
+use graph::Answer;
+use graph::Hop;
+use graph::MOST_HOPS;
+use graph::NUMBERS_A_HOP;
+use graph::Shape;
+use graph::hops::hop_at;
+use graph::hops::hop_count;
+use graph::hops::part;
+use records::check_records;
+use records::mark_records;
+use show::answer;
+use show::bytes;
+use show::number;
+use show::shape_of;
+use show::text;
+ghost use Prim.Native.Nat.{_+_, _<_, _≤_};
+ghost use Rattle.graph.specs.Answers.{most-hops};
+ghost use Rattle.graph.specs.Hops.{count};
+
+// One record and one hop more than a graph has at most.
+const RECORDS: usize = MOST_HOPS + 1;
+
+fn print_both(checked: Answer, marked: Answer) {
+    text(b": check");
+    answer(checked);
+    text(b", mark");
+    answer(marked);
+    text(b", marks");
+}
+
+// Both entries over the first n records, lent.
+fn ask(shape: Shape, hops: [Hop; RECORDS], n: usize, marks: &mut [u8])
+    requires { ⌜ n ≤ most-hops + 1 ⌝ }
+{
+    let list = &hops[..n];
+    print_both(check_records(shape, list), mark_records(shape, list, marks));
+}
+
+// The records of a flat list, and records of zeros behind them.
+fn records_of(nums: &[u16]) -> [Hop; RECORDS]
+    requires { ⌜ count (now nums) ≤ most-hops + 1 ⌝ }
+{
+    let mut hops = [Hop {
+        from: 0,
+        label: 0,
+        to: 0,
+    }; RECORDS];
+    let n = hop_count(nums);
+    let mut i = 0;
+    while i < n {
+        hops[i] = hop_at(nums, i);
+        i += 1;
+    }
+    hops
+}
+
+// Both entries over the records of a flat list, with the first `room` elements for marks.
+fn ask_list(shape: Shape, nums: &[u16], marks: &mut [u8], room: usize) {
+    let n = hop_count(nums);
+    if RECORDS < n {
+        return;
+    }
+    if marks.len() < room {
+        return;
+    }
+    ask(shape, records_of(nums), n, &mut marks[..room]);
+}
+
+// A list of few records, and six elements, of which the first `room` were lent.
+fn few(name: &[u8], shape: Shape, nums: &[u16], room: usize) {
+    let mut marks = [7u8; 6];
+    text(name);
+    ask_list(shape, nums, &mut marks, room);
+    bytes(&marks);
+    text(b"\n");
+}
+
+fn ones(marks: &[u8]) -> usize {
+    let mut n = 0;
+    let mut i = 0;
+    while i < marks.len() {
+        if marks[i] == 1 {
+            n += 1;
+        }
+        i += 1;
+    }
+    n
+}
+
+// A list at the limit of 4,096 hops, five a state: the silent one leads to the next state, the others to the state itself. So each silent hop is
+// marked but that of state 818, since 4,096 hops end with the silent hop of state 819, which has no other to answer with.
+fn stair(i: usize) -> Hop
+    requires { ⌜ i < most-hops + 1 ⌝ }
+{
+    let from = (i / 5) as u16;
+    let label = (i % 5) as u16;
+    if label == 0 {
+        return Hop {
+            from,
+            label,
+            to: from + 1,
+        };
+    }
+    Hop {
+        from,
+        label,
+        to: from,
+    }
+}
+
+fn stairs() -> [u16; NUMBERS_A_HOP * RECORDS] {
+    let mut nums = [0u16; NUMBERS_A_HOP * RECORDS];
+    let mut i = 0;
+    while i < RECORDS {
+        let h = stair(i);
+        nums[NUMBERS_A_HOP * i] = h.from;
+        nums[NUMBERS_A_HOP * i + 1] = h.label;
+        nums[NUMBERS_A_HOP * i + 2] = h.to;
+        i += 1;
+    }
+    nums
+}
+
+fn ask_first(nums: &[u16], n: usize, marks: &mut [u8], room: usize) {
+    if hop_count(nums) < n {
+        return;
+    }
+    ask_list(shape_of(1024, 5, 0), part(nums, 0, n), marks, room);
+}
+
+// The first n hops of the list at the limit, and of 4,098 elements, of which the first `room` were lent: the first six, the last thirteen, and how
+// many are 1.
+fn many(name: &[u8], n: usize, room: usize) {
+    let nums = stairs();
+    let mut marks = [7u8; 4098];
+    text(name);
+    ask_first(&nums, n, &mut marks, room);
+    bytes(&marks[0..6]);
+    text(b" ..");
+    bytes(&marks[4085..4098]);
+    text(b", ones");
+    number(ones(&marks) as u64);
+    text(b"\n");
+}
+
+fn p1(name: &[u8], shape: Shape, room: usize) {
+    let hops = [0u16, 0, 1, 0, 1, 2, 1, 1, 3, 2, 0, 3];
+    few(name, shape, &hops, room);
+}
+
+fn small() {
+    p1(b"P1", shape_of(4, 2, 0), 6);
+    p1(b"P1, just room", shape_of(4, 2, 0), 4);
+    p1(b"P1, too short", shape_of(4, 2, 0), 3);
+    p1(b"no states", shape_of(0, 2, 0), 6);
+    p1(b"initial state at the count", shape_of(4, 2, 4), 6);
+    p1(b"a state out of range", shape_of(3, 2, 0), 6);
+}
+
+fn others() {
+    let none = [0u16; 0];
+    let p8 = [0u16, 0, 1, 1, 0, 2, 2, 0, 1];
+    let falling = [0u16, 0, 1, 1, 1, 3, 0, 1, 2];
+    few(b"no records", shape_of(1, 1, 0), &none, 6);
+    few(b"P8", shape_of(3, 1, 0), &p8, 6);
+    few(
+        b"a hop below the one before",
+        shape_of(4, 2, 0),
+        &falling,
+        6,
+    );
+}
+
+fn limits() {
+    many(b"4096 records", 4096, 4098);
+    many(b"4096 records, just room", 4096, 4096);
+    many(b"4096 records, too short", 4096, 4095);
+    many(b"4097 records", 4097, 4098);
+}
+
+fn main() {
+    small();
+    others();
+    limits();
+}

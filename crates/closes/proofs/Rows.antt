@@ -1,0 +1,181 @@
+-- Where a state's hops lie in an ascending list: the table of first places gives their range, labels do not fall in it, and those of one
+-- label lie together. Assumes nothing.
+use Prim.Native.Nat.{ℕ, _+_, _<_, _≤_}
+use mathlib.Core.Path.{_≡_, sym, _∙_}
+use mathlib.Core.Bool.{Bool, true, false, not}
+use mathlib.Core.List.{List}
+use mathlib.Core.Logic.{_⊎_, inl, inr, ⊎-elim}
+use native.Mathlib.Nat.{eq-or-lt-of-le, le-refl}
+use native.Mathlib.Omega.{arith}
+use borrow.Author.Tests.{not-true, not-false}
+use borrow.Author.Count.{below-more}
+use Rattle.graph.specs.Hops.{count, from, label, to, labelled, hopAt}
+use Rattle.graph.specs.Order.{Ascending}
+use Rattle.graph.specs.Search.{firstOf, pastOf}
+use Rattle.below.proofs.Bools.{lt-or-le}
+use Rattle.below.proofs.Tests.{all-yes, all-fails}
+use Rattle.graph.proofs.Places.{labelled-yes, labelled-parts}
+use Rattle.graph.proofs.Ordered.{Below, before-below, ascending-lt}
+use Rattle.graph.proofs.Lookup.{first-within, range-holds, range-only}
+use Rattle.shrinking.specs.Pairs.{Pairs}
+use Rattle.confluence.specs.Rounds.{closing, hopAnswers, answers, answered, tried, closes}
+use Rattle.starts.proofs.Firsts.{first-below, first-next}
+use Rattle.closes.specs.Walk.{Row, Skipped}
+use Rattle.confluence.proofs.Closing.{closing-is, hop-answers, none-answers, answers-still, answers-else, answered-at, tried-own, tried-other}
+
+module _ (hs : List ℕ) (up : Ascending hs) where
+  pub ascending-label : {i j : ℕ} → i ≤ j → j < count hs → from hs i ≡ from hs j → label hs i ≤ label hs j
+  ascending-label {i} {j} h l e =
+      ⊎-elim (λ q. rw q (omega arith)) (λ m. go (before-below (hopAt hs i) (hopAt hs j) (ascending-lt hs up j m l))) (eq-or-lt-of-le h) where
+        go : Below (hopAt hs i) (hopAt hs j) → label hs i ≤ label hs j
+        go (inl k) = absurd (omega arith)
+        go (inr (q, inl k)) = omega arith
+        go (inr (q, inr (k, m))) = omega arith
+
+  -- the walk over a row comes to a place k of the label, whose end s4 closes s3
+  pub row-answers : (u : Pairs) (s a s3 : ℕ) {at past : ℕ} → Row hs s a at past → {k s4 : ℕ} {v : Bool} → at ≤ k → k < past → label hs k ≡ a →
+      s4 ≡ to hs k → v ≡ closing u s3 s4 → v ≡ true → true ≡ hopAnswers hs (closing u) s a s3
+  row-answers u s a s3 row {k} l m q t e d =
+      sym (hop-answers hs u s a s3 (omega (arith, row .within)) (labelled-yes hs s a k (row .own k l m) q) (closing-is u s3 t e d))
+
+  -- the walk over a row stops at a place k: none before it closes s3, and the one there, if any, has another label. So no hop answers.
+  pub row-ends : (u : Pairs) (s a s3 : ℕ) {at past : ℕ} → Row hs s a at past → (k : ℕ) → at ≤ k →
+      ((j : ℕ) → at ≤ j → j < k → closing u s3 (to hs j) ≡ false) → (k < past → label hs k ≡ a → ⊥) →
+      false ≡ hopAnswers hs (closing u) s a s3
+  row-ends u s a s3 {at} {past} row k l f g = sym (none-answers hs u s a s3 at past inside none) where
+    inside : (j : ℕ) → j < count hs → labelled hs s a j ≡ true → (at ≤ j) × (j < past)
+    inside j m e = let (p, q) = labelled-parts hs s a j e in row .rest j m p (omega arith)
+
+    late : (j : ℕ) → at ≤ j → j < past → k ≤ j → labelled hs s a j ≡ true → ⊥
+    late j b m n e =
+        let (p, q) = labelled-parts hs s a j e in
+        let w : k < past = omega arith in
+        let d : from hs k ≡ from hs j = row .own k l w ∙ sym p in
+        let h : label hs k ≤ label hs j = ascending-label n (omega (arith, row .within)) d in
+        g w (omega (arith, row .low k l w))
+
+    none : (j : ℕ) → at ≤ j → j < past → labelled hs s a j ≡ true → closing u s3 (to hs j) ≡ false
+    none j b m e = ⊎-elim (λ n. f j b n) (λ n. absurd (late j b m n e)) (lt-or-le j k)
+
+  -- the hops before the first of s1 are not tried
+  pub tried-before : (u : Pairs) (s1 s2 : ℕ) {j : ℕ} → j ≡ firstOf hs s1 → (k : ℕ) → k < j → tried hs (answers hs (closing u)) s1 s2 k ≡ true
+  tried-before u s1 s2 e k l =
+      tried-other hs u s1 s2 k (λ q. let h : from hs k < s1 = first-below hs up s1 (omega arith) in absurd (omega arith))
+
+-- Two states' hops walked side by side: j goes over those of s1, up to `end`, and `at` over those of s2, up to `past`. The labels that `at`
+-- has passed are below every label that j has still to come to.
+pub record Walk (hs : List ℕ) (s1 s2 end past at j : ℕ) : Type 0 where
+  pub end-is : end ≡ firstOf hs (s1 + 1)
+  pub past-is : past ≡ firstOf hs (s2 + 1)
+  pub j-from : firstOf hs s1 ≤ j
+  pub j-in : j ≤ end
+  pub at-from : firstOf hs s2 ≤ at
+  pub at-in : at ≤ past
+  pub behind : (k : ℕ) → firstOf hs s2 ≤ k → k < at → (i : ℕ) → j ≤ i → i < end → label hs k < label hs i
+
+module _ (hs : List ℕ) (up : Ascending hs) (s1 s2 end past : ℕ) where
+  pub walk-start : {at j : ℕ} → end ≡ firstOf hs (s1 + 1) → past ≡ firstOf hs (s2 + 1) → at ≡ firstOf hs s2 → j ≡ firstOf hs s1 →
+      Walk hs s1 s2 end past at j
+  walk-start p q r e =
+      record {
+        end-is = p;
+        past-is = q;
+        j-from = omega arith;
+        j-in = omega (arith, first-next hs up s1);
+        at-from = omega arith;
+        at-in = omega (arith, first-next hs up s2);
+        behind = λ k l m i n o. absurd (omega arith);
+      }
+
+  module _ {at j : ℕ} (w : Walk hs s1 s2 end past at j) (l : j < end) where
+    -- the hop at j is one of s1
+    pub walk-in : j < count hs
+    walk-in = omega (arith, w .end-is, first-within hs up (s1 + 1))
+
+    pub walk-from : from hs j ≡ s1
+    unfolding pastOf
+    walk-from = range-only hs up s1 walk-in (w .j-from) (omega (arith, w .end-is))
+
+    pub walk-past : past ≤ count hs
+    walk-past = omega (arith, w .past-is, first-within hs up (s2 + 1))
+
+    module _ {r : ℕ} (sk : Skipped hs at past (label hs j) r) where
+      -- the next label of s1 is at least that of j
+      later : (i : ℕ) → j ≤ i → i < end → label hs j ≤ label hs i
+      unfolding pastOf
+      later i m n =
+          let o : i < count hs = omega (arith, w .end-is, first-within hs up (s1 + 1)) in
+          ascending-label hs up m o (walk-from ∙ sym (range-only hs up s1 o (omega (arith, w .j-from)) (omega (arith, w .end-is))))
+
+      pub walk-skip : Walk hs s1 s2 end past r j
+      walk-skip =
+          record {
+            end-is = w .end-is;
+            past-is = w .past-is;
+            j-from = w .j-from;
+            j-in = w .j-in;
+            at-from = omega (arith, w .at-from, sk .after);
+            at-in = sk .before;
+            behind = λ k a b i m n. ⊎-elim (λ c. w .behind k a c i m n) (λ c. omega (arith, sk .passed k c b, later i m n)) (lt-or-le k at);
+          }
+
+      -- the hops of s2 from r on are those of j's label or above
+      pub walk-row : Row hs s2 (label hs j) r past
+      unfolding pastOf
+      walk-row = record { within = walk-past; own = own; low = low; rest = rest } where
+        own : (k : ℕ) → r ≤ k → k < past → from hs k ≡ s2
+        own k a b =
+            range-only hs up s2 (omega (arith, walk-past)) (omega (arith, w .at-from, sk .after)) (omega (arith, w .past-is))
+
+        low : (k : ℕ) → r ≤ k → k < past → label hs j ≤ label hs k
+        low k a b =
+            let m : r < past = omega arith in
+            let h : label hs r ≤ label hs k = ascending-label hs up a (omega (arith, walk-past)) (own r (le-refl r) m ∙ sym (own k a b)) in
+            omega (arith, sk .stopped m)
+
+        rest : (k : ℕ) → k < count hs → from hs k ≡ s2 → label hs j ≤ label hs k → (r ≤ k) × (k < past)
+        rest k o e m =
+            let (a, b) = range-holds hs up s2 o e in
+            (⊎-elim (λ c. absurd (omega (arith, walk-skip .behind k a c j (le-refl j) l))) (λ c. c) (lt-or-le k r), omega (arith, w .past-is))
+
+      pub walk-next : Walk hs s1 s2 end past r (j + 1)
+      walk-next =
+          record {
+            end-is = w .end-is;
+            past-is = w .past-is;
+            j-from = omega (arith, w .j-from);
+            j-in = omega arith;
+            at-from = walk-skip .at-from;
+            at-in = walk-skip .at-in;
+            behind = λ k a b i m n. walk-skip .behind k a b i (omega arith) n;
+          }
+
+  -- X: no hop from `end` on is tried, and the one at j is, against a silent hop to t, which is s2
+  module _ (u : Pairs) {at j : ℕ} (w : Walk hs s1 s2 end past at j) where
+    pub tried-done : end ≤ j → ((k : ℕ) → k < j → tried hs (answers hs (closing u)) s1 s2 k ≡ true) → true ≡ closes hs u s1 s2
+    unfolding closes pastOf
+    tried-done l f =
+        sym (all-yes (tried hs (answers hs (closing u)) s1 s2) (count hs) (λ k m. ⊎-elim (λ a. f k a) (λ a. tried-other hs u s1 s2 k (after k m a)) (lt-or-le k j))) where
+          after : (k : ℕ) → k < count hs → j ≤ k → from hs k ≡ s1 → ⊥
+          after k m a q = let (x, y) = range-holds hs up s1 m q in omega (arith, w .end-is)
+
+    module _ (l : j < end) {t : ℕ} {v : Bool} (q : t ≡ s2) (e : v ≡ answered hs u t j) where
+      pub tried-fails : not v ≡ true → false ≡ closes hs u s1 s2
+      unfolding closes
+      tried-fails n =
+          let d : answered hs u s2 j ≡ false = rw q at (sym e ∙ not-true v n) in
+          sym (all-fails (tried hs (answers hs (closing u)) s1 s2) (count hs) (walk-in w l) (tried-own hs u s1 s2 j (walk-from w l) ∙ d))
+
+      pub tried-next : not v ≡ false → ((k : ℕ) → k < j → tried hs (answers hs (closing u)) s1 s2 k ≡ true) →
+          (k : ℕ) → k < j + 1 → tried hs (answers hs (closing u)) s1 s2 k ≡ true
+      tried-next n f =
+          let d : answered hs u s2 j ≡ true = rw q at (sym e ∙ not-false v n) in
+          below-more _ j f (tried-own hs u s1 s2 j (walk-from w l) ∙ d)
+
+-- Y of the hop at place j, labelled a to s3: s2 itself answers, or a hop of s2 must
+module _ (hs : List ℕ) (u : Pairs) (s2 j : ℕ) {a s3 : ℕ} (p : a ≡ label hs j) (q : s3 ≡ to hs j) {v : Bool} where
+  pub answered-still : a ≡ 0 → v ≡ closing u s3 s2 → v ≡ true → true ≡ answered hs u s2 j
+  answered-still z e d = sym (answers-still hs u s2 a s3 z (sym e ∙ d)) ∙ answered-at hs u s2 j p q
+
+  pub answered-else : v ≡ hopAnswers hs (closing u) s2 a s3 → (a ≡ 0 → closing u s3 s2 ≡ false) → v ≡ answered hs u s2 j
+  answered-else e f = e ∙ answers-else hs u s2 a s3 f ∙ answered-at hs u s2 j p q

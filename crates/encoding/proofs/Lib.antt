@@ -1,0 +1,1 @@
+pub mod Encoded  -- the parts of a written file: how long they are, and put one after the other

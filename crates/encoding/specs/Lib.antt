@@ -1,0 +1,1 @@
+pub mod Encode  -- the file of a graph, as it is written

@@ -1,0 +1,73 @@
+-- What it means that the format of a file is accepted: it has just the length that its own numbers ask, no bit stands over what absence means, and no name is bad.
+-- Assumes nothing.
+use Prim.Native.Nat.{ℕ, _<_, _≤_}
+use mathlib.Core.Path.{_≡_, refl}
+use mathlib.Core.Bool.{Bool, true, false, cond, _&&_, _||_}
+use mathlib.Core.List.{List}
+use native.Mathlib.Omega.{arith}
+use borrow.Author.Tests.{ltb-false, leb-false, eqb-false}
+use lib.ListN.{length}
+use lib.Dec.{eqb, leb, ltb}
+use Rattle.graph.specs.declared.Answer.{Answer}
+use Rattle.below.proofs.Bools.{clash}
+use Rattle.names.specs.Block.{firstBad}
+use Rattle.fields.specs.Format.{bitMap, hasInitial, hasHops, hasNames, labelsIn, initialIn, hopsIn, namesPlace, namesIn, restOf, need, idleBit}
+use Rattle.format.specs.Rows.{most-bytes, namesAnswer, formatAnswer}
+
+-- a check that can only refuse did not speak
+pub past : (t : Bool) (r x : Answer) → (r .number ≡ 0 → ⊥) → (cond t r x) .number ≡ 0 → (t ≡ false) × (x .number ≡ 0)
+past true r x n e = absurd (n e)
+past false r x n e = (refl, e)
+
+pub record Sound (b : List ℕ) : Type 0 where
+  pub short : length b ≤ most-bytes
+  pub low : bitMap b < 8
+  pub exact : need b ≡ length b
+  pub busy : idleBit b ≡ false
+  pub clean : namesIn b ≤ firstBad (restOf b) (namesIn b)
+
+module _ (b : List ℕ) where
+  pub format-sound : formatAnswer b .number ≡ 0 → Sound b
+  unfolding formatAnswer namesAnswer
+  format-sound e =
+      let (p, e1) = past (ltb most-bytes (length b)) _ _ (λ z. absurd (omega arith)) e in
+      let (q, e2) = past (leb 8 (bitMap b)) _ _ (λ z. absurd (omega arith)) e1 in
+      let (r, e3) = past (ltb (length b) (need b)) _ _ (λ z. absurd (omega arith)) e2 in
+      let (s, e4) = past (ltb (need b) (length b)) _ _ (λ z. absurd (omega arith)) e3 in
+      let (t, e5) = past (idleBit b) _ _ (λ z. absurd (omega arith)) e4 in
+      let (u, e6) = past (ltb (firstBad (restOf b) (namesIn b)) (namesIn b)) _ _ (λ z. absurd (omega arith)) e5 in
+      record {
+        short = ltb-false _ _ p;
+        low = leb-false _ _ q;
+        exact = omega (arith, ltb-false (length b) (need b) r, ltb-false (need b) (length b) s);
+        busy = t;
+        clean = ltb-false _ _ u;
+      }
+
+  -- the names begin within the file
+  pub names-within : Sound b → namesPlace b ≤ length b
+  unfolding need
+  names-within s = omega (arith, s .exact)
+
+  -- each bit stands over something
+  module _ (s : idleBit b ≡ false) where
+    apart : (x y z : Bool) → (x || (y || z)) ≡ false → (x ≡ false) × (y ≡ false) × (z ≡ false)
+    apart true y z e = clash refl e
+    apart false true z e = clash refl e
+    apart false false z e = (refl, refl, e)
+
+    left-on : {x y : Bool} → x ≡ true → (x && y) ≡ false → y ≡ false
+    left-on {x = true} d e = e
+    left-on {x = false} d e = clash d refl
+
+    pub initial-there : hasInitial b ≡ true → initialIn b ≡ 0 → ⊥
+    unfolding idleBit
+    initial-there h = eqb-false _ _ (left-on h (apart (hasInitial b && eqb (initialIn b) 0) (hasHops b && eqb (hopsIn b) 0) (hasNames b && leb (labelsIn b) 1) s .0))
+
+    pub hops-there : hasHops b ≡ true → hopsIn b ≡ 0 → ⊥
+    unfolding idleBit
+    hops-there h = eqb-false _ _ (left-on h (apart (hasInitial b && eqb (initialIn b) 0) (hasHops b && eqb (hopsIn b) 0) (hasNames b && leb (labelsIn b) 1) s .1))
+
+    pub names-there : hasNames b ≡ true → 1 < labelsIn b
+    unfolding idleBit
+    names-there h = leb-false _ _ (left-on h (apart (hasInitial b && eqb (initialIn b) 0) (hasHops b && eqb (hopsIn b) 0) (hasNames b && leb (labelsIn b) 1) s .2))

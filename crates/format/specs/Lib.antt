@@ -1,0 +1,1 @@
+pub mod Rows  -- the rows 11 to 14 of a file, in the order in which they speak

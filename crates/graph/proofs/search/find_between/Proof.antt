@@ -1,0 +1,37 @@
+-- `graph::search::find_between` meets its contract. Assumes nothing.
+use borrow.Author.Needs.{needs}
+use mathlib.Core.Path.{sym, _∙_}
+use native.Mathlib.Omega.{arith}
+use Rattle.graph.proofs.Lookup.{find-there, find-other, find-end}
+use Rattle.graph.proofs.search.find_between.Statement.{statement}
+use Rattle.graph.proofs.search.find_between.Tie as tie
+
+lower-between-requires : tie.Need-lower-between-requires
+lower-between-requires c κs = search needs
+
+hop-count-requires : tie.Need-hop-count-requires
+hop-count-requires c κs = search needs
+
+is-hop-at-requires : tie.Need-is-hop-at-requires
+is-hop-at-requires c κs = search needs
+
+returns : tie.Need-returns
+returns c =
+    find-there _ _ (c .before .before .before .before .lower-between .ensures) (omega arith) (sym (c .before .is-hop-at .ensures) ∙ c .if2 .taken)
+
+returns-2 : tie.Need-returns-2
+returns-2 c = find-other _ _ (c .before .before .before .before .lower-between .ensures) (sym (c .before .is-hop-at .ensures) ∙ c .if2 .left)
+
+returns-3 : tie.Need-returns-3
+returns-3 c = find-end _ _ (c .before .before .lower-between .ensures) (omega arith)
+
+pub find-between-spec : {M : Type 1} → statement M
+find-between-spec =
+    tie.close
+    (tie.spec
+    lower-between-requires
+    hop-count-requires
+    is-hop-at-requires
+    returns
+    returns-2
+    returns-3)

@@ -1,0 +1,52 @@
+-- The hop field of document 01: "the hop count with six bytes a hop". The field begins at a place `at` of the bytes, with its count; its hops are counted from
+-- 0. Assumes nothing: these are definitions.
+use Prim.Native.Nat.{ℕ, zero, suc, _+_, _*_, _<_, _≤_}
+use mathlib.Core.List.{List, [], _∷_, _++_}
+use lib.ListN.{length}
+use Rattle.graph.specs.Hops.{count, hopOf, hopAt, flat, front}
+use Rattle.graph.specs.declared.Hop.{Hop}
+use Rattle.numbers.specs.Numbers.{numberAt, number}
+
+-- "six bytes a hop": its from, its label and its to
+abbrev pub bytes-a-hop : ℕ
+bytes-a-hop = 6
+
+-- how many bytes a field of n hops takes, with its count
+abbrev pub fieldLength : ℕ → ℕ
+fieldLength n = 2 + bytes-a-hop * n
+
+-- where the hop at a place begins
+abbrev pub hopPlace : ℕ → ℕ → ℕ
+hopPlace at i = at + 2 + bytes-a-hop * i
+
+-- the first n hops lie within the bytes
+abbrev pub HopsLie : List ℕ → ℕ → ℕ → Type 0
+HopsLie b at n = (i : ℕ) → i < n → hopPlace at (i + 1) ≤ length b
+
+-- the hop whose bytes begin at a place of the file
+unfoldable pub hopFrom : List ℕ → ℕ → Hop
+hopFrom b p = hopOf (numberAt b p) (numberAt b (p + 2)) (numberAt b (p + 4))
+
+-- the hop at a place of the field
+abbrev pub hopIn : List ℕ → ℕ → ℕ → Hop
+hopIn b at i = hopFrom b (hopPlace at i)
+
+-- the hops that a function gives for 0, 1, .. below n
+unfoldable pub hopsBy : ℕ → (ℕ → Hop) → List Hop
+hopsBy zero f = []
+hopsBy (suc n) f = hopsBy n f ++ (f n ∷ [])
+
+-- the hop list of the field's first n hops
+unfoldable pub hopsInField : List ℕ → ℕ → ℕ → List ℕ
+hopsInField b at n = flat (hopsBy n (hopIn b at))
+
+-- the bytes of one hop, of several, and of the field of a hop list
+unfoldable pub hopBytes : Hop → List ℕ
+hopBytes h = number (h .from) ++ (number (h .label) ++ number (h .to))
+
+unfoldable pub bytesOf : List Hop → List ℕ
+bytesOf [] = []
+bytesOf (h ∷ hs) = hopBytes h ++ bytesOf hs
+
+unfoldable pub fieldBytes : List ℕ → List ℕ
+fieldBytes hs = number (count hs) ++ bytesOf (front (count hs) hs)

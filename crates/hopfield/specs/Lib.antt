@@ -1,0 +1,1 @@
+pub mod Field  -- the hop field: its length, its hops, its bytes

@@ -1,0 +1,1 @@
+pub mod Numbers  -- a 16-bit number among bytes

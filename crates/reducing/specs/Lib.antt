@@ -1,0 +1,1 @@
+pub mod Reducing  -- what reducing along marks returns and leaves

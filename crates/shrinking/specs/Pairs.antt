@@ -1,0 +1,22 @@
+-- Sets of pairs of states. Assumes nothing: these are definitions.
+use Prim.Native.Nat.{ℕ, _<_}
+use mathlib.Core.Path.{_≡_}
+use mathlib.Core.Bool.{Bool, true}
+
+-- a set of pairs of states
+abbrev pub Pairs : Type 0
+Pairs = ℕ → ℕ → Bool
+
+-- the same set, where any set of pairs is meant, decidable or not
+abbrev pub In : Pairs → ℕ → ℕ → Type 0
+In u s t = u s t ≡ true
+
+-- each pair of the one is a pair of the other
+abbrev pub Within : (ℕ → ℕ → Type 0) → (ℕ → ℕ → Type 0) → Type 0
+Within U W = (s t : ℕ) → U s t → W s t
+
+-- a set that has at most n pairs: each stands at a place below n
+pub record Listed (b : Pairs) (n : ℕ) : Type 0 where
+  pub first : ℕ → ℕ
+  pub second : ℕ → ℕ
+  pub place : (s t : ℕ) → b s t ≡ true → (i : ℕ) × (i < n) × (first i ≡ s) × (second i ≡ t)

@@ -1,0 +1,109 @@
+-- A list that begins with the marks of a set u: its marks are 1 or 0, 1 at silent hops only, and the set that they hold is u's silent hops. Assumes nothing.
+use Prim.Native.Nat.{ℕ, _<_, _≤_}
+use mathlib.Core.Path.{_≡_, refl, sym, ap, _∙_}
+use mathlib.Core.Bool.{Bool, true, false, cond, _&&_}
+use mathlib.Core.List.{List}
+use mathlib.Core.Logic.{_⊎_, inl, inr, ⊎-elim}
+use native.Mathlib.Omega.{arith}
+use lib.ListN.{length, getD, drop, length-append, length-drop, List·getD-append}
+use lib.Seq.{drop-at}
+use lib.Dec.{eqb}
+use borrow.Author.Tests.{eqb-true, eq-eqb}
+use Rattle.below.specs.Tests.{listed}
+use Rattle.below.proofs.Bools.{and-yes, and-left, and-right, same-test}
+use Rattle.below.proofs.Tests.{length-listed, getD-listed}
+use Rattle.outputs.specs.Output.{onFront}
+use Rattle.graph.specs.Hops.{count, from, label, to, is, has}
+use Rattle.graph.proofs.Places.{is-yes, is-from, is-to, has-place, place-has}
+use Rattle.shrinking.specs.Pairs.{Pairs, In, Within}
+use Rattle.confluence.specs.Rounds.{silentHops, marked}
+use Rattle.confluence.specs.Held.{isMarked, heldBy, markOf, marksOf}
+use Rattle.confluence.proofs.Marked.{marked-confluent}
+use Rattle.confluence.proofs.Held.{held-says, held-yes}
+
+-- a list that is written from the front keeps its length
+pub length-so-far : (f : ℕ → ℕ) (old : List ℕ) {new : List ℕ} (i : ℕ) → i ≤ length old → new ≡ onFront (listed i f) old → length new ≡ length old
+length-so-far f old i l e = ap length e ∙ simp (length-append, length-listed, length-drop) (omega arith)
+
+-- a test as a number
+bit : (b : Bool) → (_≡_ {A = ℕ} (cond b 1 0) 0) ⊎ (_≡_ {A = ℕ} (cond b 1 0) 1)
+bit true = inr refl
+bit false = inl refl
+
+bit-one : (b : Bool) → _≡_ {A = ℕ} (cond b 1 0) 1 → b ≡ true
+bit-one true e = refl
+bit-one false e = absurd (omega arith)
+
+module _ (hs : List ℕ) (u : Pairs) where
+  -- the mark of the hop at place i
+  module _ (i : ℕ) where
+    pub mark-bit : (markOf hs u i ≡ 0) ⊎ (markOf hs u i ≡ 1)
+    unfolding markOf
+    mark-bit = bit (eqb (label hs i) 0 && u (from hs i) (to hs i))
+
+    pub mark-one : label hs i ≡ 0 → u (from hs i) (to hs i) ≡ true → markOf hs u i ≡ 1
+    unfolding markOf
+    mark-one q e = rw (and-yes (eq-eqb (label hs i) 0 q) e)
+
+    pub mark-says : markOf hs u i ≡ 1 → (label hs i ≡ 0) × (u (from hs i) (to hs i) ≡ true)
+    unfolding markOf
+    mark-says e =
+        let b = bit-one (eqb (label hs i) 0 && u (from hs i) (to hs i)) e in
+        (eqb-true (label hs i) 0 (and-left (eqb (label hs i) 0) _ b), and-right (eqb (label hs i) 0) _ b)
+
+    pub mark-visible : (label hs i ≡ 0 → ⊥) → markOf hs u i ≡ 0
+    mark-visible n = ⊎-elim (λ z. z) (λ o. absurd (n (mark-says o .0))) mark-bit
+
+  pub length-marks : length (marksOf hs u) ≡ count hs
+  unfolding marksOf
+  length-marks = length-listed (markOf hs u) (count hs)
+
+  module _ (ms out : List ℕ) (e : ms ≡ onFront (marksOf hs u) out) where
+    pub marks-room : count hs ≤ length out → length ms ≡ length out
+    unfolding marksOf
+    marks-room l = length-so-far (markOf hs u) out (count hs) l e
+
+    pub marks-beyond : drop (count hs) ms ≡ drop (count hs) out
+    marks-beyond = rw (e, length-marks) (drop-at (marksOf hs u) (drop (count hs) out) (count hs) length-marks)
+
+    pub marks-at : {i : ℕ} → i < count hs → getD ms i 0 ≡ markOf hs u i
+    unfolding marksOf
+    marks-at {i} l =
+        rw e (List·getD-append (marksOf hs u) (drop (length (marksOf hs u)) out) 0 i (rw length-marks l)) ∙ getD-listed (markOf hs u) (count hs) l
+
+    pub marks-bits : (i : ℕ) → i < count hs → (getD ms i 0 ≡ 0) ⊎ (getD ms i 0 ≡ 1)
+    marks-bits i l = ⊎-elim (λ q. inl (marks-at l ∙ q)) (λ q. inr (marks-at l ∙ q)) (mark-bit i)
+
+    pub marks-silent : (i : ℕ) → i < count hs → isMarked ms i ≡ true → label hs i ≡ 0
+    unfolding isMarked
+    marks-silent i l o = mark-says i (sym (marks-at l) ∙ eqb-true (getD ms i 0) 1 o) .0
+
+    -- the set that the marks hold
+    pub marks-held : (s t : ℕ) → heldBy hs ms s t ≡ (has hs s 0 t && u s t)
+    unfolding isMarked
+    marks-held s t = same-test (heldBy hs ms s t) (has hs s 0 t && u s t) into back where
+      into : heldBy hs ms s t ≡ true → (has hs s 0 t && u s t) ≡ true
+      into h =
+          let (i, l, p, o) = held-says hs ms s t h in
+          let (q, m) = mark-says i (sym (marks-at l) ∙ eqb-true (getD ms i 0) 1 o) in
+          and-yes
+          (place-has hs s 0 t (record { at = i; within = l; from-is = is-from hs s 0 t i p; label-is = q; to-is = is-to hs s 0 t i p }))
+          (rw (is-from hs s 0 t i p, is-to hs s 0 t i p) at m)
+
+      back : (has hs s 0 t && u s t) ≡ true → heldBy hs ms s t ≡ true
+      back h =
+          let p = has-place hs s 0 t (and-left (has hs s 0 t) (u s t) h) in
+          let m : u (from hs (p .at)) (to hs (p .at)) ≡ true = rw (p .from-is, p .to-is) (and-right (has hs s 0 t) (u s t) h) in
+          held-yes hs ms s t (p .within) (is-yes hs s 0 t (p .at) (p .from-is) (p .label-is) (p .to-is))
+          (eq-eqb (getD ms (p .at) 0) 1 (marks-at (p .within) ∙ mark-one (p .at) (p .label-is) m))
+
+    -- which is u where u has silent hops only
+    pub held-set : Within (In u) (In (silentHops hs)) → heldBy hs ms ≡ u
+    held-set w = λ k s t. same s t k where
+      same : (s t : ℕ) → heldBy hs ms s t ≡ u s t
+      same s t =
+          marks-held s t ∙ same-test (has hs s 0 t && u s t) (u s t) (and-right (has hs s 0 t) (u s t)) (λ h. and-yes (w s t h) h)
+
+-- so the marks that `mark_all` leaves hold the marked set
+pub held-marked : (hs ms out : List ℕ) → ms ≡ onFront (marksOf hs (marked hs)) out → heldBy hs ms ≡ marked hs
+held-marked hs ms out e = held-set hs (marked hs) ms out e (marked-confluent hs .silent)

@@ -1,0 +1,56 @@
+-- `tells_marking::tell_mark` meets its contract: where the answer slice is too short, only the answer is found. Assumes nothing.
+use borrow.Author.Needs.{needs}
+use mathlib.Core.List.{[]}
+use Rattle.graph.specs.declared.Answer.{Answer}
+use Rattle.answers.specs.Numbers.{numbersOf}
+use Rattle.answers.proofs.Answers.{returned-of}
+use Rattle.answers.proofs.Told.{told-of, short-told, short-kept, left-long}
+use Rattle.tells_marking.proofs.tell_mark.Statement.{statement}
+use Rattle.tells_marking.proofs.tell_mark.Tie as tie
+
+mark-answer-requires : tie.Need-mark-answer-requires
+mark-answer-requires c κs = search needs
+
+short-number-requires : tie.Need-short-number-requires
+short-number-requires c κs = search needs
+
+same-length : tie.Need-same-length
+same-length c = search needs
+
+returns : tie.Need-returns
+returns c =
+    let l = c .before .before .before .if1 .taken in
+    (returned-of 3 _ (c .before .mark-answer .ensures) (c .short-number .ensures), (short-kept 3 _ _ _ l, short-told 3 _ _ l))
+
+mark-requires : tie.Need-mark-requires
+mark-requires c κs = search needs
+
+tell-answer-requires : tie.Need-tell-answer-requires
+tell-answer-requires c κs = search needs
+
+same-length-2 : tie.Need-same-length-2
+same-length-2 c = search needs
+
+same-length-3 : tie.Need-same-length-3
+same-length-3 c = search needs
+
+returns-2 : tie.Need-returns-2
+returns-2 c =
+    let m = c .before .before .before .before .before .before .mark .ensures in
+    let l = c .before .before .before .before .before .before .before .before .if1 .left in
+    let t = c .before .before .tell-answer .ensures in
+    (returned-of 3 _ (m .0) (t .0), (left-long 3 _ _ _ l (m .1), told-of (λ (a : Answer). numbersOf a []) 3 _ (m .0) (t .1)))
+
+pub tell-mark-spec : {M : Type 1} → statement M
+tell-mark-spec =
+    tie.close
+    (tie.spec
+    mark-answer-requires
+    short-number-requires
+    same-length
+    returns
+    mark-requires
+    tell-answer-requires
+    same-length-2
+    same-length-3
+    returns-2)

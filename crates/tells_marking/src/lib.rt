@@ -1,0 +1,88 @@
+// Check, mark and the round question, as the entries for C and Rust tell them: capi exports these functions unchanged. Each finds the entry's answer
+// and tells it; mark leaves the marks alone where the answer slice is too short.
+// Stands on limits (check), marks (mark), rounds (the round question) and answers (what is told and returned).
+use answers::short_number;
+use answers::tell_answer;
+use answers::tell_figure;
+use graph::Shape;
+use limits::check;
+use marks::mark::mark;
+use marks::mark::mark_answer;
+use rounds::question::round_question;
+ghost use mathlib.Core.Path.{_≡_};
+ghost use mathlib.Core.List.{[]};
+ghost use lib.ListN.{length};
+ghost use Rattle.limits.specs.Check.{checkOf};
+ghost use Rattle.marks.specs.Mark.{markAnswer, markOutput};
+ghost use Rattle.rounds.specs.Question.{questionAnswer, questionOf};
+ghost use Rattle.answers.specs.Numbers.{shapeOf, numbersOf, returned, told, unlessShort};
+ghost use Rattle.tells_marking.specs.Numbers.{roundNumbers};
+
+pub fn tell_check(states: u32, labels: u32, initial: u32, hops: &[u16], answer: &mut [u64]) -> u32
+    ensures returns { λ r. ⌜ r ≡ returned (checkOf (shapeOf states labels initial) (now (hops .entry))) 3 (length (now (answer .entry))) ⌝ }
+    ensures tells { λ r. ⌜ now (answer .exit) ≡
+        told 3 (numbersOf (checkOf (shapeOf states labels initial) (now (hops .entry))) []) (now (answer .entry)) ⌝ }
+{
+    let shape = Shape {
+        states,
+        labels,
+        initial,
+    };
+    let a = check(shape, hops);
+    tell_answer(answer, a)
+}
+
+// Where the answer slice is too short, only the answer is found, and nothing is marked.
+pub fn tell_mark(
+    states: u32,
+    labels: u32,
+    initial: u32,
+    hops: &[u16],
+    marks: &mut [u8],
+    answer: &mut [u64],
+) -> u32
+    ensures returns { λ r. ⌜ r ≡
+        returned (markAnswer (shapeOf states labels initial) (now (hops .entry)) (now (marks .entry))) 3 (length (now (answer .entry))) ⌝ }
+    ensures marks { λ r. ⌜ now (marks .exit) ≡
+        unlessShort 3
+        (now (answer .entry))
+        (markOutput (shapeOf states labels initial) (now (hops .entry)) (now (marks .entry)))
+        (now (marks .entry)) ⌝ }
+    ensures tells { λ r. ⌜ now (answer .exit) ≡
+        told 3 (numbersOf (markAnswer (shapeOf states labels initial) (now (hops .entry)) (now (marks .entry))) []) (now (answer .entry)) ⌝ }
+{
+    let shape = Shape {
+        states,
+        labels,
+        initial,
+    };
+    if answer.len() < 3 {
+        let unwritten = mark_answer(shape, hops, marks);
+        return short_number(unwritten, answer.len(), 3);
+    }
+    let a = mark(shape, hops, marks);
+    tell_answer(answer, a)
+}
+
+pub fn tell_round(
+    states: u32,
+    labels: u32,
+    initial: u32,
+    hops: &[u16],
+    place: u64,
+    rounds: u32,
+    answer: &mut [u64],
+) -> u32
+    ensures returns { λ r. ⌜ r ≡
+        returned (questionAnswer (shapeOf states labels initial) (now (hops .entry)) place rounds) 4 (length (now (answer .entry))) ⌝ }
+    ensures tells { λ r. ⌜ now (answer .exit) ≡
+        told 4 (roundNumbers (questionOf (shapeOf states labels initial) (now (hops .entry)) place rounds)) (now (answer .entry)) ⌝ }
+{
+    let shape = Shape {
+        states,
+        labels,
+        initial,
+    };
+    let question = round_question(shape, hops, place as usize, rounds);
+    tell_figure(answer, question.answer, question.survives as u64)
+}

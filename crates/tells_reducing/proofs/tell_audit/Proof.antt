@@ -1,0 +1,47 @@
+-- `tells_reducing::tell_audit` meets its contract: what is told of the result is told of the audit's. Assumes nothing.
+use borrow.Author.Needs.{needs}
+use mathlib.Core.Path.{ap}
+use Rattle.bisimulation.specs.declared.Audit.{Audit}
+use Rattle.bisimulation.specs.Auditing.{auditOf}
+use Rattle.tells_reducing.specs.Numbers.{auditNumbers}
+use lib.ListN.{length}
+use Rattle.answers.specs.Numbers.{shapeOf}
+use Rattle.answers.proofs.Answers.{returned-of}
+use Rattle.answers.proofs.Told.{told-of}
+use Rattle.tells_reducing.proofs.tell_audit.Statement.{statement}
+use Rattle.tells_reducing.proofs.tell_audit.Tie as tie
+
+audit-requires : tie.Need-audit-requires
+audit-requires c κs = search needs
+
+cast-tell-figure : tie.Need-cast-tell-figure
+cast-tell-figure c = search needs
+
+tell-figure-requires : tie.Need-tell-figure-requires
+tell-figure-requires c κs = search needs
+
+same-length : tie.Need-same-length
+same-length c = search needs
+
+returns : tie.Need-returns
+unfolding auditOf
+returns c =
+    let e = c .before .before .before .before .before .audit .ensures in
+    let t = c .before .before .tell-figure .ensures in
+    let s = c .before .before .before .before .before .before .before .before .before .before .args in
+    let shape1 = shapeOf (s .states1) (s .labels1) (s .initial1) in
+    let shape2 = shapeOf (s .states2) (s .labels2) (s .initial2) in
+    let r = auditOf shape1 shape2 (s .hops1 .now) (s .hops2 .now) (s .map .now) in (
+      returned-of 4 (length (s .answer .now)) {b = r .answer} (ap (λ (a : Audit). a .answer) {y = r} e) (t .0),
+      told-of auditNumbers 4 (s .answer .now) {y = r} e (t .1),
+    )
+
+pub tell-audit-spec : {M : Type 1} → statement M
+tell-audit-spec =
+    tie.close
+    (tie.spec
+    audit-requires
+    cast-tell-figure
+    tell-figure-requires
+    same-length
+    returns)

@@ -1,0 +1,117 @@
+// Reduce and audit, as the entries for C and Rust tell them: capi exports these functions unchanged. Each finds the entry's answer and tells it; reduce
+// leaves the map and the short hops alone where the answer slice is too short.
+// Stands on quotient (reduce), bisimulation (audit) and answers (what is told and returned).
+use answers::short_number;
+use answers::tell;
+use answers::tell_figure;
+use bisimulation::auditing::audit;
+use graph::Shape;
+use quotient::Reduction;
+use quotient::entry::reduce;
+use quotient::entry::reduce_answer;
+ghost use mathlib.Core.Path.{_≡_};
+ghost use lib.ListN.{length};
+ghost use Rattle.quotient.specs.Reduce.{reduceAnswer, reduceOf, mapOutput, shortOutput};
+ghost use Rattle.fitting.specs.Fitting.{auditAnswer};
+ghost use Rattle.bisimulation.specs.Auditing.{auditOf};
+ghost use Rattle.answers.specs.Numbers.{shapeOf, returned, told, unlessShort};
+ghost use Rattle.tells_reducing.specs.Numbers.{reductionNumbers, auditNumbers};
+
+// An answer, and the short graph's counts and initial state.
+fn tell_reduction(out: &mut [u64], reduction: Reduction) -> u32
+    ensures returns { λ r. ⌜ r ≡ returned (reduction .answer) 7 (length (now (out .entry))) ⌝ }
+    ensures tells { λ r. ⌜ now (out .exit) ≡ told 7 (reductionNumbers reduction) (now (out .entry)) ⌝ }
+{
+    let a = reduction.answer;
+    let shape = reduction.shape;
+    let figures = [
+        a.number as u64,
+        a.table as u64,
+        a.place as u64,
+        shape.states as u64,
+        shape.labels as u64,
+        reduction.hops as u64,
+        shape.initial as u64,
+    ];
+    tell(out, &figures, a)
+}
+
+// Where the answer slice is too short, only the answer is found, and nothing is reduced.
+pub fn tell_reduce(
+    states: u32,
+    labels: u32,
+    initial: u32,
+    hops: &[u16],
+    map: &mut [u16],
+    short: &mut [u16],
+    answer: &mut [u64],
+) -> u32
+    ensures returns { λ r. ⌜ r ≡
+        returned
+        (reduceAnswer (shapeOf states labels initial) (now (hops .entry)) (length (now (map .entry))) (length (now (short .entry))))
+        7
+        (length (now (answer .entry))) ⌝ }
+    ensures mapped { λ r. ⌜ now (map .exit) ≡
+        unlessShort 7
+        (now (answer .entry))
+        (mapOutput (shapeOf states labels initial) (now (hops .entry)) (now (map .entry)) (now (short .entry)))
+        (now (map .entry)) ⌝ }
+    ensures shortened { λ r. ⌜ now (short .exit) ≡
+        unlessShort 7
+        (now (answer .entry))
+        (shortOutput (shapeOf states labels initial) (now (hops .entry)) (now (map .entry)) (now (short .entry)))
+        (now (short .entry)) ⌝ }
+    ensures tells { λ r. ⌜ now (answer .exit) ≡
+        told 7
+        (reductionNumbers (reduceOf (shapeOf states labels initial) (now (hops .entry)) (length (now (map .entry))) (length (now (short .entry)))))
+        (now (answer .entry)) ⌝ }
+{
+    let shape = Shape {
+        states,
+        labels,
+        initial,
+    };
+    if answer.len() < 7 {
+        let unwritten = reduce_answer(shape, hops, map.len(), short.len());
+        return short_number(unwritten, answer.len(), 7);
+    }
+    let reduction = reduce(shape, hops, map, short);
+    tell_reduction(answer, reduction)
+}
+
+pub fn tell_audit(
+    states1: u32,
+    labels1: u32,
+    initial1: u32,
+    hops1: &[u16],
+    states2: u32,
+    labels2: u32,
+    initial2: u32,
+    hops2: &[u16],
+    map: &[u16],
+    answer: &mut [u64],
+) -> u32
+    ensures returns { λ r. ⌜ r ≡
+        returned
+        (auditAnswer (shapeOf states1 labels1 initial1) (shapeOf states2 labels2 initial2) (now (hops1 .entry)) (now (hops2 .entry)) (now (map .entry)))
+        4
+        (length (now (answer .entry))) ⌝ }
+    ensures tells { λ r. ⌜ now (answer .exit) ≡
+        told 4
+        (auditNumbers
+        (auditOf (shapeOf states1 labels1 initial1) (shapeOf states2 labels2 initial2) (now (hops1 .entry)) (now (hops2 .entry)) (now (map .entry))))
+        (now (answer .entry)) ⌝ }
+{
+    let shape1 = Shape {
+        states: states1,
+        labels: labels1,
+        initial: initial1,
+    };
+    let shape2 = Shape {
+        states: states2,
+        labels: labels2,
+        initial: initial2,
+    };
+    let audited = audit(shape1, hops1, shape2, hops2, map);
+    tell_figure(answer, audited.answer, audited.faults as u64)
+}

@@ -1,0 +1,110 @@
+-- `ticks::count_unticked` meets its contract: the count is that of the places passed so far, and of those before the first. Assumes nothing.
+use borrow.Author.Needs.{needs}
+use Prim.Native.Nat.{ℕ, _+_, _≤_, _-_}
+use mathlib.Core.Path.{_≡_, ap, _∙_}
+use mathlib.Core.Bool.{Bool}
+use mathlib.Core.Logic.{⊎-elim}
+use native.Mathlib.Omega.{arith}
+use Rattle.below.specs.Tests.{tally}
+use Rattle.graph.specs.Hops.{count}
+use Rattle.graph.specs.Search.{firstOf}
+use Rattle.below.proofs.Tests.{tally-more, tally-skip, tally-within}
+use Rattle.graph.proofs.Lookup.{first-within}
+use Rattle.starts.proofs.Firsts.{first-next, start-is}
+use Rattle.ticks.specs.Ticks.{unticked}
+use Rattle.ticks.proofs.Rows.{unticked-before, unticked-after}
+use Rattle.ticks.proofs.count_unticked.Statement.{statement}
+use Rattle.ticks.proofs.count_unticked.Tie as tie
+
+abbrev Inv-loop : tie.InvT-loop
+Inv-loop hops2 starts2 stamps r k at past faults₀ j₀ faults j =
+    (past ≡ firstOf hops2 (r .0 + 1)) × (past ≤ count hops2) × (j ≤ past) × (faults ≡ tally j (unticked hops2 stamps (r .0) k))
+
+abbrev μ-loop : tie.MeasureT-loop
+μ-loop hops2 starts2 stamps r k at past faults₀ j₀ faults j = past - j
+
+wide-requires : tie.Need-wide-requires Inv-loop μ-loop
+wide-requires c κs = search needs
+
+add-start-of : tie.Need-add-start-of Inv-loop μ-loop
+add-start-of c = search needs
+
+start-of-requires : tie.Need-start-of-requires Inv-loop μ-loop
+start-of-requires c κs = search needs
+
+start-of-requires-2 : tie.Need-start-of-requires-2 Inv-loop μ-loop
+start-of-requires-2 c κs = search needs
+
+loop-holds : tie.Need-loop-holds Inv-loop μ-loop
+loop-holds c =
+    let s = c .before .before .before .before .before in
+    let hs = s .args .hops2 .now in
+    let up = s .pre .0 .ascending in
+    let w : c .before .before .wide .result ≡ s .args .r .0 = omega arith in
+    let p : c .before .start-of .result ≡ firstOf hs (s .args .r .0 + 1) =
+    start-is hs (s .args .starts2 .now) (s .pre .1 .0) _ (ap (λ (x : ℕ). x + 1) w) (omega arith) (c .before .start-of .ensures) in
+    let f : c .start-of2 .result ≡ firstOf hs (s .args .r .0) = start-is hs (s .args .starts2 .now) (s .pre .1 .0) _ w (omega arith) (c .start-of2 .ensures) in (
+      p,
+      omega (arith, first-within hs up (s .args .r .0 + 1)),
+      omega (arith, first-next hs up (s .args .r .0)),
+      rw f (unticked-before hs (s .args .stamps .now) up (s .args .r .0) (s .args .k)),
+    )
+
+-- the test that is counted
+module _ (c : tie.At-loop Inv-loop μ-loop) where
+  abbrev start : tie.Start Inv-loop μ-loop
+  start = c .before .before .before .before .before .before
+
+  abbrev test : ℕ → Bool
+  test = unticked (start .args .hops2 .now) (start .args .stamps .now) (start .args .r .0) (start .args .k)
+
+is-unticked-requires : tie.Need-is-unticked-requires Inv-loop μ-loop
+is-unticked-requires c κs = search needs
+
+add-faults : tie.Need-add-faults Inv-loop μ-loop
+add-faults c =
+    let s = c .before .before .before .before .before .before .before .before .before in
+    omega (arith, tally-within (unticked (s .args .hops2 .now) (s .args .stamps .now) (s .args .r .0) (s .args .k)) (c .before .before .before .loop .j))
+
+add-j : tie.Need-add-j Inv-loop μ-loop
+add-j c = search needs
+
+loop-less : tie.Need-loop-less Inv-loop μ-loop
+loop-less c = search needs
+
+-- the test at the place that was looked at
+told : (c : tie.After-is-unticked Inv-loop μ-loop) {x : Bool} → c .is-unticked .result ≡ x → test (c .before .before) (c .before .before .loop .j) ≡ x
+told c {x} e = rw (c .is-unticked .ensures) at e
+
+loop-again : tie.Need-loop-again Inv-loop μ-loop
+loop-again c = let a = c .before .before .before in (
+  search needs,
+  search needs,
+  omega arith,
+  ⊎-elim (λ w. w .1 ∙ tally-more (test a) (a .loop .j) (a .loop .inv .3) (told (c .before) (w .0 .taken)))
+      (λ w. w .1 ∙ tally-skip (test a) (a .loop .j) (a .loop .inv .3) (told (c .before) (w .0 .left))) (c .if1 .came),
+)
+
+returns : tie.Need-returns Inv-loop μ-loop
+returns c =
+    let s = c .before .before .before .before .before .before .before in
+    let q : c .before .loop .j ≡ firstOf (s .args .hops2 .now) (s .args .r .0 + 1) = omega arith in
+    c .before .loop .inv .3 ∙ rw q (unticked-after (s .args .hops2 .now) (s .args .stamps .now) (s .pre .0 .ascending) (s .args .r .0) (s .args .k))
+
+pub count-unticked-spec : {M : Type 1} → statement M
+count-unticked-spec =
+    tie.close
+    (tie.spec
+    Inv-loop
+    μ-loop
+    wide-requires
+    add-start-of
+    start-of-requires
+    start-of-requires-2
+    loop-holds
+    is-unticked-requires
+    add-faults
+    add-j
+    loop-less
+    loop-again
+    returns)
