@@ -78,7 +78,7 @@ fn put_map(out: &mut [u8], at: usize, map: &[u16], states: usize) -> usize
 }
 
 // The line of a short hop, by new numbers.
-fn put_hop(out: &mut [u8], at: usize, short: &[u16], i: usize) -> usize
+fn put_hop_line(out: &mut [u8], at: usize, short: &[u16], i: usize) -> usize
     requires there { ⌜ i < count (now short) ⌝ }
     requires room { ⌜ Room at (hopLine (now short) i) (now out) ⌝ }
     ensures { λ r. ⌜ Put (now (out .entry)) at (hopLine (now (short .entry)) i) r (now (out .exit)) ⌝ }
@@ -98,7 +98,7 @@ fn put_hops(out: &mut [u8], at: usize, short: &[u16]) -> usize
     let mut next = at;
     let mut i = 0;
     while i < n {
-        next = put_hop(out, next, short, i);
+        next = put_hop_line(out, next, short, i);
         i += 1;
     }
     next

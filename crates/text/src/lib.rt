@@ -37,7 +37,7 @@ fn put_digits(out: &mut [u8], at: usize, n: usize, k: usize) -> usize
 }
 
 // A space and a number.
-fn put_number(out: &mut [u8], at: usize, n: usize) -> usize
+fn put_spaced(out: &mut [u8], at: usize, n: usize) -> usize
     requires { ⌜ Room at (spaced n) (now out) ⌝ }
     ensures { λ r. ⌜ Put (now (out .entry)) at (spaced n) r (now (out .exit)) ⌝ }
 {
@@ -53,7 +53,7 @@ fn put_numbers(out: &mut [u8], at: usize, numbers: &[usize]) -> usize
     let mut next = at;
     let mut i = 0;
     while i < numbers.len() {
-        next = put_number(out, next, numbers[i]);
+        next = put_spaced(out, next, numbers[i]);
         i += 1;
     }
     next

@@ -90,6 +90,9 @@ fn row_of(entry: &str, input: &str, mut one: Timed, mut two: Option<Timed>) {
         assert!(one.outputs == two.outputs, "{entry} on {input}: both must leave the same");
     }
     let long = one.once > LONGEST;
+    if let (true, Some(two)) = (long, &mut two) {
+        two.samples.push(two.once.as_secs_f64());
+    }
     while !long && (one.samples.len() < 3 || (one.samples.len() < MOST_SAMPLES && clock::now() - start < LONGEST)) {
         one.sample();
         if let Some(two) = &mut two {

@@ -24,8 +24,8 @@ hop-count-requires c κs = search needs
 loop-holds : tie.Need-loop-holds Inv-loop μ-loop
 loop-holds c = (c .hop-count .ensures, omega arith, refl, lines-none _)
 
-put-hop-requires : tie.Need-put-hop-requires Inv-loop μ-loop
-put-hop-requires c κs = (omega arith, lines-room _ _ (c .before .before .before .before .before .before .pre) (omega arith) (c .before .before .loop .inv .3))
+put-hop-line-requires : tie.Need-put-hop-line-requires Inv-loop μ-loop
+put-hop-line-requires c κs = (omega arith, lines-room _ _ (c .before .before .before .before .before .before .pre) (omega arith) (c .before .before .loop .inv .3))
 
 add-i : tie.Need-add-i Inv-loop μ-loop
 add-i c = omega arith
@@ -36,7 +36,7 @@ loop-less c = omega arith
 loop-again : tie.Need-loop-again Inv-loop μ-loop
 loop-again c =
     let v = c .before .before .before .before .before .loop .inv in
-    (v .0, omega arith, omega arith, lines-more _ _ (c .before .before .before .before .before .before .before .before .before .pre) (omega arith) (v .3) (c .before .before .put-hop .ensures))
+    (v .0, omega arith, omega arith, lines-more _ _ (c .before .before .before .before .before .before .before .before .before .pre) (omega arith) (v .3) (c .before .before .put-hop-line .ensures))
 
 same-length : tie.Need-same-length Inv-loop μ-loop
 same-length c = omega arith
@@ -52,7 +52,7 @@ put-hops-spec =
     μ-loop
     hop-count-requires
     loop-holds
-    put-hop-requires
+    put-hop-line-requires
     add-i
     loop-less
     loop-again

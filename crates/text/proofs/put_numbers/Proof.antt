@@ -19,14 +19,14 @@ abbrev μ-loop : tie.MeasureT-loop
 loop-holds : tie.Need-loop-holds Inv-loop μ-loop
 loop-holds c = (omega arith, refl, lines-none _)
 
-mul-put-number : tie.Need-mul-put-number Inv-loop μ-loop
-mul-put-number c = search needs
+mul-put-spaced : tie.Need-mul-put-spaced Inv-loop μ-loop
+mul-put-spaced c = search needs
 
-shared-slice-read-put-number : tie.Need-shared-slice-read-put-number Inv-loop μ-loop
-shared-slice-read-put-number c = omega arith
+shared-slice-read-put-spaced : tie.Need-shared-slice-read-put-spaced Inv-loop μ-loop
+shared-slice-read-put-spaced c = omega arith
 
-put-number-requires : tie.Need-put-number-requires Inv-loop μ-loop
-put-number-requires c κs =
+put-spaced-requires : tie.Need-put-spaced-requires Inv-loop μ-loop
+put-spaced-requires c κs =
     let s = c .before .before .before .before .before .before in
     let ns = s .args .numbers .now in
     lines-room (spacedAt ns) (length ns) (room-same (numbered-lines ns) (s .pre)) (omega arith) (c .before .before .before .loop .inv .2)
@@ -42,7 +42,7 @@ loop-again c =
     let s = c .before .before .before .before .before .before .before .before .before in
     let ns = s .args .numbers .now in
     let v = c .before .before .before .before .before .before .loop .inv in
-    (omega arith, omega arith, lines-more (spacedAt ns) (length ns) (room-same (numbered-lines ns) (s .pre)) (omega arith) (v .2) (c .before .before .put-number .ensures))
+    (omega arith, omega arith, lines-more (spacedAt ns) (length ns) (room-same (numbered-lines ns) (s .pre)) (omega arith) (v .2) (c .before .before .put-spaced .ensures))
 
 same-length : tie.Need-same-length Inv-loop μ-loop
 same-length c = omega arith
@@ -59,9 +59,9 @@ put-numbers-spec =
     Inv-loop
     μ-loop
     loop-holds
-    mul-put-number
-    shared-slice-read-put-number
-    put-number-requires
+    mul-put-spaced
+    shared-slice-read-put-spaced
+    put-spaced-requires
     add-i
     loop-less
     loop-again

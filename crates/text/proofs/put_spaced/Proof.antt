@@ -1,9 +1,9 @@
--- `text::put_number` meets its contract. Assumes nothing.
+-- `text::put_spaced` meets its contract. Assumes nothing.
 use mathlib.Core.Path.{sym}
 use Rattle.text.proofs.Puts.{put-same, put-then, room-same, room-first, room-rest, spaced-parts}
 use borrow.Author.Needs.{needs}
-use Rattle.text.proofs.put_number.Statement.{statement}
-use Rattle.text.proofs.put_number.Tie as tie
+use Rattle.text.proofs.put_spaced.Statement.{statement}
+use Rattle.text.proofs.put_spaced.Tie as tie
 
 put-byte-requires : tie.Need-put-byte-requires
 put-byte-requires c κs = room-first _ _ (room-same (spaced-parts _) (c .before .before .pre))
@@ -21,5 +21,5 @@ returns c =
     put-same (sym (spaced-parts _))
     (put-then _ _ (room-same (spaced-parts _) (s .pre)) (c .before .before .before .before .before .before .put-byte .ensures) (c .before .before .put-digits .ensures))
 
-pub put-number-spec : {M : Type 1} → statement M
-put-number-spec = tie.close (tie.spec put-byte-requires put-digits-requires same-length returns)
+pub put-spaced-spec : {M : Type 1} → statement M
+put-spaced-spec = tie.close (tie.spec put-byte-requires put-digits-requires same-length returns)

@@ -1,10 +1,10 @@
--- `rows::put_hop` meets its contract. Assumes nothing.
+-- `rows::put_hop_line` meets its contract. Assumes nothing.
 use mathlib.Core.Path.{sym}
 use Rattle.text.proofs.Puts.{put-same, room-same}
 use Rattle.rows.proofs.Parts.{hop-parts}
 use borrow.Author.Needs.{needs}
-use Rattle.rows.proofs.put_hop.Statement.{statement}
-use Rattle.rows.proofs.put_hop.Tie as tie
+use Rattle.rows.proofs.put_hop_line.Statement.{statement}
+use Rattle.rows.proofs.put_hop_line.Tie as tie
 
 new-from-at-requires : tie.Need-new-from-at-requires
 new-from-at-requires c κs = search needs
@@ -45,8 +45,8 @@ returns c =
     let e = hop-parts (s .args .short .now) (s .args .i) (c .before .before .before .before .before .before .before .before .before .before .before .new-from-at .ensures) (c .before .before .before .before .before .before .before .before .before .label-at .ensures) (c .before .before .before .before .before .before .before .new-to-at .ensures) in
     put-same (sym e) (c .before .before .put-line .ensures)
 
-pub put-hop-spec : {M : Type 1} → statement M
-put-hop-spec =
+pub put-hop-line-spec : {M : Type 1} → statement M
+put-hop-line-spec =
     tie.close
     (tie.spec
     new-from-at-requires
