@@ -1,4 +1,4 @@
-use crate::{check, refuse, Answer, Contents, Shape, ACCEPTED, LONGEST_FILE};
+use crate::{check, refuse, Answer, Contents, Shape, ACCEPTED, LONGEST_FILE, MOST_HOPS};
 
 fn number_at(bytes: &[u8], place: usize) -> u16 {
     u16::from_le_bytes([bytes[place], bytes[place + 1]])
@@ -101,19 +101,26 @@ fn same(one: &[u8], two: &[u8]) -> bool {
     true
 }
 
-/// The entry file read.
+/// Decodes numbers from `place` on until the list is full.
+fn take_numbers(file: &[u8], place: usize, list: &mut [u16]) {
+    for (number, bytes) in list.iter_mut().zip(file[place..].chunks_exact(2)) {
+        *number = number_at(bytes, 0);
+    }
+}
+
+/// The entry file read. Nothing is written before the last check has passed; the hops are decoded again then.
 pub fn read(file: &[u8], hops: &mut [u16]) -> (Answer, Contents) {
-    match admitted(file) {
+    match admitted(file, hops.len()) {
         Err(refusal) => (refusal, Contents::default()),
-        Ok((_, list)) if hops.len() < list.len() => (refuse(6, 0), Contents::default()),
-        Ok((contents, list)) => {
-            hops[..list.len()].copy_from_slice(&list);
-            (ACCEPTED, contents)
+        Ok(layout) => {
+            take_numbers(file, layout.hops_place, &mut hops[..3 * layout.hops]);
+            (ACCEPTED, contents(file, &layout))
         }
     }
 }
 
-fn admitted(file: &[u8]) -> Result<(Contents, Vec<u16>), Answer> {
+/// The layout of a file that every check lets pass, with room for so many numbers.
+fn admitted(file: &[u8], room: usize) -> Result<Layout, Answer> {
     if file.len() > LONGEST_FILE {
         return Err(refuse(13, LONGEST_FILE));
     }
@@ -130,25 +137,37 @@ fn admitted(file: &[u8]) -> Result<(Contents, Vec<u16>), Answer> {
     if let Some(place) = first_bad_name(file, layout.names_place, layout.end) {
         return Err(refuse(14, place));
     }
-    let shape = Shape { states: layout.states.into(), labels: layout.labels.into(), initial: layout.initial.into() };
-    let mut list = vec![0; 3 * layout.hops];
-    for (i, number) in list.iter_mut().enumerate() {
-        *number = number_at(file, layout.hops_place + 2 * i);
-    }
-    let checked = check(shape, &list);
+    let checked = check_copy(file, &layout);
     if checked.number != 0 {
         return Err(checked);
     }
+    if room < 3 * layout.hops {
+        return Err(refuse(6, 0));
+    }
+    Ok(layout)
+}
+
+/// The entry check, of a copy of the hops.
+fn check_copy(file: &[u8], layout: &Layout) -> Answer {
+    if layout.hops > MOST_HOPS {
+        return refuse(1, 0);
+    }
+    let mut copy = [0; 3 * MOST_HOPS];
+    let copy = &mut copy[..3 * layout.hops];
+    take_numbers(file, layout.hops_place, copy);
+    check(Shape { states: layout.states.into(), labels: layout.labels.into(), initial: layout.initial.into() }, copy)
+}
+
+fn contents(file: &[u8], layout: &Layout) -> Contents {
     let names_len = file.len() - layout.names_place;
-    let contents = Contents {
-        states: shape.states,
-        labels: shape.labels,
-        initial: shape.initial,
+    Contents {
+        states: layout.states.into(),
+        labels: layout.labels.into(),
+        initial: layout.initial.into(),
         hops: layout.hops as u32,
         names_place: if names_len == 0 { 0 } else { layout.names_place },
         names_len,
-    };
-    Ok((contents, list))
+    }
 }
 
 /// The entry file write, with the length.

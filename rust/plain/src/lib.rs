@@ -1,5 +1,5 @@
-//! The entries in plain Rust, by the library's algorithms: one binary search for a hop, a table of first places for the hops of a state, sweeps for rings and
-//! marks, searches by states for the audit, a table of what is known for the round question, lengths before bytes for names.
+//! The entries in plain Rust, by the library's algorithms: a table of first places for the hops of a state, one binary search for a hop among them, sweeps for
+//! rings and marks, searches by states for the audit, a table of what is known for the round question, lengths before bytes for names.
 //!
 //! It stands beside the library in the benchmarks and in the differential tests. Nothing here is proved.
 
@@ -105,17 +105,6 @@ pub(crate) fn lower_between(hops: &[u16], hop: (u16, u16, u16), first: usize, pa
     low
 }
 
-/// The first place whose hop is not below `hop`.
-pub(crate) fn lower_place(hops: &[u16], hop: (u16, u16, u16)) -> usize {
-    lower_between(hops, hop, 0, hop_count(hops))
-}
-
-/// The place of a hop in an ascending list.
-pub(crate) fn find(hops: &[u16], hop: (u16, u16, u16)) -> Option<usize> {
-    let place = lower_place(hops, hop);
-    (place < hop_count(hops) && hop_at(hops, place) == hop).then_some(place)
-}
-
 /// The first place of each state's hops, and the hop count behind the last: the hops of `s` are the places `first[s]..first[s + 1]`.
 pub(crate) fn first_places(states: usize, hops: &[u16]) -> Vec<u16> {
     let mut first = vec![0; states + 1];
@@ -133,4 +122,16 @@ pub(crate) fn first_places(states: usize, hops: &[u16]) -> Vec<u16> {
 #[inline]
 pub(crate) fn places(first: &[u16], state: u16) -> std::ops::Range<usize> {
     usize::from(first[usize::from(state)])..usize::from(first[usize::from(state) + 1])
+}
+
+/// The first place among the hops of its state whose hop is not below `hop`.
+pub(crate) fn lower_row(hops: &[u16], first: &[u16], hop: (u16, u16, u16)) -> usize {
+    let row = places(first, hop.0);
+    lower_between(hops, hop, row.start, row.end)
+}
+
+/// The place of a hop, searched for among the hops of its state.
+pub(crate) fn find_row(hops: &[u16], first: &[u16], hop: (u16, u16, u16)) -> Option<usize> {
+    let place = lower_row(hops, first, hop);
+    (place < hop_count(hops) && hop_at(hops, place) == hop).then_some(place)
 }

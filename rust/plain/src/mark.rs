@@ -1,4 +1,4 @@
-use crate::{check, find, first_places, from_at, hop_count, label_at, lowest_on_ring, places, refuse, to_at, Answer, Shape, ACCEPTED};
+use crate::{check, find_row, first_places, from_at, hop_count, label_at, lowest_on_ring, places, refuse, to_at, Answer, Shape, ACCEPTED};
 
 /// The entry mark.
 pub fn mark(shape: Shape, hops: &[u16], marks: &mut [u8]) -> Answer {
@@ -45,7 +45,7 @@ fn closes(hops: &[u16], first: &[u16], marks: &[u8], place: usize) -> bool {
         while at < answers.end && label_at(hops, at) < label {
             at += 1;
         }
-        if !((label == 0 && joined(hops, marks, s3, s2)) || answered(hops, marks, at..answers.end, label, s3)) {
+        if !((label == 0 && joined(hops, first, marks, s3, s2)) || answered(hops, first, marks, at..answers.end, label, s3)) {
             return false;
         }
     }
@@ -53,18 +53,19 @@ fn closes(hops: &[u16], first: &[u16], marks: &[u8], place: usize) -> bool {
 }
 
 /// A hop labelled `label` at the front of `range` answers the one to `s3`.
-fn answered(hops: &[u16], marks: &[u8], range: std::ops::Range<usize>, label: u16, s3: u16) -> bool {
+fn answered(hops: &[u16], first: &[u16], marks: &[u8], range: std::ops::Range<usize>, label: u16, s3: u16) -> bool {
     for place in range {
         if label_at(hops, place) != label {
             return false;
         }
-        if joined(hops, marks, s3, to_at(hops, place)) {
+        if joined(hops, first, marks, s3, to_at(hops, place)) {
             return true;
         }
     }
     false
 }
 
-fn joined(hops: &[u16], marks: &[u8], s3: u16, s4: u16) -> bool {
-    s3 == s4 || find(hops, (s3, 0, s4)).is_some_and(|place| marks[place] == 1)
+/// `s3` is `s4`, or the silent hop between them is marked.
+fn joined(hops: &[u16], first: &[u16], marks: &[u8], s3: u16, s4: u16) -> bool {
+    s3 == s4 || find_row(hops, first, (s3, 0, s4)).is_some_and(|place| marks[place] == 1)
 }

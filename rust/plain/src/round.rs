@@ -1,4 +1,4 @@
-use crate::{check, first_places, from_at, hop_at, hop_count, label_at, lower_between, places, refuse, to_at, Answer, Shape, ACCEPTED};
+use crate::{check, find_row, first_places, from_at, hop_count, label_at, lower_row, places, refuse, to_at, Answer, Shape, ACCEPTED};
 
 /// The round question, with 1 or 0.
 pub fn round(shape: Shape, hops: &[u16], place: u64, rounds: u32) -> (Answer, u32) {
@@ -48,22 +48,12 @@ impl Asked<'_> {
     /// The hop at `tried` is answered by `s2`.
     fn y(&mut self, rounds: usize, s2: u16, tried: usize) -> bool {
         let (label, s3) = (label_at(self.hops, tried), to_at(self.hops, tried));
-        let mut answers = self.lower((s2, label, 0))..self.lower((s2, label + 1, 0));
+        let mut answers = lower_row(self.hops, self.first, (s2, label, 0))..lower_row(self.hops, self.first, (s2, label + 1, 0));
         answers.any(|answer| self.z(rounds, s3, to_at(self.hops, answer))) || (label == 0 && self.z(rounds, s3, s2))
     }
 
     /// `s3` is `s4`, or a silent hop between them survives `rounds`.
     fn z(&mut self, rounds: usize, s3: u16, s4: u16) -> bool {
-        if s3 == s4 {
-            return true;
-        }
-        let place = self.lower((s3, 0, s4));
-        place < hop_count(self.hops) && hop_at(self.hops, place) == (s3, 0, s4) && self.x(rounds, place)
-    }
-
-    /// The first place among the state's hops whose hop is not below `hop`.
-    fn lower(&self, hop: (u16, u16, u16)) -> usize {
-        let range = places(self.first, hop.0);
-        lower_between(self.hops, hop, range.start, range.end)
+        s3 == s4 || find_row(self.hops, self.first, (s3, 0, s4)).is_some_and(|place| self.x(rounds, place))
     }
 }
