@@ -1,6 +1,6 @@
 #!/usr/bin/env bash
 # The rules of the house that a machine can hold (docs/DECISIONS.md, "Rules"): contract lines, numbers that have a name, lists of modules, edits, and that
-# docs/TRACE.md names what there is.
+# docs/TRACE.md names what there is; and, after the gate has tried the edits, that each was refused by a fact.
 set -euo pipefail
 cd "$(dirname "$0")/.."
 export LC_ALL=C.UTF-8
@@ -48,6 +48,12 @@ done | sort -u)"
 
 none "edits of docs/TRACE.md that are in another crate" "$(sed -nE 's/^\| `([a-z_]+)` \| `([a-z_0-9]+)` \|.*/crates\/\1\/must-fail\/\2.edit/p' docs/TRACE.md | while IFS= read -r edit; do
     [ -f "$edit" ] || echo "$edit"
+done)"
+
+# an edit is refused because a fact fails, and not because a name is not there (where the gate has tried the edits: their logs)
+shopt -s nullglob
+none "edits refused for a name" "$(for log in target/must-fail/*/*/.log; do
+    grep -m 1 -a error "$log" | grep -aE 'is not in scope|unknown-name|can be named from here|has no function' || true
 done)"
 
 [ "$failed" -eq 0 ] || exit 1

@@ -2,7 +2,7 @@
 use Prim.Native.Nat.{ℕ, _<_, _≤_}
 use mathlib.Core.Path.{_≡_, sym, _∙_}
 use mathlib.Core.List.{List}
-use lib.ListN.{length}
+use lib.ListN.{length, getD}
 use borrow.Author.Tests.{eq-eqb, ne-eqb, le-leb, lt-leb}
 use Rattle.outputs.specs.Output.{onFront}
 use Rattle.graph.specs.Hops.{count}
@@ -15,7 +15,8 @@ use Rattle.graph.proofs.Accepts.{then-first, then-next, both-accept, room-accep
 use Rattle.silent.specs.Silent.{ringless}
 use Rattle.confluence.specs.Rounds.{marked}
 use Rattle.confluence.specs.Held.{marksOf}
-use Rattle.marks.specs.Mark.{markAnswer, markOutput}
+use Rattle.sweeps.proofs.Marks.{marks-at}
+use Rattle.marks.specs.Mark.{marksMade, markAt, markAnswer, markOutput}
 
 module _ (sh : Shape) (hs out : List ℕ) where
   -- the ways out of the code, in order
@@ -58,3 +59,7 @@ module _ (sh : Shape) (hs out : List ℕ) where
   pub output-same : (markAnswer sh hs out .number ≡ 0 → ⊥) → out ≡ markOutput sh hs out
   unfolding markOutput
   output-same n = rw (ne-eqb (markAnswer sh hs out .number) 0 n)
+
+-- what `mark_all` leaves, by its places
+pub made-at : (hs ms out : List ℕ) → ms ≡ onFront (marksMade hs) out → (i : ℕ) → i < count hs → getD ms i 0 ≡ markAt hs i
+made-at hs ms out e i l = marks-at hs (marked hs) ms out e l

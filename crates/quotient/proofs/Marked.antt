@@ -23,9 +23,10 @@ use Rattle.representatives.specs.Representative.{Settles}
 use Rattle.representatives.specs.Tables.{Reducible, SilentMarks}
 use Rattle.representatives.proofs.Marked.{falls, silent-settles}
 use Rattle.short.specs.Short.{shortHops, mapList}
+use Rattle.short.proofs.Images.{short-within}
 use Rattle.reducing.specs.Reducing.{shortGraph, mapLeft, shortLeft}
 use Rattle.reducing.specs.declared.ShortGraph.{ShortGraph}
-use Rattle.quotient.specs.Reduce.{reduction, markedMap, markedHops}
+use Rattle.quotient.specs.Reduce.{reduction, markedMap, markedHops, markedShape}
 use Rattle.quotient.specs.declared.Reduction.{Reduction}
 
 module _ {sh : Shape} {hs : List ℕ} (red : Reducible sh hs) where
@@ -59,3 +60,14 @@ module _ (sh : Shape) (hs ms out : List ℕ) (e : ms ≡ onFront (marksOf hs (ma
 
   pub left-short : (old : List ℕ) {short : List ℕ} → short ≡ shortLeft sh hs ms old → short ≡ onFront (flat (markedHops sh hs)) old
   left-short old f = f ∙ ap (λ (u : Pairs). onFront (flat (shortHops sh hs u)) old) (held-marked hs ms out e)
+
+  -- the short graph's shape and the number of its hops
+  pub left-shape : {r : ShortGraph} → r ≡ shortGraph sh hs (heldBy hs ms) → r .shape ≡ markedShape sh hs
+  left-shape q = ap (λ (x : ShortGraph). x .shape) (q ∙ ap (shortGraph sh hs) (held-marked hs ms out e))
+
+  pub left-hops : {r : ShortGraph} → r ≡ shortGraph sh hs (heldBy hs ms) → r .hops ≡ length (markedHops sh hs)
+  left-hops q = ap (λ (x : ShortGraph). x .hops) (q ∙ ap (shortGraph sh hs) (held-marked hs ms out e))
+
+-- the short hops are no more than the hops
+pub marked-within : (sh : Shape) (hs : List ℕ) → length (markedHops sh hs) ≤ count hs
+marked-within sh hs = short-within sh hs (marked hs)

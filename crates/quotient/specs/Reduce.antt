@@ -14,10 +14,14 @@ use Rattle.graph.specs.declared.Shape.{Shape}
 use Rattle.graph.specs.declared.Answer.{Answer}
 use Rattle.silent.specs.Silent.{ringless}
 use Rattle.confluence.specs.Rounds.{marked}
+use Rattle.representatives.specs.Representative.{mapOf}
 use Rattle.short.specs.Short.{shortHops, shortShape, mapList}
 use Rattle.quotient.specs.declared.Reduction.{Reduction}
 
--- "The map gives each old state the new number of its representative", along the marked hops
+-- "The map gives each old state the new number of its representative", along the marked hops: map(s), and the map as a list
+abbrev pub markedTo : Shape → List ℕ → ℕ → ℕ
+markedTo sh hs = mapOf sh hs (marked hs)
+
 abbrev pub markedMap : Shape → List ℕ → List ℕ
 markedMap sh hs = mapList sh hs (marked hs)
 

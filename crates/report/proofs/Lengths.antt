@@ -11,10 +11,8 @@ use Rattle.graph.specs.Hops.{count, from, label, to, flat}
 use Rattle.limits.specs.Check.{Admitted}
 use Rattle.graph.specs.declared.Shape.{Shape}
 use Rattle.graph.specs.declared.Answer.{Answer}
-use Rattle.confluence.specs.Held.{markOf}
-use Rattle.representatives.specs.Representative.{mapOf}
-use Rattle.confluence.specs.Rounds.{marked}
-use Rattle.quotient.specs.Reduce.{markedHops, markedShape}
+use Rattle.marks.specs.Mark.{markAt}
+use Rattle.quotient.specs.Reduce.{markedTo, markedHops, markedShape}
 use Rattle.representatives.specs.Tables.{Reducible}
 use Rattle.quotient.proofs.Reduced.{short-admitted, map-inside}
 use Rattle.text.specs.Text.{digits, decimal, spaced, numbered, line, lines, in-word, marked-word, map-word, out-word, hop-word, no-word}
@@ -108,8 +106,8 @@ report-most {sh} {hs} red =
     (omega (
       arith,
       line2-most 20 in-word (sh .states) (count hs) (decimal-any (sh .states)) (decimal-any (count hs)),
-      lines-most (markedLine hs (markOf hs (marked hs))) 19 (count hs) (marked-most sh hs (red .admitted) (markOf hs (marked hs))),
-      lines-most (mapLine (mapOf sh hs (marked hs))) 16 (sh .states) (map-most sh hs (red .admitted) (mapOf sh hs (marked hs)) (λ s l. omega (arith, map-inside red s l, short .states-most))),
+      lines-most (markedLine hs (markAt hs)) 19 (count hs) (marked-most sh hs (red .admitted) (markAt hs)),
+      lines-most (mapLine (markedTo sh hs)) 16 (sh .states) (map-most sh hs (red .admitted) (markedTo sh hs) (λ s l. omega (arith, map-inside red s l, short .states-most))),
       line3-most 20 out-word (new .states) (count xs) (decimal-any (new .states)) (decimal-any (count xs)) (new .initial) (decimal-any (new .initial)),
       lines-most (hopLine xs) 22 (count xs) (hop-most new xs short),
       red .admitted .hops-most,

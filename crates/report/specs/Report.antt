@@ -8,17 +8,15 @@ use Rattle.limits.specs.Check.{checkOf}
 use Rattle.graph.specs.declared.Shape.{Shape}
 use Rattle.graph.specs.declared.Answer.{Answer}
 use Rattle.silent.specs.Silent.{ringless}
-use Rattle.confluence.specs.Rounds.{marked}
-use Rattle.confluence.specs.Held.{markOf}
-use Rattle.representatives.specs.Representative.{mapOf}
-use Rattle.quotient.specs.Reduce.{markedHops, markedShape}
+use Rattle.marks.specs.Mark.{markAt}
+use Rattle.quotient.specs.Reduce.{markedTo, markedHops, markedShape}
 use Rattle.fields.specs.Format.{shapeIn, hopListIn}
 use Rattle.format.specs.Rows.{formatAnswer}
 use Rattle.rows.specs.Rows.{linesOf, refusalOf}
 
 -- the report of an accepted graph: its marks, its map and its short graph
 unfoldable pub reportOf : Shape → List ℕ → List ℕ
-reportOf sh hs = linesOf sh hs (markOf hs (marked hs)) (mapOf sh hs (marked hs)) (markedShape sh hs) (flat (markedHops sh hs))
+reportOf sh hs = linesOf sh hs (markAt hs) (markedTo sh hs) (markedShape sh hs) (flat (markedHops sh hs))
 
 -- the refusal, or what follows an acceptance
 unfoldable pub unlessRefused : Answer → List ℕ → List ℕ

@@ -14,11 +14,9 @@ use Rattle.graph.specs.declared.Shape.{Shape}
 use Rattle.graph.specs.declared.Answer.{Answer}
 use Rattle.below.proofs.Tests.{length-listed}
 use Rattle.graph.proofs.Fronts.{flat-front}
-use Rattle.representatives.specs.Representative.{mapOf}
-use Rattle.confluence.specs.Rounds.{marked}
 use Rattle.short.specs.Short.{mapList}
-use Rattle.short.proofs.Images.{short-within}
-use Rattle.quotient.specs.Reduce.{noShape, markedMap, markedHops, markedShape, reduceAnswer, reduction, reduceOf, mapOutput, shortOutput}
+use Rattle.quotient.proofs.Marked.{marked-within}
+use Rattle.quotient.specs.Reduce.{noShape, markedTo, markedMap, markedHops, markedShape, reduceAnswer, reduction, reduceOf, mapOutput, shortOutput}
 use Rattle.quotient.specs.declared.Reduction.{Reduction}
 use Rattle.quotient.proofs.Answering.{reduce-reducible, reduce-map-room, reduce-short-room, accepted-returns, accepted-map, accepted-short}
 use Rattle.bisimulation.specs.declared.Audit.{Audit}
@@ -47,7 +45,7 @@ module _ (sh : Shape) (hs map short : List ℕ) where
 
     front-map : take (sh .states) (mapOutput sh hs map short) ≡ markedMap sh hs
     unfolding mapList
-    front-map = rw (← accepted-map sh hs map short refl zero) (take-at (markedMap sh hs) _ (sh .states) (length-listed (mapOf sh hs (marked hs)) (sh .states)))
+    front-map = rw (← accepted-map sh hs map short refl zero) (take-at (markedMap sh hs) _ (sh .states) (length-listed (markedTo sh hs) (sh .states)))
 
     front-short : between (shortOutput sh hs map short) 0 (length (markedHops sh hs)) ≡ flat (markedHops sh hs)
     front-short = rw (← accepted-short sh hs map short refl zero) (flat-front (markedHops sh hs) _ refl)
@@ -68,7 +66,7 @@ module _ (sh : Shape) (hs map short : List ℕ) where
 
     pub short-there : red .hops ≤ count short
     short-there =
-        let few : length (markedHops sh hs) ≤ count hs = short-within sh hs (marked hs) in
+        let few : length (markedHops sh hs) ≤ count hs = marked-within sh hs in
         let room : length hs ≤ length short = reduce-short-room sh hs (length map) (length short) (zero accepts) in
         rw (e, ← figures accepts) (omega arith)
 

@@ -6,11 +6,9 @@ use mathlib.Core.List.{List}
 use Rattle.graph.specs.Hops.{flat}
 use Rattle.graph.specs.declared.Shape.{Shape}
 use Rattle.below.proofs.Tests.{length-listed, getD-listed}
-use Rattle.confluence.specs.Rounds.{marked}
-use Rattle.representatives.specs.Representative.{mapOf}
 use Rattle.representatives.specs.Tables.{Reducible}
 use Rattle.short.specs.Short.{shortShape, mapList}
-use Rattle.quotient.specs.Reduce.{markedMap, markedHops, markedShape}
+use Rattle.quotient.specs.Reduce.{markedTo, markedMap, markedHops, markedShape}
 use Rattle.quotient.proofs.Reduced.{map-inside, short-admitted, short-reduces}
 use Rattle.graph.specs.Map.{mapped}
 use Rattle.faults.specs.Faults.{faultsOf}
@@ -22,9 +20,9 @@ use Rattle.bisimulation.proofs.Answering.{audit-counts}
 use Rattle.together.specs.Together.{faultless}
 
 module _ {sh : Shape} {hs : List ℕ} (red : Reducible sh hs) where
-  list-maps : (s : ℕ) → s < sh .states → mapped (markedMap sh hs) s ≡ mapOf sh hs (marked hs) s
+  list-maps : (s : ℕ) → s < sh .states → mapped (markedMap sh hs) s ≡ markedTo sh hs s
   unfolding mapList
-  list-maps s l = getD-listed (mapOf sh hs (marked hs)) (sh .states) l
+  list-maps s l = getD-listed (markedTo sh hs) (sh .states) l
 
   reduced-audited : Audited sh (markedShape sh hs) hs (flat (markedHops sh hs)) (markedMap sh hs)
   unfolding mapList shortShape
@@ -32,7 +30,7 @@ module _ {sh : Shape} {hs : List ℕ} (red : Reducible sh hs) where
     first = red .admitted;
     second = short-admitted red;
     labels = refl;
-    map = record { one-a-state = length-listed (mapOf sh hs (marked hs)) (sh .states); entries-in = λ s l. rw (list-maps s l) (map-inside red s l) };
+    map = record { one-a-state = length-listed (markedTo sh hs) (sh .states); entries-in = λ s l. rw (list-maps s l) (map-inside red s l) };
   }
 
   -- the audit's count of what `reduce` makes is 0

@@ -11,9 +11,8 @@ use Rattle.graph.specs.Answers.{accepted, refused}
 use Rattle.graph.specs.declared.Hop.{Hop}
 use Rattle.graph.specs.declared.Shape.{Shape}
 use Rattle.graph.specs.declared.Answer.{Answer}
-use Rattle.confluence.specs.Rounds.{survives, marked}
-use Rattle.confluence.specs.Held.{marksOf}
-use Rattle.marks.specs.Mark.{markAnswer}
+use Rattle.confluence.specs.Rounds.{survives}
+use Rattle.marks.specs.Mark.{marksMade, markAnswer}
 use Rattle.quotient.specs.Reduce.{markedMap, markedHops, reduceOf}
 use Rattle.quotient.specs.declared.Reduction.{Reduction}
 use Rattle.bisimulation.specs.Auditing.{auditOf}
@@ -72,7 +71,7 @@ outcomeOf sh hs =
     (record {
       answer = markAnswer sh hs hs;
       reduced = reduceOf sh hs (sh .states) (length hs);
-      marks = marksOf hs (marked hs);
+      marks = marksMade hs;
       falls = listed (count hs) (fallsIn hs);
       map = markedMap sh hs;
       short = markedHops sh hs;
