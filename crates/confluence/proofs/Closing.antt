@@ -18,8 +18,7 @@ use Rattle.confluence.specs.Rounds.{closing, answer, hopAnswers, answers
 
 -- "there is an s4 such that ..": a hop labelled a to s3 is answered from s2
 abbrev pub Answered : List ℕ → (ℕ → ℕ → Type 0) → ℕ → ℕ → ℕ → Type 0
-Answered hs U s2 a s3 =
-    (s4 : ℕ) × ((has hs s2 a s4 ≡ true) ⊎ ((a ≡ 0) × (s4 ≡ s2))) × ((s3 ≡ s4) ⊎ U s3 s4)
+Answered hs U s2 a s3 = (s4 : ℕ) × ((has hs s2 a s4 ≡ true) ⊎ ((a ≡ 0) × (s4 ≡ s2))) × ((s3 ≡ s4) ⊎ U s3 s4)
 
 -- "each hop s1, a, s3" is
 abbrev pub Closed : List ℕ → (ℕ → ℕ → Type 0) → ℕ → ℕ → Type 0
@@ -47,6 +46,33 @@ module _ (u : Pairs) (s3 s4 : ℕ) where
 -- what the code found out, v, of the closing of s3 by a state s4 that is t
 pub closing-is : (u : Pairs) (s3 : ℕ) {s4 t : ℕ} {v b : Bool} → s4 ≡ t → v ≡ closing u s3 s4 → v ≡ b → closing u s3 t ≡ b
 closing-is u s3 q e d = rw q at (sym e ∙ d)
+
+-- document 01's first point: "s2 has a hop labelled a to s4, or a is silent and s4 = s2"
+abbrev pub FirstPoint : List ℕ → ℕ → ℕ → ℕ → Type 0
+FirstPoint hs s2 a s4 = (has hs s2 a s4 ≡ true) ⊎ ((a ≡ 0) × (s4 ≡ s2))
+
+-- Y over any set of pairs z, in the place of the closing: there is an s4 by the first point with s3, s4 in z
+abbrev pub Reaches : List ℕ → (ℕ → ℕ → Type 0) → ℕ → ℕ → ℕ → Type 0
+Reaches hs Z s2 a s3 = (s4 : ℕ) × FirstPoint hs s2 a s4 × Z s3 s4
+
+module _ (hs : List ℕ) (z : Pairs) (s2 a s3 : ℕ) where
+  pub reaches-yes : Reaches hs (In z) s2 a s3 → answers hs z s2 a s3 ≡ true
+  unfolding answers hopAnswers answer
+  reaches-yes (s4, inl h, e) =
+      let p = has-place hs s2 a s4 h in
+      or-right (eqb a 0 && z s3 s2)
+      (any-found (answer hs z s2 a s3) (count hs) (p .within) (and-yes (labelled-yes hs s2 a (p .at) (p .from-is) (p .label-is)) (rw (p .to-is) e)))
+  reaches-yes (s4, inr (q, r), e) = or-left (any (count hs) (answer hs z s2 a s3)) (and-yes (eq-eqb a 0 q) (rw r at e))
+
+  pub reaches-says : answers hs z s2 a s3 ≡ true → Reaches hs (In z) s2 a s3
+  unfolding answers hopAnswers answer
+  reaches-says e = go (or-yes (eqb a 0 && z s3 s2) (any (count hs) (answer hs z s2 a s3)) e) where
+    go : ((eqb a 0 && z s3 s2) ≡ true) ⊎ (any (count hs) (answer hs z s2 a s3) ≡ true) → Reaches hs (In z) s2 a s3
+    go (inl h) = (s2, inr (eqb-true a 0 (and-left (eqb a 0) (z s3 s2) h), refl), and-right (eqb a 0) (z s3 s2) h)
+    go (inr h) =
+        let (j, l, w) = any-at (answer hs z s2 a s3) (count hs) h in
+        let (f, g) = labelled-parts hs s2 a j (and-left (labelled hs s2 a j) (z s3 (to hs j)) w) in
+        (to hs j, inl (place-has hs s2 a (to hs j) (record { at = j; within = l; from-is = f; label-is = g; to-is = refl })), and-right (labelled hs s2 a j) (z s3 (to hs j)) w)
 
 module _ (hs : List ℕ) where
   module _ (u : Pairs) where
@@ -89,27 +115,10 @@ module _ (hs : List ℕ) where
     answers-last s2 a s3 e z = rw (eq-eqb a 0 z, e) (sym (or-false (closing u s3 s2)))
 
     pub answers-yes : (s2 a s3 : ℕ) → Answered hs (In u) s2 a s3 → answers hs (closing u) s2 a s3 ≡ true
-    answers-yes s2 a s3 (s4, inl h, z) =
-        let p = has-place hs s2 a s4 h in
-        answers-hop s2 a s3 (hop-answers s2 a s3 (p .within) (labelled-yes hs s2 a (p .at) (p .from-is) (p .label-is)) (rw (p .to-is) (closing-yes u s3 s4 z)))
-    answers-yes s2 a s3 (s4, inr (q, e), z) = answers-still s2 a s3 q (rw e at (closing-yes u s3 s4 z))
+    answers-yes s2 a s3 (s4, x, y) = reaches-yes hs (closing u) s2 a s3 (s4, x, closing-yes u s3 s4 y)
 
     pub answers-says : (s2 a s3 : ℕ) → answers hs (closing u) s2 a s3 ≡ true → Answered hs (In u) s2 a s3
-    unfolding answers hopAnswers answer
-    answers-says s2 a s3 e = go (or-yes (eqb a 0 && closing u s3 s2) (any (count hs) (answer hs (closing u) s2 a s3)) e) where
-      go : ((eqb a 0 && closing u s3 s2) ≡ true) ⊎ (any (count hs) (answer hs (closing u) s2 a s3) ≡ true) → Answered hs (In u) s2 a s3
-      go (inl h) = (
-        s2,
-        inr (eqb-true a 0 (and-left (eqb a 0) (closing u s3 s2) h), refl),
-        closing-says u s3 s2 (and-right (eqb a 0) (closing u s3 s2) h),
-      )
-      go (inr h) =
-          let (j, l, w) = any-at (answer hs (closing u) s2 a s3) (count hs) h in
-          let (f, g) = labelled-parts hs s2 a j (and-left (labelled hs s2 a j) (closing u s3 (to hs j)) w) in (
-            to hs j,
-            inl (place-has hs s2 a (to hs j) (record { at = j; within = l; from-is = f; label-is = g; to-is = refl })),
-            closing-says u s3 (to hs j) (and-right (labelled hs s2 a j) (closing u s3 (to hs j)) w),
-          )
+    answers-says s2 a s3 e = let (s4, x, y) = reaches-says hs (closing u) s2 a s3 e in (s4, x, closing-says u s3 s4 y)
 
     -- the same of the hop at place j, labelled a to s3
     pub answered-at : (s2 j : ℕ) {a s3 : ℕ} → a ≡ label hs j → s3 ≡ to hs j → answers hs (closing u) s2 a s3 ≡ answered hs u s2 j

@@ -15,7 +15,7 @@ use Rattle.graph.proofs.Accepts.{then-first, then-next, both-accept, room-accep
 use Rattle.silent.specs.Silent.{ringless}
 use Rattle.confluence.specs.Rounds.{marked}
 use Rattle.confluence.specs.Held.{marksOf}
-use Rattle.sweeps.proofs.Marks.{marks-at}
+use Rattle.confluence.proofs.Marks.{marks-at}
 use Rattle.marks.specs.Mark.{marksMade, markAt, markAnswer, markOutput}
 
 module _ (sh : Shape) (hs out : List ℕ) where

@@ -18,7 +18,7 @@ use Rattle.shrinking.specs.Pairs.{Pairs, In}
 use Rattle.confluence.specs.Rounds.{marked}
 use Rattle.confluence.proofs.Marked.{marked-confluent}
 use Rattle.confluence.specs.Held.{marksOf, heldBy}
-use Rattle.sweeps.proofs.Marks.{marks-room, marks-silent, held-marked}
+use Rattle.confluence.proofs.Marks.{marks-room, marks-silent, held-marked}
 use Rattle.representatives.specs.Representative.{Settles}
 use Rattle.representatives.specs.Tables.{Reducible, SilentMarks}
 use Rattle.representatives.proofs.Marked.{falls, silent-settles}

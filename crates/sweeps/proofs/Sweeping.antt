@@ -22,7 +22,7 @@ use Rattle.confluence.specs.Held.{isMarked, heldBy, markOf, marksOf}
 use Rattle.confluence.proofs.Marked.{marked-confluent, marked-kept, marked-same}
 use Rattle.confluence.proofs.Held.{held-says, held-yes, held-at}
 use Rattle.sweeps.specs.Sweep.{markCount, Marking, Stands, Tested, Swept, everyPair}
-use Rattle.sweeps.proofs.Marks.{mark-bit, mark-one, mark-says, mark-visible, length-marks, marks-room, marks-beyond, marks-bits, marks-silent, marks-held}
+use Rattle.confluence.proofs.Marks.{mark-bit, mark-one, mark-says, mark-visible, length-marks, marks-room, marks-beyond, marks-bits, marks-silent, marks-held}
 
 -- one test, one sweep, and the end of sweeping
 module _ (hs : List ℕ) where

@@ -12,7 +12,7 @@ use Rattle.outputs.proofs.Front.{listed-none, listed-more, listed-done}
 use Rattle.confluence.specs.Held.{markOf, marksOf}
 use Rattle.sweeps.specs.Sweep.{everyPair}
 use Rattle.sweeps.proofs.Sweeping.{first-silent, first-visible}
-use Rattle.sweeps.proofs.Marks.{length-so-far}
+use Rattle.confluence.proofs.Marks.{length-so-far}
 use Rattle.sweeps.proofs.start_marks.Statement.{statement}
 use Rattle.sweeps.proofs.start_marks.Tie as tie
 

@@ -1,0 +1,1 @@
+pub mod Due  -- the hops that a round tests, and the number of tests
