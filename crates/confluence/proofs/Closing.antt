@@ -14,11 +14,11 @@ use Rattle.graph.proofs.Places.{labelled-yes, labelled-parts, has-at, has-place
 use Rattle.graph.proofs.Lookup.{any-range}
 use Rattle.below.proofs.Tests.{all-at, all-yes, any-at, any-found}
 use Rattle.shrinking.specs.Pairs.{Pairs, In}
-use Rattle.confluence.specs.Rounds.{closing, answer, hopAnswers, answers, answered, tried, closes}
+use Rattle.confluence.specs.Rounds.{FirstPoint, closing, answer, hopAnswers, answers, answered, tried, closes}
 
 -- "there is an s4 such that ..": a hop labelled a to s3 is answered from s2
 abbrev pub Answered : List ℕ → (ℕ → ℕ → Type 0) → ℕ → ℕ → ℕ → Type 0
-Answered hs U s2 a s3 = (s4 : ℕ) × ((has hs s2 a s4 ≡ true) ⊎ ((a ≡ 0) × (s4 ≡ s2))) × ((s3 ≡ s4) ⊎ U s3 s4)
+Answered hs U s2 a s3 = (s4 : ℕ) × FirstPoint hs s2 a s4 × ((s3 ≡ s4) ⊎ U s3 s4)
 
 -- "each hop s1, a, s3" is
 abbrev pub Closed : List ℕ → (ℕ → ℕ → Type 0) → ℕ → ℕ → Type 0
@@ -46,10 +46,6 @@ module _ (u : Pairs) (s3 s4 : ℕ) where
 -- what the code found out, v, of the closing of s3 by a state s4 that is t
 pub closing-is : (u : Pairs) (s3 : ℕ) {s4 t : ℕ} {v b : Bool} → s4 ≡ t → v ≡ closing u s3 s4 → v ≡ b → closing u s3 t ≡ b
 closing-is u s3 q e d = rw q at (sym e ∙ d)
-
--- document 01's first point: "s2 has a hop labelled a to s4, or a is silent and s4 = s2"
-abbrev pub FirstPoint : List ℕ → ℕ → ℕ → ℕ → Type 0
-FirstPoint hs s2 a s4 = (has hs s2 a s4 ≡ true) ⊎ ((a ≡ 0) × (s4 ≡ s2))
 
 -- Y over any set of pairs z, in the place of the closing: there is an s4 by the first point with s3, s4 in z
 abbrev pub Reaches : List ℕ → (ℕ → ℕ → Type 0) → ℕ → ℕ → ℕ → Type 0

@@ -66,10 +66,14 @@ survives hs = leftAfter (closes hs) (silentHops hs)
 unfoldable pub marked : List ℕ → Pairs
 marked hs = survives hs (count hs)
 
+-- the first point of the condition: "s2 has a hop labelled a to s4, or a is silent and s4 = s2"
+abbrev pub FirstPoint : List ℕ → ℕ → ℕ → ℕ → Type 0
+FirstPoint hs s2 a s4 = (has hs s2 a s4 ≡ true) ⊎ ((a ≡ 0) × (s4 ≡ s2))
+
 -- "A set U of silent hops is confluent when for each hop s1 to s2 in U and each hop s1, a, s3 there is an s4 such that .."
 -- U may be any set of pairs, decidable or not.
 pub record ConfluentSet (hs : List ℕ) (U : ℕ → ℕ → Type 0) : Type 0 where
   pub silent : (s1 s2 : ℕ) → U s1 s2 → has hs s1 0 s2 ≡ true
   pub closed :
       (s1 s2 : ℕ) → U s1 s2 → (a s3 : ℕ) → has hs s1 a s3 ≡ true →
-      (s4 : ℕ) × ((has hs s2 a s4 ≡ true) ⊎ ((a ≡ 0) × (s4 ≡ s2))) × ((s3 ≡ s4) ⊎ U s3 s4)
+      (s4 : ℕ) × FirstPoint hs s2 a s4 × ((s3 ≡ s4) ⊎ U s3 s4)

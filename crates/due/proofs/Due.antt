@@ -15,8 +15,8 @@ use Rattle.below.proofs.Tests.{any-at, any-found, tally-within, tally-less, tal
 use Rattle.graph.proofs.Places.{has-at, has-place, place-has}
 use Rattle.shrinking.specs.Pairs.{Pairs, In}
 use Rattle.shrinking.proofs.Rounds.{left-meets, left-yes, left-falls, left-rests}
-use Rattle.confluence.specs.Rounds.{answers, closes, silentHops, survives, marked}
-use Rattle.confluence.proofs.Closing.{FirstPoint, Reaches, Closed, reaches-yes, reaches-says, closes-says, closes-yes}
+use Rattle.confluence.specs.Rounds.{FirstPoint, answers, closes, silentHops, survives, marked}
+use Rattle.confluence.proofs.Closing.{Reaches, Closed, reaches-yes, reaches-says, closes-says, closes-yes}
 use Rattle.confluence.proofs.Rounds.{closes-monotone, silent-listed, survives-none, survives-silent}
 use Rattle.due.specs.Due.{fell, standing, reached, shaken, due, testsIn, testsUpTo, testsOf}
 
