@@ -2,11 +2,11 @@
 use Prim.Native.Nat.{ℕ, _<_, _≤_}
 use mathlib.Core.Path.{_≡_, refl, sym, ap, _∙_}
 use mathlib.Core.Bool.{Bool, true, false, cond, _&&_}
-use mathlib.Core.List.{List}
+use mathlib.Core.List.{List, _++_}
 use mathlib.Core.Logic.{_⊎_, inl, inr, ⊎-elim}
 use native.Mathlib.Omega.{arith}
-use lib.ListN.{length, getD, drop, length-append, length-drop, List·getD-append}
-use lib.Seq.{drop-at}
+use lib.ListN.{length, getD, take, drop, take-append-drop, length-append, length-drop, List·getD-append}
+use lib.Seq.{drop-at, getD-take, length-take-le, ext-getD}
 use lib.Dec.{eqb}
 use borrow.Author.Tests.{eqb-true, eq-eqb}
 use Rattle.below.specs.Tests.{listed}
@@ -17,7 +17,7 @@ use Rattle.graph.specs.Hops.{count, from, label, to, is, has}
 use Rattle.graph.proofs.Places.{is-yes, is-from, is-to, has-place, place-has}
 use Rattle.shrinking.specs.Pairs.{Pairs, In, Within}
 use Rattle.confluence.specs.Rounds.{silentHops, marked}
-use Rattle.confluence.specs.Held.{isMarked, heldBy, markOf, marksOf}
+use Rattle.confluence.specs.Held.{isMarked, heldBy, markOf, marksOf, everyPair}
 use Rattle.confluence.proofs.Marked.{marked-confluent}
 use Rattle.confluence.proofs.Held.{held-says, held-yes}
 
@@ -57,6 +57,21 @@ module _ (hs : List ℕ) (u : Pairs) where
   pub length-marks : length (marksOf hs u) ≡ count hs
   unfolding marksOf
   length-marks = length-listed (markOf hs u) (count hs)
+
+  -- a list whose elements are the marks, and which is behind them what `out` is
+  pub marks-made : (ms out : List ℕ) → count hs ≤ length ms → ((i : ℕ) → i < count hs → getD ms i 0 ≡ markOf hs u i) →
+      drop (count hs) ms ≡ drop (count hs) out → ms ≡ onFront (marksOf hs u) out
+  unfolding marksOf
+  marks-made ms out room f e =
+      sym (take-append-drop (count hs) ms) ∙ rw (e, length-marks) (ap (λ (xs : List ℕ). xs ++ drop (count hs) out) front) where
+        long : length (take (count hs) ms) ≡ count hs
+        long = length-take-le (count hs) ms room
+
+        front : take (count hs) ms ≡ marksOf hs u
+        front =
+            ext-getD 0 (take (count hs) ms) (marksOf hs u) (long ∙ sym length-marks)
+            (λ i l. let k : i < count hs = rw long at l in
+            getD-take (count hs) ms i 0 k ∙ (f i k ∙ sym (getD-listed (markOf hs u) (count hs) k)))
 
   module _ (ms out : List ℕ) (e : ms ≡ onFront (marksOf hs u) out) where
     pub marks-room : count hs ≤ length out → length ms ≡ length out
@@ -104,6 +119,20 @@ module _ (hs : List ℕ) (u : Pairs) where
       same s t =
           marks-held s t ∙ same-test (has hs s 0 t && u s t) (u s t) (and-right (has hs s 0 t) (u s t)) (λ h. and-yes (w s t h) h)
 
--- so the marks that `mark_all` leaves hold the marked set
+-- the marks that marking begins with
+module _ (hs : List ℕ) where
+  pub first-silent : (i : ℕ) → label hs i ≡ 0 → 1 ≡ markOf hs everyPair i
+  first-silent i q = sym (mark-one hs everyPair i q refl)
+
+  pub first-visible : (i : ℕ) → (label hs i ≡ 0 → ⊥) → 0 ≡ markOf hs everyPair i
+  first-visible i n = sym (mark-visible hs everyPair i n)
+
+-- marks that are written over others are written over what was there before
+pub marks-over : (hs : List ℕ) (u v : Pairs) {ms : List ℕ} (out : List ℕ) {new : List ℕ} → ms ≡ onFront (marksOf hs v) out → new ≡ onFront (marksOf hs u) ms → new ≡ onFront (marksOf hs u) out
+marks-over hs u v {ms} out e d =
+    d ∙ ap (λ (k : ℕ). marksOf hs u ++ drop k ms) (length-marks hs u) ∙
+    ap (λ (rest : List ℕ). marksOf hs u ++ rest) (marks-beyond hs v ms out e) ∙ ap (λ (k : ℕ). marksOf hs u ++ drop k out) (sym (length-marks hs u))
+
+-- the marks that marking leaves hold the marked set
 pub held-marked : (hs ms out : List ℕ) → ms ≡ onFront (marksOf hs (marked hs)) out → heldBy hs ms ≡ marked hs
 held-marked hs ms out e = held-set hs (marked hs) ms out e (marked-confluent hs .silent)

@@ -1,6 +1,6 @@
 -- The set that marks are, and the marks of a set. Assumes nothing: these are definitions.
 use Prim.Native.Nat.{ℕ}
-use mathlib.Core.Bool.{Bool, cond, _&&_}
+use mathlib.Core.Bool.{Bool, true, cond, _&&_}
 use mathlib.Core.List.{List}
 use lib.ListN.{getD}
 use lib.Dec.{eqb}
@@ -25,3 +25,7 @@ markOf hs u i = cond (eqb (label hs i) 0 && u (from hs i) (to hs i)) 1 0
 
 unfoldable pub marksOf : List ℕ → Pairs → List ℕ
 marksOf hs u = listed (count hs) (markOf hs u)
+
+-- every pair: the marks of this set, which marking begins with, are 1 for each silent hop and 0 for each visible one
+abbrev pub everyPair : Pairs
+everyPair s t = true

@@ -18,11 +18,11 @@ use Rattle.graph.specs.Order.{Ascending}
 use Rattle.graph.proofs.Places.{is-yes, is-from, is-to}
 use Rattle.shrinking.specs.Pairs.{Pairs}
 use Rattle.confluence.specs.Rounds.{closes, closesAt, marked}
-use Rattle.confluence.specs.Held.{isMarked, heldBy, markOf, marksOf}
+use Rattle.confluence.specs.Held.{isMarked, heldBy, markOf, marksOf, everyPair}
 use Rattle.confluence.proofs.Marked.{marked-confluent, marked-kept, marked-same}
 use Rattle.confluence.proofs.Held.{held-says, held-yes, held-at}
-use Rattle.sweeps.specs.Sweep.{markCount, Marking, Stands, Tested, Swept, everyPair}
-use Rattle.confluence.proofs.Marks.{mark-bit, mark-one, mark-says, mark-visible, length-marks, marks-room, marks-beyond, marks-bits, marks-silent, marks-held}
+use Rattle.sweeps.specs.Sweep.{markCount, Marking, Stands, Tested, Swept}
+use Rattle.confluence.proofs.Marks.{mark-bit, mark-one, mark-says, marks-room, marks-bits, marks-silent, marks-held, marks-made}
 
 -- one test, one sweep, and the end of sweeping
 module _ (hs : List ℕ) where
@@ -133,25 +133,9 @@ module _ (hs : List ℕ) where
 
     -- so the marks are those of the marked set
     pub settled-marks : (out : List ℕ) → drop (count hs) ms ≡ drop (count hs) out → ms ≡ onFront (marksOf hs (marked hs)) out
-    unfolding marksOf
-    settled-marks out e =
-        sym (take-append-drop (count hs) ms) ∙ rw (e, ← settled-set, length-marks hs (heldBy hs ms)) (ap (λ (xs : List ℕ). xs ++ drop (count hs) out) front) where
-          long : length (take (count hs) ms) ≡ count hs
-          long = length-take-le (count hs) ms (m .room)
-
-          front : take (count hs) ms ≡ marksOf hs (heldBy hs ms)
-          front =
-              ext-getD 0 (take (count hs) ms) (marksOf hs (heldBy hs ms)) (long ∙ sym (length-marks hs (heldBy hs ms)))
-              (λ i l. let k : i < count hs = rw long at l in
-              getD-take (count hs) ms i 0 k ∙ (mark-is i k ∙ sym (getD-listed (markOf hs (heldBy hs ms)) (count hs) k)))
+    settled-marks out e = rw (← settled-set) (marks-made hs (heldBy hs ms) ms out (m .room) mark-is e)
 
   -- the marks that sweeps begin with
-  pub first-silent : (i : ℕ) → label hs i ≡ 0 → 1 ≡ markOf hs everyPair i
-  first-silent i q = sym (mark-one hs everyPair i q refl)
-
-  pub first-visible : (i : ℕ) → (label hs i ≡ 0 → ⊥) → 0 ≡ markOf hs everyPair i
-  first-visible i n = sym (mark-visible hs everyPair i n)
-
   pub first-marking : (ms out : List ℕ) → count hs ≤ length out → ms ≡ onFront (marksOf hs everyPair) out → Marking hs ms
   first-marking ms out room e =
       record {
@@ -160,9 +144,3 @@ module _ (hs : List ℕ) where
         silent = marks-silent hs everyPair ms out e;
         holds = λ s t h. marks-held hs everyPair ms out e s t ∙ and-yes (marked-confluent hs .silent s t h) refl;
       }
-
-  -- what is written over them is written over what was there before
-  pub first-over : (u : Pairs) {ms : List ℕ} (out : List ℕ) {new : List ℕ} → ms ≡ onFront (marksOf hs everyPair) out → new ≡ onFront (marksOf hs u) ms → new ≡ onFront (marksOf hs u) out
-  first-over u {ms} out e d =
-      d ∙ ap (λ (k : ℕ). marksOf hs u ++ drop k ms) (length-marks hs u) ∙
-      ap (λ (rest : List ℕ). marksOf hs u ++ rest) (marks-beyond hs everyPair ms out e) ∙ ap (λ (k : ℕ). marksOf hs u ++ drop k out) (sym (length-marks hs u))

@@ -7,7 +7,6 @@ use mathlib.Core.List.{List}
 use lib.ListN.{length, getD, drop}
 use Rattle.below.specs.Tests.{tally}
 use Rattle.graph.specs.Hops.{count, label}
-use Rattle.shrinking.specs.Pairs.{Pairs}
 use Rattle.confluence.specs.Rounds.{closesAt, marked}
 use Rattle.confluence.specs.Held.{isMarked, heldBy}
 
@@ -39,7 +38,3 @@ pub record Swept (hs ms : List ℕ) (n : ℕ) (new : List ℕ) (r : ℕ) : Type 
   pub beyond : drop (count hs) new ≡ drop (count hs) ms
   pub fewer : markCount hs new + r ≤ markCount hs ms
   pub same : r ≡ 0 → (new ≡ ms) × ((i : ℕ) → i < n → Stands hs ms i)
-
--- every pair: the marks of this set, which sweeps begin with, are 1 for each silent hop and 0 for each visible one
-abbrev pub everyPair : Pairs
-everyPair s t = true

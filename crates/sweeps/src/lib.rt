@@ -3,8 +3,8 @@
 // marks hold the marked set throughout, and are a confluent set when they rest. Whoever has refused already calls `mark_all`: `mark`, `reduce`, the program.
 // It stands on `confluence` (the marked set and its theorems) and `closes` (whether a hop closes with the marks).
 use closes::closes_at;
+use confluence::start_marks;
 use graph::hops::hop_count;
-use graph::hops::label_at;
 use starts::STARTS;
 use starts::starts_of;
 ghost use mathlib.Core.Path.{_≡_};
@@ -14,25 +14,8 @@ ghost use Rattle.outputs.specs.Output.{onFront};
 ghost use Rattle.graph.specs.Hops.{count};
 ghost use Rattle.confluence.specs.Rounds.{marked};
 ghost use Rattle.confluence.specs.Held.{marksOf};
-ghost use Rattle.sweeps.specs.Sweep.{Marking, Tested, Swept, everyPair};
+ghost use Rattle.sweeps.specs.Sweep.{Marking, Tested, Swept};
 ghost use Rattle.starts.specs.Starts.{Table, Ready};
-
-// 1 for each silent hop, 0 for each visible one.
-fn start_marks(hops: &[u16], marks: &mut [u8])
-    requires { ⌜ count (now hops) ≤ length (now marks) ⌝ }
-    ensures { λ r. ⌜ now (marks .exit) ≡ onFront (marksOf (now (hops .entry)) everyPair) (now (marks .entry)) ⌝ }
-{
-    let past = hop_count(hops);
-    let mut i = 0;
-    while i < past {
-        if label_at(hops, i).0 == 0 {
-            marks[i] = 1;
-        } else {
-            marks[i] = 0;
-        }
-        i += 1;
-    }
-}
 
 // Takes the mark of the hop at place i if it does not close; returns how many marks went.
 fn test_at(hops: &[u16], starts: &[u16; STARTS], marks: &mut [u8], i: usize) -> usize

@@ -1,7 +1,9 @@
 -- `sweeps::mark_all` meets its contract: the marks that sweeps begin with hold the marked set. Assumes nothing.
 use borrow.Author.Needs.{needs}
 use Rattle.confluence.specs.Rounds.{marked}
-use Rattle.sweeps.proofs.Sweeping.{first-marking, first-over}
+use Rattle.sweeps.proofs.Sweeping.{first-marking}
+use Rattle.confluence.specs.Held.{everyPair}
+use Rattle.confluence.proofs.Marks.{marks-over}
 use Rattle.sweeps.proofs.mark_all.Statement.{statement}
 use Rattle.sweeps.proofs.mark_all.Tie as tie
 
@@ -22,7 +24,7 @@ same-length c = search needs
 returns : tie.Need-returns
 returns c =
     let st = c .before .before .before .before .before .before .before .before .before .before .before .before in
-    first-over (st .args .hops .now) (marked (st .args .hops .now)) (st .args .marks .now) (c .before .before .before .before .before .before .before .start-marks .ensures) (c .before .before .settle .ensures)
+    marks-over (st .args .hops .now) (marked (st .args .hops .now)) everyPair (st .args .marks .now) (c .before .before .before .before .before .before .before .start-marks .ensures) (c .before .before .settle .ensures)
 
 pub mark-all-spec : {M : Type 1} → statement M
 mark-all-spec =

@@ -1,4 +1,4 @@
--- `sweeps::start_marks` meets its contract: the places passed hold their first marks, the others what they held. Assumes nothing.
+-- `confluence::start_marks` meets its contract: the places passed hold their first marks, the others what they held. Assumes nothing.
 use Prim.Native.Nat.{_-_, _≤_}
 use mathlib.Core.Path.{_≡_, sym, _∙_}
 use mathlib.Core.Logic.{⊎-elim}
@@ -9,12 +9,10 @@ use Rattle.below.specs.Tests.{listed}
 use Rattle.graph.specs.Hops.{count}
 use Rattle.outputs.specs.Output.{onFront}
 use Rattle.outputs.proofs.Front.{listed-none, listed-more, listed-done}
-use Rattle.confluence.specs.Held.{markOf, marksOf}
-use Rattle.sweeps.specs.Sweep.{everyPair}
-use Rattle.sweeps.proofs.Sweeping.{first-silent, first-visible}
-use Rattle.confluence.proofs.Marks.{length-so-far}
-use Rattle.sweeps.proofs.start_marks.Statement.{statement}
-use Rattle.sweeps.proofs.start_marks.Tie as tie
+use Rattle.confluence.specs.Held.{markOf, marksOf, everyPair}
+use Rattle.confluence.proofs.Marks.{first-silent, first-visible, length-so-far}
+use Rattle.confluence.proofs.start_marks.Statement.{statement}
+use Rattle.confluence.proofs.start_marks.Tie as tie
 
 abbrev Inv-loop : tie.InvT-loop
 Inv-loop hops marks₀ past i₀ marks i =
