@@ -1,62 +1,30 @@
--- Where a state's hops lie in an ascending list: the table of first places gives their range, labels do not fall in it, and those of one
--- label lie together. Assumes nothing.
+-- Two states' hops in an ascending list, walked side by side: the table of first places gives their ranges, and labels do not fall in one. By it the
+-- ways out of X and Y. Assumes nothing.
 use Prim.Native.Nat.{ℕ, _+_, _<_, _≤_}
-use mathlib.Core.Path.{_≡_, sym, _∙_}
+use mathlib.Core.Path.{_≡_, refl, sym, _∙_}
 use mathlib.Core.Bool.{Bool, true, false, not}
 use mathlib.Core.List.{List}
-use mathlib.Core.Logic.{_⊎_, inl, inr, ⊎-elim}
-use native.Mathlib.Nat.{eq-or-lt-of-le, le-refl}
+use mathlib.Core.Logic.{inl, ⊎-elim}
+use native.Mathlib.Nat.{le-refl}
 use native.Mathlib.Omega.{arith}
 use borrow.Author.Tests.{not-true, not-false}
 use borrow.Author.Count.{below-more}
-use Rattle.graph.specs.Hops.{count, from, label, to, labelled, hopAt}
+use Rattle.graph.specs.Hops.{count, from, label, to, hopOf, has}
 use Rattle.graph.specs.Order.{Ascending}
 use Rattle.graph.specs.Search.{firstOf, pastOf}
+use Rattle.graph.specs.declared.Hop.{Hop}
 use Rattle.below.proofs.Bools.{lt-or-le}
 use Rattle.below.proofs.Tests.{all-yes, all-fails}
-use Rattle.graph.proofs.Places.{labelled-yes, labelled-parts}
-use Rattle.graph.proofs.Ordered.{Below, before-below, ascending-lt}
 use Rattle.graph.proofs.Lookup.{first-within, range-holds, range-only}
 use Rattle.shrinking.specs.Pairs.{Pairs}
 use Rattle.confluence.specs.Rounds.{closing, hopAnswers, answers, answered, tried, closes}
 use Rattle.starts.proofs.Firsts.{first-below, first-next}
-use Rattle.closes.specs.Walk.{Row, Skipped}
-use Rattle.confluence.proofs.Closing.{closing-is, hop-answers, none-answers, answers-still, answers-else, answered-at, tried-own, tried-other}
+use Rattle.answering.specs.Row.{Row}
+use Rattle.answering.proofs.Rows.{ascending-label}
+use Rattle.closes.specs.Walk.{Skipped}
+use Rattle.confluence.proofs.Closing.{answers-still, answers-else, answers-yes, answered-at, tried-own, tried-other}
 
 module _ (hs : List ℕ) (up : Ascending hs) where
-  pub ascending-label : {i j : ℕ} → i ≤ j → j < count hs → from hs i ≡ from hs j → label hs i ≤ label hs j
-  ascending-label {i} {j} h l e =
-      ⊎-elim (λ q. rw q (omega arith)) (λ m. go (before-below (hopAt hs i) (hopAt hs j) (ascending-lt hs up j m l))) (eq-or-lt-of-le h) where
-        go : Below (hopAt hs i) (hopAt hs j) → label hs i ≤ label hs j
-        go (inl k) = absurd (omega arith)
-        go (inr (q, inl k)) = omega arith
-        go (inr (q, inr (k, m))) = omega arith
-
-  -- the walk over a row comes to a place k of the label, whose end s4 closes s3
-  pub row-answers : (u : Pairs) (s a s3 : ℕ) {at past : ℕ} → Row hs s a at past → {k s4 : ℕ} {v : Bool} → at ≤ k → k < past → label hs k ≡ a →
-      s4 ≡ to hs k → v ≡ closing u s3 s4 → v ≡ true → true ≡ hopAnswers hs (closing u) s a s3
-  row-answers u s a s3 row {k} l m q t e d =
-      sym (hop-answers hs u s a s3 (omega (arith, row .within)) (labelled-yes hs s a k (row .own k l m) q) (closing-is u s3 t e d))
-
-  -- the walk over a row stops at a place k: none before it closes s3, and the one there, if any, has another label. So no hop answers.
-  pub row-ends : (u : Pairs) (s a s3 : ℕ) {at past : ℕ} → Row hs s a at past → (k : ℕ) → at ≤ k →
-      ((j : ℕ) → at ≤ j → j < k → closing u s3 (to hs j) ≡ false) → (k < past → label hs k ≡ a → ⊥) →
-      false ≡ hopAnswers hs (closing u) s a s3
-  row-ends u s a s3 {at} {past} row k l f g = sym (none-answers hs u s a s3 at past inside none) where
-    inside : (j : ℕ) → j < count hs → labelled hs s a j ≡ true → (at ≤ j) × (j < past)
-    inside j m e = let (p, q) = labelled-parts hs s a j e in row .rest j m p (omega arith)
-
-    late : (j : ℕ) → at ≤ j → j < past → k ≤ j → labelled hs s a j ≡ true → ⊥
-    late j b m n e =
-        let (p, q) = labelled-parts hs s a j e in
-        let w : k < past = omega arith in
-        let d : from hs k ≡ from hs j = row .own k l w ∙ sym p in
-        let h : label hs k ≤ label hs j = ascending-label n (omega (arith, row .within)) d in
-        g w (omega (arith, row .low k l w))
-
-    none : (j : ℕ) → at ≤ j → j < past → labelled hs s a j ≡ true → closing u s3 (to hs j) ≡ false
-    none j b m e = ⊎-elim (λ n. f j b n) (λ n. absurd (late j b m n e)) (lt-or-le j k)
-
   -- the hops before the first of s1 are not tried
   pub tried-before : (u : Pairs) (s1 s2 : ℕ) {j : ℕ} → j ≡ firstOf hs s1 → (k : ℕ) → k < j → tried hs (answers hs (closing u)) s1 s2 k ≡ true
   tried-before u s1 s2 e k l =
@@ -172,10 +140,14 @@ module _ (hs : List ℕ) (up : Ascending hs) (s1 s2 end past : ℕ) where
           let d : answered hs u s2 j ≡ true = rw q at (sym e ∙ not-false v n) in
           below-more _ j f (tried-own hs u s1 s2 j (walk-from w l) ∙ d)
 
--- Y of the hop at place j, labelled a to s3: s2 itself answers, or a hop of s2 must
+-- Y of the hop at place j, labelled a to s3: s2 has the like hop, or itself answers, or another hop of s2 must
 module _ (hs : List ℕ) (u : Pairs) (s2 j : ℕ) {a s3 : ℕ} (p : a ≡ label hs j) (q : s3 ≡ to hs j) {v : Bool} where
   pub answered-still : a ≡ 0 → v ≡ closing u s3 s2 → v ≡ true → true ≡ answered hs u s2 j
   answered-still z e d = sym (answers-still hs u s2 a s3 z (sym e ∙ d)) ∙ answered-at hs u s2 j p q
 
   pub answered-else : v ≡ hopAnswers hs (closing u) s2 a s3 → (a ≡ 0 → closing u s3 s2 ≡ false) → v ≡ answered hs u s2 j
   answered-else e f = e ∙ answers-else hs u s2 a s3 f ∙ answered-at hs u s2 j p q
+
+  -- s2 has the like hop, h: s4 is s3
+  pub answered-alike : {h : Hop} → h ≡ hopOf s2 a s3 → (v ≡ true → has hs (h .from) (h .label) (h .to) ≡ true) → v ≡ true → true ≡ answered hs u s2 j
+  answered-alike e f d = sym (answers-yes hs u s2 a s3 (s3, inl (rw e at (f d)), inl refl)) ∙ answered-at hs u s2 j p q

@@ -1,1 +1,1 @@
-pub mod Walk  -- a state's hops from a label on, and where a walk over them has come to
+pub mod Walk  -- where a walk over a state's hops has come to

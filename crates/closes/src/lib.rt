@@ -1,62 +1,34 @@
-// Whether a silent hop closes with the set that a list of marks is: document 01's condition, decided. `marks` asks it of each marked hop in its sweeps.
-// Each hop of the one end is tried once, and its answers are looked for among the other end's hops of the same label only: the hops of both ends are
-// walked side by side, labels ascending.
-// It stands on `confluence` (what closing is, and the set that marks are), `graph` (hops and the search) and `starts` (where a state's hops begin).
-use graph::Found;
+// Whether a silent hop closes with the set that a list of marks is: document 01's condition, decided. `sweeps` asks it of each marked hop.
+// Each hop of the one end is tried once. The hops of both ends are walked side by side, in the order of the list: where the other end has the like hop
+// there is no more to ask, and else `answering` is asked for one that closes.
+// It stands on `confluence` (what closing is, and the set that marks are), `graph` (hops and their order), `starts` (where a state's hops begin) and
+// `answering` (what one trial asks).
+use answering::Rest;
+use answering::hop_answers;
+use answering::is_closed;
+use graph::Hop;
 use graph::Label;
-use graph::OldState;
 use graph::hops::from_at;
+use graph::hops::hop_at;
 use graph::hops::hop_of;
+use graph::hops::is_hop_at;
 use graph::hops::label_at;
 use graph::hops::to_at;
+use graph::order::is_before;
 use starts::STARTS;
-use starts::find_row;
 use starts::start_of;
 use starts::wide;
 ghost use mathlib.Core.Path.{_≡_};
 ghost use Prim.Native.Nat.{_<_, _≤_};
 ghost use lib.ListN.{length};
-ghost use Rattle.graph.specs.Hops.{count, label};
+ghost use mathlib.Core.Bool.{true};
+ghost use Rattle.graph.specs.Hops.{count, label, has};
 ghost use Rattle.graph.specs.Answers.{most-states};
-ghost use Rattle.confluence.specs.Rounds.{closing, hopAnswers, answered, closesAt};
+ghost use Rattle.confluence.specs.Rounds.{answered, closesAt};
 ghost use Rattle.confluence.specs.Held.{heldBy};
 ghost use Rattle.starts.specs.Starts.{Table, Ready};
-ghost use Rattle.closes.specs.Walk.{Row, Skipped};
-
-// The hops of a state from place `at` on; `past` is the place past its last.
-pub struct Rest {
-    pub state: OldState,
-    pub at: usize,
-    pub past: usize,
-}
-
-// Whether the silent hop from x to y is marked.
-fn holds(hops: &[u16], starts: &[u16; STARTS], marks: &[u8], x: OldState, y: OldState) -> bool
-    requires ready { ⌜ Ready (now hops) ⌝ }
-    requires table { ⌜ Table (now hops) (now starts) ⌝ }
-    requires room { ⌜ count (now hops) ≤ length (now marks) ⌝ }
-    requires state { ⌜ x .0 < most-states ⌝ }
-    ensures { λ r. ⌜ r ≡ heldBy (now (hops .entry)) (now (marks .entry)) (x .0) (y .0) ⌝ }
-{
-    match find_row(hops, starts, hop_of(x.0, 0, y.0)) {
-        Found::At(p) => marks[p] == 1,
-        Found::Gap(_) => false,
-    }
-}
-
-// Z: s3 is s4, or the silent hop from s3 to s4 is marked.
-fn is_closed(hops: &[u16], starts: &[u16; STARTS], marks: &[u8], s3: OldState, s4: OldState) -> bool
-    requires ready { ⌜ Ready (now hops) ⌝ }
-    requires table { ⌜ Table (now hops) (now starts) ⌝ }
-    requires room { ⌜ count (now hops) ≤ length (now marks) ⌝ }
-    requires state { ⌜ s3 .0 < most-states ⌝ }
-    ensures { λ r. ⌜ r ≡ closing (heldBy (now (hops .entry)) (now (marks .entry))) (s3 .0) (s4 .0) ⌝ }
-{
-    if s3.0 == s4.0 {
-        return true;
-    }
-    holds(hops, starts, marks, s3, s4)
-}
+ghost use Rattle.answering.specs.Row.{Row};
+ghost use Rattle.closes.specs.Walk.{Skipped};
 
 // The first place from `at` on whose label is not below a, or `past`.
 fn skip(hops: &[u16], at: usize, past: usize, a: Label) -> usize
@@ -74,49 +46,58 @@ fn skip(hops: &[u16], at: usize, past: usize, a: Label) -> usize
     k
 }
 
-// Whether a hop labelled a of `rest` leads to an s4 that closes s3.
-fn hop_answers(
-    hops: &[u16],
-    starts: &[u16; STARTS],
-    marks: &[u8],
-    rest: Rest,
-    a: Label,
-    s3: OldState,
-) -> bool
-    requires ready { ⌜ Ready (now hops) ⌝ }
-    requires table { ⌜ Table (now hops) (now starts) ⌝ }
-    requires room { ⌜ count (now hops) ≤ length (now marks) ⌝ }
-    requires row { ⌜ Row (now hops) (rest .state .0) (a .0) (rest .at) (rest .past) ⌝ }
-    requires state { ⌜ s3 .0 < most-states ⌝ }
-    ensures { λ r. ⌜ r ≡ hopAnswers (now (hops .entry)) (closing (heldBy (now (hops .entry)) (now (marks .entry)))) (rest .state .0) (a .0) (s3 .0) ⌝ }
+// The first place from `at` on whose hop is not before h, or `past`. The walk below asks it where a hop of s2 like the one that is tried would stand:
+// whether it does is then asked of the list, so that no answer rests on this place.
+fn ahead(hops: &[u16], h: Hop, at: usize, past: usize) -> usize
+    requires { ⌜ past ≤ count (now hops) ⌝ }
 {
-    let past = rest.past;
-    let mut k = rest.at;
+    let mut k = at;
     while k < past {
-        if label_at(hops, k).0 != a.0 {
-            return false;
-        }
-        if is_closed(hops, starts, marks, s3, to_at(hops, k)) {
-            return true;
+        if !is_before(hop_at(hops, k), h) {
+            return k;
         }
         k += 1;
+    }
+    k
+}
+
+// Whether h stands at a place before `past`; then the graph has it.
+fn stands_at(hops: &[u16], h: Hop, k: usize, past: usize) -> bool
+    requires { ⌜ past ≤ count (now hops) ⌝ }
+    ensures { λ r. ⌜ (r ≡ true → has (now (hops .entry)) (h .from) (h .label) (h .to) ≡ true) ⌝ }
+{
+    if k < past {
+        return is_hop_at(hops, k, h);
     }
     false
 }
 
-// Y: whether the hop at place j is answered from the state of `rest`, whose hops of its label or above begin there.
-fn is_answered(hops: &[u16], starts: &[u16; STARTS], marks: &[u8], rest: Rest, j: usize) -> bool
+// Y: whether the hop at place j is answered from the state of `rest`, whose hops of its label or above begin there. `same` is where a hop of that state
+// with the label and the end of j would stand: if it does, s4 is s3 itself, and no more is asked.
+fn is_answered(
+    hops: &[u16],
+    starts: &[u16; STARTS],
+    marks: &[u8],
+    rest: Rest,
+    same: usize,
+    j: usize,
+) -> bool
     requires ready { ⌜ Ready (now hops) ⌝ }
     requires table { ⌜ Table (now hops) (now starts) ⌝ }
     requires room { ⌜ count (now hops) ≤ length (now marks) ⌝ }
     requires place { ⌜ j < count (now hops) ⌝ }
     requires row { ⌜ Row (now hops) (rest .state .0) (label (now hops) j) (rest .at) (rest .past) ⌝ }
+    requires asked { ⌜ rest .state .0 < most-states ⌝ }
     ensures { λ r. ⌜ r ≡ answered (now (hops .entry)) (heldBy (now (hops .entry)) (now (marks .entry))) (rest .state .0) j ⌝ }
 {
     let a = label_at(hops, j);
     let s3 = to_at(hops, j);
+    let s2 = rest.state;
+    let past = rest.past;
+    if stands_at(hops, hop_of(s2.0, a.0, s3.0), same, past) {
+        return true;
+    }
     if a.0 == 0 {
-        let s2 = rest.state;
         if is_closed(hops, starts, marks, s3, s2) {
             return true;
         }
@@ -138,9 +119,12 @@ pub fn closes_at(hops: &[u16], starts: &[u16; STARTS], marks: &[u8], i: usize) -
     let end = start_of(starts, s1 + 1);
     let past = start_of(starts, t2 + 1);
     let mut at = start_of(starts, t2);
+    let mut same = at;
     let mut j = start_of(starts, s1);
     while j < end {
-        at = skip(hops, at, past, label_at(hops, j));
+        let a = label_at(hops, j);
+        at = skip(hops, at, past, a);
+        same = ahead(hops, hop_of(s2.0, a.0, to_at(hops, j).0), same, past);
         if !is_answered(
             hops,
             starts,
@@ -150,6 +134,7 @@ pub fn closes_at(hops: &[u16], starts: &[u16; STARTS], marks: &[u8], i: usize) -
                 at,
                 past,
             },
+            same,
             j,
         ) {
             return false;

@@ -16,11 +16,11 @@ use Rattle.closes.proofs.closes_at.Statement.{statement}
 use Rattle.closes.proofs.closes_at.Tie as tie
 
 abbrev Inv-loop : tie.InvT-loop
-Inv-loop hops starts marks i s1 s2 t2 end past at₀ j₀ at j =
+Inv-loop hops starts marks i s1 s2 t2 end past at₀ same₀ j₀ at same j =
     Walk hops (from hops i) (to hops i) end past at j × ((k : ℕ) → k < j → tried hops (answers hops (closing (heldBy hops marks))) (from hops i) (to hops i) k ≡ true)
 
 abbrev μ-loop : tie.MeasureT-loop
-μ-loop hops starts marks i s1 s2 t2 end past at₀ j₀ at j = end - j
+μ-loop hops starts marks i s1 s2 t2 end past at₀ same₀ j₀ at same j = end - j
 
 from-at-requires : tie.Need-from-at-requires Inv-loop μ-loop
 from-at-requires c κs = search needs
@@ -84,6 +84,15 @@ label-at-requires c κs = walk-in _ (c .before .before .before .before .before .
 skip-requires : tie.Need-skip-requires Inv-loop μ-loop
 skip-requires c κs = (c .before .before .loop .inv .0 .at-in, walk-past _ (c .before .before .before .before .before .before .before .before .before .before .before .before .before .pre .0 .ascending) _ _ _ _ (c .before .before .loop .inv .0) (c .before .loop-test .taken))
 
+to-at-requires-2 : tie.Need-to-at-requires-2 Inv-loop μ-loop
+to-at-requires-2 c κs = walk-in _ (c .before .before .before .before .before .before .before .before .before .before .before .before .before .before .pre .0 .ascending) _ _ _ _ (c .before .before .before .loop .inv .0) (c .before .before .loop-test .taken)
+
+hop-of-requires : tie.Need-hop-of-requires Inv-loop μ-loop
+hop-of-requires c κs = search needs
+
+ahead-requires : tie.Need-ahead-requires Inv-loop μ-loop
+ahead-requires c κs = walk-past _ (c .before .before .before .before .before .before .before .before .before .before .before .before .before .before .before .before .pre .0 .ascending) _ _ _ _ (c .before .before .before .before .before .loop .inv .0) (c .before .before .before .before .loop-test .taken)
+
 -- what `skip` did, in the words of the hop at place j
 skipped : (c : tie.After-skip Inv-loop μ-loop) →
     Skipped (c .before .before .before .before .before .before .before .before .before .before .before .before .before .before .args .hops .now) (c .before .before .before .loop .at) (c .before .before .before .before .before .before .start-of2 .result)
@@ -92,23 +101,29 @@ skipped c = rw (c .before .label-at .ensures) at (c .skip .ensures)
 
 is-answered-requires : tie.Need-is-answered-requires Inv-loop μ-loop
 is-answered-requires c κs =
-    let st = c .before .before .before .before .before .before .before .before .before .before .before .before .before .before in
-    let w = c .before .before .before .loop .inv .0 in
-    let l = c .before .before .loop-test .taken in
-    let row = walk-row _ (st .pre .0 .ascending) _ _ _ _ w l (skipped c) in
-    (st .pre .0, (st .pre .1 .0, (st .pre .1 .1 .0, (walk-in _ (st .pre .0 .ascending) _ _ _ _ w l, rw (c .before .before .before .before .before .before .before .before .before .to-at .ensures) row))))
+    let st = c .before .before .before .before .before .before .before .before .before .before .before .before .before .before .before .before .before in
+    let w = c .before .before .before .before .before .before .loop .inv .0 in
+    let l = c .before .before .before .before .before .loop-test .taken in
+    let row = walk-row _ (st .pre .0 .ascending) _ _ _ _ w l (skipped (c .before .before .before)) in
+    let t = c .before .before .before .before .before .before .before .before .before .before .before .before .to-at .ensures in (
+      st .pre .0,
+      (
+        st .pre .1 .0,
+        (st .pre .1 .1 .0, (walk-in _ (st .pre .0 .ascending) _ _ _ _ w l, (rw t row, rw t (st .pre .0 .to-in (st .args .i) (st .pre .1 .1 .1))))),
+      ),
+    )
 
 returns : tie.Need-returns Inv-loop μ-loop
 returns c =
-    tried-fails _ (c .before .before .before .before .before .before .before .before .before .before .before .before .before .before .before .before .pre .0 .ascending) _ _ _ _ _ (c .before .before .before .before .before .loop .inv .0) (c .before .before .before .before .loop-test .taken)
-    (c .before .before .before .before .before .before .before .before .before .before .before .to-at .ensures) (c .before .is-answered .ensures) (c .if1 .taken)
+    tried-fails _ (c .before .before .before .before .before .before .before .before .before .before .before .before .before .before .before .before .before .before .before .pre .0 .ascending) _ _ _ _ _ (c .before .before .before .before .before .before .before .before .loop .inv .0) (c .before .before .before .before .before .before .before .loop-test .taken)
+    (c .before .before .before .before .before .before .before .before .before .before .before .before .before .before .to-at .ensures) (c .before .is-answered .ensures) (c .if1 .taken)
 
 add-j : tie.Need-add-j Inv-loop μ-loop
 add-j c =
     omega (
       arith,
-      walk-in _ (c .before .before .before .before .before .before .before .before .before .before .before .before .before .before .before .before .pre .0 .ascending) _ _ _ _
-          (c .before .before .before .before .before .loop .inv .0) (c .before .before .before .before .loop-test .taken),
+      walk-in _ (c .before .before .before .before .before .before .before .before .before .before .before .before .before .before .before .before .before .before .before .pre .0 .ascending) _ _ _ _
+          (c .before .before .before .before .before .before .before .before .loop .inv .0) (c .before .before .before .before .before .before .before .loop-test .taken),
     )
 
 loop-less : tie.Need-loop-less Inv-loop μ-loop
@@ -116,11 +131,11 @@ loop-less c = omega arith
 
 loop-again : tie.Need-loop-again Inv-loop μ-loop
 loop-again c =
-    let up = c .before .before .before .before .before .before .before .before .before .before .before .before .before .before .before .before .pre .0 .ascending in
-    let (w, f) = c .before .before .before .before .before .loop .inv in
-    let l = c .before .before .before .before .loop-test .taken in (
-      walk-next _ up _ _ _ _ w l (skipped (c .before .before)),
-      tried-next _ up _ _ _ _ _ w l (c .before .before .before .before .before .before .before .before .before .before .before .to-at .ensures) (c .before .is-answered .ensures) (c .if1 .left) f,
+    let up = c .before .before .before .before .before .before .before .before .before .before .before .before .before .before .before .before .before .before .before .pre .0 .ascending in
+    let (w, f) = c .before .before .before .before .before .before .before .before .loop .inv in
+    let l = c .before .before .before .before .before .before .before .loop-test .taken in (
+      walk-next _ up _ _ _ _ w l (skipped (c .before .before .before .before .before)),
+      tried-next _ up _ _ _ _ _ w l (c .before .before .before .before .before .before .before .before .before .before .before .before .before .before .to-at .ensures) (c .before .is-answered .ensures) (c .if1 .left) f,
     )
 
 returns-2 : tie.Need-returns-2 Inv-loop μ-loop
@@ -147,6 +162,9 @@ closes-at-spec =
     loop-holds
     label-at-requires
     skip-requires
+    to-at-requires-2
+    hop-of-requires
+    ahead-requires
     is-answered-requires
     returns
     add-j

@@ -1,9 +1,9 @@
--- `closes::is_closed` meets its contract. Assumes nothing.
+-- `answering::is_closed` meets its contract. Assumes nothing.
 use borrow.Author.Needs.{needs}
 use mathlib.Core.Path.{sym, _∙_}
 use Rattle.confluence.proofs.Closing.{closing-same, closing-other}
-use Rattle.closes.proofs.is_closed.Statement.{statement}
-use Rattle.closes.proofs.is_closed.Tie as tie
+use Rattle.answering.proofs.is_closed.Statement.{statement}
+use Rattle.answering.proofs.is_closed.Tie as tie
 
 returns : tie.Need-returns
 returns c = sym (closing-same _ _ _ (c .if1 .taken))

@@ -1,10 +1,10 @@
--- `closes::holds` meets its contract: the search finds the one place where the hop can stand. Assumes nothing.
+-- `answering::holds` meets its contract: the search finds the one place where the hop can stand. Assumes nothing.
 use borrow.Author.Needs.{needs}
 use native.Mathlib.Omega.{arith}
 use Rattle.confluence.specs.Held.{isMarked}
 use Rattle.confluence.proofs.Held.{held-found, held-missing}
-use Rattle.closes.proofs.holds.Statement.{statement}
-use Rattle.closes.proofs.holds.Tie as tie
+use Rattle.answering.proofs.holds.Statement.{statement}
+use Rattle.answering.proofs.holds.Tie as tie
 
 hop-of-requires : tie.Need-hop-of-requires
 hop-of-requires c κs = search needs

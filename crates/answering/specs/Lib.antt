@@ -1,0 +1,1 @@
+pub mod Row  -- a state's hops from a label on

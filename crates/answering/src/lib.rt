@@ -1,0 +1,193 @@
+// Whether a hop labelled a to s3 is answered by a hop of s2, with the set that a list of marks is: what one trial of document 01's condition asks. Two ways
+// lead to it, over s2's hops of that label and over s3's silent hops, and the shorter one is taken. `closes` asks it of each hop that is tried.
+// It stands on `confluence` (what closing is, and the set that marks are), `graph` (hops and the search) and `starts` (where a state's hops begin).
+use graph::Found;
+use graph::Label;
+use graph::OldState;
+use graph::hops::hop_of;
+use graph::hops::label_at;
+use graph::hops::to_at;
+use starts::STARTS;
+use starts::find_row;
+use starts::start_of;
+use starts::wide;
+ghost use mathlib.Core.Path.{_≡_};
+ghost use Prim.Native.Nat.{_<_, _≤_};
+ghost use lib.ListN.{length};
+ghost use Rattle.graph.specs.Hops.{count, has};
+ghost use Rattle.graph.specs.Answers.{most-states};
+ghost use Rattle.confluence.specs.Rounds.{closing, hopAnswers};
+ghost use Rattle.confluence.specs.Held.{heldBy};
+ghost use Rattle.starts.specs.Starts.{Table, Ready};
+ghost use Rattle.answering.specs.Row.{Row};
+
+// The hops of a state from place `at` on; `past` is the place past its last.
+pub struct Rest {
+    pub state: OldState,
+    pub at: usize,
+    pub past: usize,
+}
+
+// Whether the silent hop from x to y is marked.
+fn holds(hops: &[u16], starts: &[u16; STARTS], marks: &[u8], x: OldState, y: OldState) -> bool
+    requires ready { ⌜ Ready (now hops) ⌝ }
+    requires table { ⌜ Table (now hops) (now starts) ⌝ }
+    requires room { ⌜ count (now hops) ≤ length (now marks) ⌝ }
+    requires state { ⌜ x .0 < most-states ⌝ }
+    ensures { λ r. ⌜ r ≡ heldBy (now (hops .entry)) (now (marks .entry)) (x .0) (y .0) ⌝ }
+{
+    match find_row(hops, starts, hop_of(x.0, 0, y.0)) {
+        Found::At(p) => marks[p] == 1,
+        Found::Gap(_) => false,
+    }
+}
+
+// Z: s3 is s4, or the silent hop from s3 to s4 is marked.
+pub fn is_closed(
+    hops: &[u16],
+    starts: &[u16; STARTS],
+    marks: &[u8],
+    s3: OldState,
+    s4: OldState,
+) -> bool
+    requires ready { ⌜ Ready (now hops) ⌝ }
+    requires table { ⌜ Table (now hops) (now starts) ⌝ }
+    requires room { ⌜ count (now hops) ≤ length (now marks) ⌝ }
+    requires state { ⌜ s3 .0 < most-states ⌝ }
+    ensures { λ r. ⌜ r ≡ closing (heldBy (now (hops .entry)) (now (marks .entry))) (s3 .0) (s4 .0) ⌝ }
+{
+    if s3.0 == s4.0 {
+        return true;
+    }
+    holds(hops, starts, marks, s3, s4)
+}
+
+// Whether s3's silent hops, which begin at `at`, are fewer than the hops labelled a that `rest` begins with: the two are counted side by side. Either
+// way of asking gives the same answer; this one chooses the shorter.
+fn is_fewer(hops: &[u16], at: usize, past: usize, rest: Rest, a: Label) -> bool
+    requires silent { ⌜ past ≤ count (now hops) ⌝ }
+    requires row { ⌜ rest .past ≤ count (now hops) ⌝ }
+{
+    let mut m = at;
+    let end = rest.past;
+    let mut k = rest.at;
+    while k < end {
+        if label_at(hops, k).0 != a.0 {
+            return false;
+        }
+        if m >= past {
+            return true;
+        }
+        if label_at(hops, m).0 != 0 {
+            return true;
+        }
+        m += 1;
+        k += 1;
+    }
+    false
+}
+
+// Whether a hop labelled a of `rest` leads to an s4 that closes s3, each of these hops asked.
+fn row_answers(
+    hops: &[u16],
+    starts: &[u16; STARTS],
+    marks: &[u8],
+    rest: Rest,
+    a: Label,
+    s3: OldState,
+) -> bool
+    requires ready { ⌜ Ready (now hops) ⌝ }
+    requires table { ⌜ Table (now hops) (now starts) ⌝ }
+    requires room { ⌜ count (now hops) ≤ length (now marks) ⌝ }
+    requires row { ⌜ Row (now hops) (rest .state .0) (a .0) (rest .at) (rest .past) ⌝ }
+    requires state { ⌜ s3 .0 < most-states ⌝ }
+    ensures { λ r. ⌜ r ≡ hopAnswers (now (hops .entry)) (closing (heldBy (now (hops .entry)) (now (marks .entry)))) (rest .state .0) (a .0) (s3 .0) ⌝ }
+{
+    let past = rest.past;
+    let mut k = rest.at;
+    while k < past {
+        if label_at(hops, k).0 != a.0 {
+            return false;
+        }
+        if is_closed(hops, starts, marks, s3, to_at(hops, k)) {
+            return true;
+        }
+        k += 1;
+    }
+    false
+}
+
+// Whether s2 has a hop labelled a to s4.
+fn leads_to(hops: &[u16], starts: &[u16; STARTS], s2: OldState, a: Label, s4: OldState) -> bool
+    requires ready { ⌜ Ready (now hops) ⌝ }
+    requires table { ⌜ Table (now hops) (now starts) ⌝ }
+    requires state { ⌜ s2 .0 < most-states ⌝ }
+    ensures { λ r. ⌜ r ≡ has (now (hops .entry)) (s2 .0) (a .0) (s4 .0) ⌝ }
+{
+    match find_row(hops, starts, hop_of(s2.0, a.0, s4.0)) {
+        Found::At(_) => true,
+        Found::Gap(_) => false,
+    }
+}
+
+// Whether a hop labelled a of s2 leads to an s4 that closes s3, s3 itself and the end of each of its marked hops asked.
+fn ends_answer(
+    hops: &[u16],
+    starts: &[u16; STARTS],
+    marks: &[u8],
+    s2: OldState,
+    a: Label,
+    s3: OldState,
+) -> bool
+    requires ready { ⌜ Ready (now hops) ⌝ }
+    requires table { ⌜ Table (now hops) (now starts) ⌝ }
+    requires room { ⌜ count (now hops) ≤ length (now marks) ⌝ }
+    requires asked { ⌜ s2 .0 < most-states ⌝ }
+    requires state { ⌜ s3 .0 < most-states ⌝ }
+    ensures { λ r. ⌜ r ≡ hopAnswers (now (hops .entry)) (closing (heldBy (now (hops .entry)) (now (marks .entry)))) (s2 .0) (a .0) (s3 .0) ⌝ }
+{
+    if leads_to(hops, starts, s2, a, s3) {
+        return true;
+    }
+    let t3 = wide(s3.0);
+    let past = start_of(starts, t3 + 1);
+    let mut i = start_of(starts, t3);
+    while i < past {
+        if label_at(hops, i).0 != 0 {
+            return false;
+        }
+        if marks[i] == 1 {
+            if leads_to(hops, starts, s2, a, to_at(hops, i)) {
+                return true;
+            }
+        }
+        i += 1;
+    }
+    false
+}
+
+// Whether a hop labelled a of `rest` leads to an s4 that closes s3: the shorter of s2's hops labelled a and s3's silent hops is gone over.
+pub fn hop_answers(
+    hops: &[u16],
+    starts: &[u16; STARTS],
+    marks: &[u8],
+    rest: Rest,
+    a: Label,
+    s3: OldState,
+) -> bool
+    requires ready { ⌜ Ready (now hops) ⌝ }
+    requires table { ⌜ Table (now hops) (now starts) ⌝ }
+    requires room { ⌜ count (now hops) ≤ length (now marks) ⌝ }
+    requires row { ⌜ Row (now hops) (rest .state .0) (a .0) (rest .at) (rest .past) ⌝ }
+    requires asked { ⌜ rest .state .0 < most-states ⌝ }
+    requires state { ⌜ s3 .0 < most-states ⌝ }
+    ensures { λ r. ⌜ r ≡ hopAnswers (now (hops .entry)) (closing (heldBy (now (hops .entry)) (now (marks .entry)))) (rest .state .0) (a .0) (s3 .0) ⌝ }
+{
+    let t3 = wide(s3.0);
+    let at = start_of(starts, t3);
+    let past = start_of(starts, t3 + 1);
+    if is_fewer(hops, at, past, rest, a) {
+        return ends_answer(hops, starts, marks, rest.state, a, s3);
+    }
+    row_answers(hops, starts, marks, rest, a, s3)
+}
