@@ -25,6 +25,10 @@ end-answers hs u s2 a s3 s4 e z =
     let p = has-place hs s2 a s4 e in
     hop-answers hs u s2 a s3 (p .within) (labelled-yes hs s2 a (p .at) (p .from-is) (p .label-is)) (rw (p .to-is) (closing-yes u s3 s4 z))
 
+-- what the code found out, v, of a hop of s2 to s4, which is t
+pub leads-is : (hs : List ℕ) (s2 a : ℕ) {s4 t : ℕ} {v b : Bool} → s4 ≡ t → v ≡ has hs s2 a s4 → v ≡ b → has hs s2 a t ≡ b
+leads-is hs s2 a q e d = rw q at (sym e ∙ d)
+
 -- A walk over the silent hops of s3 has come to place k: s2 leads neither to s3 nor to the end of a marked hop that was passed.
 pub record Passed (hs ms : List ℕ) (s2 a s3 past k : ℕ) : Type 0 where
   pub after : firstOf hs s3 ≤ k

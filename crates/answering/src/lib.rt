@@ -1,5 +1,5 @@
 // Whether a hop labelled a to s3 is answered by a hop of s2, with the set that a list of marks is: what one trial of document 01's condition asks. Two ways
-// lead to it, over s2's hops of that label and over s3's silent hops, and the shorter one is gone. `closes` asks it of each hop that is tried.
+// lead to it, over s2's hops of that label and over s3's silent hops, and the shorter one is taken. `closes` asks it of each hop that is tried.
 // It stands on `confluence` (what closing is, and the set that marks are), `graph` (hops and the search) and `starts` (where a state's hops begin).
 use graph::Found;
 use graph::Label;

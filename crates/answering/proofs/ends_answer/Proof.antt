@@ -8,7 +8,7 @@ use borrow.Author.Tests.{eq-eqb, ne-eqb}
 use Rattle.confluence.specs.Held.{isMarked}
 use Rattle.below.proofs.Bools.{clash}
 use Rattle.starts.proofs.Firsts.{start-is}
-use Rattle.answering.proofs.Ends.{Passed, itself-answers, passed-start, passed-in, marked-answers, passed-next, passed-ends}
+use Rattle.answering.proofs.Ends.{leads-is, Passed, itself-answers, passed-start, passed-in, marked-answers, passed-next, passed-ends}
 use Rattle.answering.proofs.ends_answer.Statement.{statement}
 use Rattle.answering.proofs.ends_answer.Tie as tie
 
@@ -95,7 +95,7 @@ loop-again c =
     let lp = c .before .before .before .before .before .before in
     let st = lp .before .before .before .before .before .before .before .before in
     passed-next _ _ _ _ _ (st .pre .0 .ascending) (lp .loop .inv)
-    (⊎-elim (λ w e. rw (w .1 .ensures) at (sym (w .2 .ensures) ∙ w .3 .left)) (λ w e. clash e (ne-eqb _ _ (w .left))) (c .if3 .came))
+    (⊎-elim (λ w e. leads-is _ _ _ (w .1 .ensures) (w .2 .ensures) (w .3 .left)) (λ w e. clash e (ne-eqb _ _ (w .left))) (c .if3 .came))
 
 returns-4 : tie.Need-returns-4 Inv-loop μ-loop
 returns-4 c =
