@@ -135,15 +135,31 @@ module _ (hs : List ℕ) where
               (survives-yes k (from hs i) (to hs i) (survives-silent hs k (from hs i) (to hs i) (standing-survives k i h)) c)
 
   -- what fell stood at a place, and was due there
-  fell-place : (k s t : ℕ) → fell hs k s t ≡ true →
-      (i : ℕ) × (i < count hs) × (standing hs k i ≡ true) × (standing hs (suc k) i ≡ false) × (due hs k i ≡ true)
+  pub record FellAt (k s t : ℕ) : Type 0 where
+    pub at : ℕ
+    pub within : at < count hs
+    pub from-is : from hs at ≡ s
+    pub to-is : to hs at ≡ t
+    pub stood : standing hs k at ≡ true
+    pub falls : standing hs (suc k) at ≡ false
+    pub tested : due hs k at ≡ true
+
+  pub fell-place : (k s t : ℕ) → fell hs k s t ≡ true → FellAt k s t
   fell-place k s t e =
       let (a, b) = fell-says k s t e in
       let p = has-place hs s 0 t (survives-silent hs k s t a) in
       let on : standing hs k (p .at) ≡ true = standing-yes k (p .at) (p .label-is) (rw (p .from-is, p .to-is) a) in
       let off : standing hs (suc k) (p .at) ≡ false = no-test (standing hs (suc k) (p .at))
       (λ h. clash (rw (p .from-is, p .to-is) at (standing-survives (suc k) (p .at) h)) b) in
-      (p .at, p .within, on, off, ⊎-elim (λ d. d) (λ d. clash (not-due-stands k (p .at) on d) off) (decided (due hs k (p .at))))
+      record {
+        at = p .at;
+        within = p .within;
+        from-is = p .from-is;
+        to-is = p .to-is;
+        stood = on;
+        falls = off;
+        tested = ⊎-elim (λ d. d) (λ d. clash (not-due-stands k (p .at) on d) off) (decided (due hs k (p .at)));
+      }
 
   -- a round without a due hop
   abbrev pub Idle : ℕ → Type 0
@@ -151,19 +167,23 @@ module _ (hs : List ℕ) where
 
   -- (c) takes nothing,
   idle-none-falls : (k : ℕ) → Idle k → (s t : ℕ) → fell hs k s t ≡ false
-  idle-none-falls k n s t = no-test (fell hs k s t) (λ e. let (i, l, p, q, d) = fell-place k s t e in clash d (n i l))
+  idle-none-falls k n s t = no-test (fell hs k s t) (λ e. let p = fell-place k s t e in clash (p .tested) (n (p .at) (p .within)))
 
   idle-still : (k : ℕ) → Idle k → (s t : ℕ) → survives hs (suc k) s t ≡ survives hs k s t
   idle-still k n s t =
       same-test (survives hs (suc k) s t) (survives hs k s t) (survives-falls k s t)
       (λ e. ⊎-elim (λ h. h) (λ h. clash (fell-yes k s t e h) (idle-none-falls k n s t)) (decided (survives hs (suc k) s t)))
 
-  -- and is followed by such rounds only
-  idle-next : (k : ℕ) → Idle k → Idle (suc k)
+  -- and after a round in which nothing falls no hop is due
+  pub none-idle : (k : ℕ) → ((s t : ℕ) → fell hs k s t ≡ false) → Idle (suc k)
   unfolding due
-  idle-next k n i l =
+  none-idle k f i l =
       and-no-right (standing hs (suc k) i) (no-test (shaken hs (fell hs k) (from hs i) (to hs i))
-      (λ h. let (a, s3, x, (s4, y, e)) = shaken-says (fell hs k) (from hs i) (to hs i) h in clash e (idle-none-falls k n s3 s4)))
+      (λ h. let (a, s3, x, (s4, y, e)) = shaken-says (fell hs k) (from hs i) (to hs i) h in clash e (f s3 s4)))
+
+  -- so only such rounds follow
+  idle-next : (k : ℕ) → Idle k → Idle (suc k)
+  idle-next k n = none-idle k (idle-none-falls k n)
 
   pub idle-after : (k : ℕ) → Idle k → (m : ℕ) → Idle (m + k)
   idle-after k n zero = rw zero-left n where
@@ -193,8 +213,8 @@ module _ (hs : List ℕ) where
   spent zero i l e = omega (arith, tally-within (standing hs 0) (count hs))
   spent (suc k) i l e =
       let (a, s3, x, (s4, y, f)) = shaken-says (fell hs k) (from hs i) (to hs i) (and-right (standing hs (suc k) i) (shaken hs (fell hs k) (from hs i) (to hs i)) e) in
-      let (j, m, p, q, d) = fell-place k s3 s4 f in
-      omega (arith, spent k j m d, tally-less (standing hs (suc k)) (standing hs k) (count hs) (λ z w. standing-falls k z) m q p)
+      let p = fell-place k s3 s4 f in
+      omega (arith, spent k (p .at) (p .within) (p .tested), tally-less (standing hs (suc k)) (standing hs k) (count hs) (λ z w. standing-falls k z) (p .within) (p .falls) (p .stood))
 
   pub due-early : (k i : ℕ) → i < count hs → due hs k i ≡ true → k < count hs
   due-early k i l e =

@@ -1,1 +1,2 @@
-pub mod Falling  -- the parts of a round, and that together they make a round; the end of the rounds
+pub mod Parts  -- the parts of a round: listing, testing, taking, and what they leave of the marks
+pub mod Rounds  -- from one round to the next, the first round, and the end

@@ -29,7 +29,7 @@ use Rattle.retests.proofs.Queueing.{flag-yes, flag-no, flag-says, flag-there, q
 use Rattle.falling.specs.Falling.{Lists, Tested, Taken, Falls, After}
 
 -- a list of places that grows by one
-module _ (xs : List ℕ) (n : ℕ) {v : ℕ} where
+module _ (xs : List ℕ) (n v : ℕ) where
   pub among-more : (i : ℕ) → n < length xs → Among xs n i → Among (set xs n v) (n + 1) i
   among-more i l (k, m, e) = (k, omega arith, getD-set-other xs n k v 0 (λ q. absurd (omega arith)) ∙ e)
 
@@ -68,7 +68,7 @@ module _ (c : ℕ) (p : ℕ → Bool) where
 
       all : (j : ℕ) → j < i + 1 → p j ≡ true → Among (set qs n i) (n + 1) j
       all j m q =
-          ⊎-elim (λ h. among-more qs n j l (s .all j h q)) (λ h. let d : j ≡ i = omega arith in rw d (among-last qs n l)) (lt-or-le j i)
+          ⊎-elim (λ h. among-more qs n i j l (s .all j h q)) (λ h. let d : j ≡ i = omega arith in rw d (among-last qs n i l)) (lt-or-le j i)
 
     pub lists-skip : p i ≡ false → ListsUpTo (i + 1) qs n
     lists-skip e = record {
@@ -125,7 +125,7 @@ module _ (hs ms qs old : List ℕ) where
       room = simp length-set (t .room);
       flags = simp length-set (t .flags);
       each = each;
-      all = λ j a n. ⊎-elim (λ b. among-more fl r j fits (t .all j b n)) (λ b. rw b (among-last fl r fits)) (among-next qs k j q a);
+      all = λ j a n. ⊎-elim (λ b. among-more fl r i j fits (t .all j b n)) (λ b. rw b (among-last fl r i fits)) (among-next qs k j q a);
       taken = cleared;
       kept = kept-on;
     } where
@@ -162,11 +162,11 @@ module _ (ms fl : List ℕ) where
 module _ (hs : List ℕ) where
   -- the mark of a hop, where the marks are those of the hops that survive k rounds
   module _ (k : ℕ) (ms out : List ℕ) (e : ms ≡ onFront (marksOf hs (survives hs k)) out) where
-    mark-is : {i : ℕ} → i < count hs → getD ms i 0 ≡ cond (standing hs k i) 1 0
+    pub mark-is : {i : ℕ} → i < count hs → getD ms i 0 ≡ cond (standing hs k i) 1 0
     unfolding markOf standing
     mark-is l = marks-at hs (survives hs k) ms out e l
 
-    mark-test : {i : ℕ} → i < count hs → isMarked ms i ≡ standing hs k i
+    pub mark-test : {i : ℕ} → i < count hs → isMarked ms i ≡ standing hs k i
     mark-test {i} l = go (standing hs k i) (mark-is l) where
       go : (b : Bool) → getD ms i 0 ≡ cond b 1 0 → isMarked ms i ≡ b
       go true d = flag-yes ms i d

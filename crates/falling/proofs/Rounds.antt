@@ -1,0 +1,214 @@
+-- From one round to the next: what is noted from the hops that fell is what is due, and its tests, with the marks taken, make the next round. The first round,
+-- and the end: where nothing falls the marks are those of the marked set and all tests are made. Assumes nothing.
+use Prim.Native.Nat.{ℕ, zero, suc, _+_, _*_, _<_, _≤_}
+use mathlib.Core.Path.{_≡_, refl, sym, ap, _∙_}
+use mathlib.Core.Bool.{Bool, true, false, cond, _&&_}
+use mathlib.Core.List.{List}
+use mathlib.Core.Logic.{_⊎_, inl, inr, ⊎-elim}
+use native.Mathlib.Nat.{not-suc-le-zero}
+use native.Mathlib.Numerals.{add-one}
+use native.Mathlib.Omega.{arith}
+use lib.ListN.{length, getD}
+use lib.Dec.{eqb, ltb}
+use borrow.Author.Tests.{eq-eqb, ne-eqb, lt-ltb, le-ltb}
+use Rattle.below.specs.Tests.{tally, total}
+use Rattle.below.proofs.Bools.{clash, decided, eq-or-not, lt-or-le, and-yes, and-left, and-right, same-test, no-test}
+use Rattle.below.proofs.Tests.{tally-same, tally-mono, tally-within, tally-less, total-none, total-more, total-most}
+use Rattle.outputs.specs.Output.{onFront}
+use Rattle.graph.specs.Hops.{count, from, label, to, has}
+use Rattle.graph.specs.Answers.{most-hops}
+use Rattle.graph.proofs.Places.{has-at}
+use Rattle.shrinking.specs.Pairs.{Pairs, In}
+use Rattle.confluence.specs.Rounds.{survives, marked}
+use Rattle.confluence.specs.Held.{isMarked, markOf, marksOf, everyPair}
+use Rattle.confluence.proofs.Rounds.{survives-none}
+use Rattle.confluence.proofs.Marks.{mark-one, mark-visible, marks-at, marks-room, marks-beyond, marks-made}
+use Rattle.due.specs.Due.{fell, standing, shaken, due, testsIn, testsUpTo, testsOf}
+use Rattle.due.proofs.Due.{Shaken, fell-yes, fell-place, standing-yes, standing-silent, standing-survives, standing-falls, shaken-yes, shaken-says, not-due-stands, Idle, none-idle, idle-marked, due-early, tests-end}
+use Rattle.retests.specs.Queue.{Among, Leaving, Queue, Wanted, Noted, ClosedBy, ClosedByAny, Listed, Unset}
+use Rattle.retests.proofs.Queueing.{queue-none}
+use Rattle.falling.specs.Falling.{Lists, Tested, Taken, Falls, After}
+use Rattle.falling.proofs.Parts.{mark-test, falls-all, marks-next, taken-none}
+
+module _ (hs : List ℕ) where
+  -- what fell is the set of the hops whose places are listed
+  module _ (k : ℕ) {fl : List ℕ} {n : ℕ} (f : Falls hs k fl n) where
+    fell-listed : (p : ℕ) → Among fl n p → fell hs k (from hs p) (to hs p) ≡ true
+    fell-listed p (q, m, e) =
+        let (l, a, b) = f .each q m in
+        let on : standing hs k p ≡ true = rw e at a in
+        let off : standing hs (suc k) p ≡ false = rw e at b in
+        fell-yes hs k (from hs p) (to hs p) (standing-survives hs k p on)
+        (no-test (survives hs (suc k) (from hs p) (to hs p)) (λ h. clash (standing-yes hs (suc k) p (standing-silent hs k p on) h) off))
+
+    closed-shaken : (i : ℕ) → ClosedByAny hs fl n i → shaken hs (fell hs k) (from hs i) (to hs i) ≡ true
+    closed-shaken i (p, m, (a, h, x)) = shaken-yes hs (fell hs k) (from hs i) (to hs i) (a, from hs p, h, (to hs p, x, fell-listed p m))
+
+    shaken-closed : (i : ℕ) → shaken hs (fell hs k) (from hs i) (to hs i) ≡ true → ClosedByAny hs fl n i
+    shaken-closed i e =
+        let (a, s3, h, (s4, x, d)) = shaken-says hs (fell hs k) (from hs i) (to hs i) e in
+        let p = fell-place hs k s3 s4 d in
+        (p .at, f .all (p .at) (p .within) (p .stood) (p .falls), (a, rw (p .from-is) h, rw (p .to-is) x))
+
+    -- where none is listed nothing fell
+    none-fell : n ≡ 0 → (s t : ℕ) → fell hs k s t ≡ false
+    none-fell z s t = no-test (fell hs k s t) (λ e. let p = fell-place hs k s t e in nothing (f .all (p .at) (p .within) (p .stood) (p .falls))) where
+      nothing : {i : ℕ} → Among fl n i → ⊥
+      nothing (q, m, e) = omega arith
+
+    -- a round in which a hop falls has one that is due, so there are no more such rounds than hops
+    pub falls-early : 0 < n → k < count hs
+    falls-early l =
+        let (w, a, b) = f .each 0 l in
+        due-early hs k (getD fl 0 0) w (⊎-elim (λ d. d) (λ d. clash (not-due-stands hs k (getD fl 0 0) a d) b) (decided (due hs k (getD fl 0 0))))
+
+  -- "The tests fit": at most 4,096 a round
+  pub tests-most : (k : ℕ) → count hs ≤ most-hops → testsUpTo hs k ≤ k * most-hops
+  unfolding testsUpTo testsIn
+  tests-most k l = total-most (testsIn hs) most-hops k (λ j m. omega (arith, tally-within (due hs j) (count hs)))
+
+  tests-next : (k : ℕ) {t r : ℕ} → t ≡ testsUpTo hs k → r ≡ testsIn hs k → t + r ≡ testsUpTo hs (suc k)
+  unfolding testsUpTo
+  tests-next k e d = rw (← add-one k) (total-more (testsIn hs) k e d)
+
+  module _ {k : ℕ} {ms out fl : List ℕ} {n t : ℕ} (a : After hs k ms out fl n t) where
+    -- what is noted is what is due
+    module _ {f0 q0 fs qs : List ℕ} {r : ℕ} (q : Queue hs f0 q0 0) (g : Noted hs ms (ClosedByAny hs fl n) f0 fs qs r) where
+      flag-due : (i : ℕ) → i < count hs → isMarked fs i ≡ due hs (suc k) i
+      unfolding due
+      flag-due i l = same-test (isMarked fs i) (standing hs (suc k) i && shaken hs (fell hs k) (from hs i) (to hs i)) on back where
+        empty : isMarked f0 i ≡ true → ⊥
+        empty e = let (j, m, x) = q .all i l e in not-suc-le-zero m
+
+        on : isMarked fs i ≡ true → (standing hs (suc k) i && shaken hs (fell hs k) (from hs i) (to hs i)) ≡ true
+        on e =
+            ⊎-elim (λ h. absurd (empty h))
+            (λ w. and-yes (sym (mark-test hs (suc k) ms out (a .marks) l) ∙ w .marked) (closed-shaken k (a .falls) i (w .inside))) (g .came i l e)
+
+        back : (standing hs (suc k) i && shaken hs (fell hs k) (from hs i) (to hs i)) ≡ true → isMarked fs i ≡ true
+        back e =
+            let s : standing hs (suc k) i ≡ true = and-left (standing hs (suc k) i) (shaken hs (fell hs k) (from hs i) (to hs i)) e in
+            g .all i l (record {
+              silent = standing-silent hs (suc k) i s;
+              marked = mark-test hs (suc k) ms out (a .marks) l ∙ s;
+              inside = shaken-closed k (a .falls) i (and-right (standing hs (suc k) i) (shaken hs (fell hs k) (from hs i) (to hs i)) e);
+            })
+
+      pub noted-lists : Lists (count hs) (due hs (suc k)) qs r
+      noted-lists = record {
+        counted = g .queue .counted ∙ tally-same (isMarked fs) (due hs (suc k)) (count hs) flag-due;
+        each = λ j m. let (l, e) = g .queue .each j m in (l, sym (flag-due (getD qs j 0) l) ∙ e);
+        all = λ i l e. g .queue .all i l (flag-due i l ∙ e);
+      }
+
+      pub noted-most : r ≤ count hs
+      noted-most = omega (arith, g .queue .counted, tally-within (isMarked fs) (count hs))
+
+      -- and its tests make the next round
+      module _ {new fl' : List ℕ} {n' : ℕ} (d : Tested hs ms qs r fs new fl' n') where
+        pub tested-queue : Queue hs new qs 0
+        unfolding Unset
+        tested-queue = queue-none hs ms (d .flags) (g .queue .room) unset where
+          unset : Unset hs new
+          unset i l = no-test (isMarked new i) (λ e. clash e (d .taken i (g .queue .all i l (d .kept i e))))
+
+        pub next-falls : Falls hs (suc k) fl' n'
+        next-falls = falls-all hs (suc k) ms out (a .marks) qs r noted-lists d
+
+        module _ {ms' : List ℕ} (room : count hs ≤ length ms') (w : Taken ms fl' n' ms') where
+          pub after-next : n' ≤ most-hops → After hs (suc k) ms' out fl' n' (t + r)
+          unfolding testsIn
+          after-next l = record {
+            marks = marks-next hs (suc k) ms out (a .marks) room next-falls w;
+            falls = next-falls;
+            most = l;
+            room = d .room;
+            tests = tests-next (suc k) (a .tests) (noted-lists .counted);
+          }
+
+          fewer : (i : ℕ) → i < count hs → isMarked ms' i ≡ true → isMarked ms i ≡ true
+          fewer i l e =
+              mark-test hs (suc k) ms out (a .marks) l ∙
+              standing-falls hs (suc k) i (sym (mark-test hs (suc (suc k)) ms' out (marks-next hs (suc k) ms out (a .marks) room next-falls w) l) ∙ e)
+
+          pub leaving-next : (ls : List ℕ) → Leaving hs ms ls → Leaving hs ms' ls
+          unfolding Leaving
+          leaving-next ls f i l e = f i l (fewer i l e)
+
+          -- marks are lost, or nothing more falls
+          pub after-less : 0 < n → tally (count hs) (isMarked ms') + cond (ltb 0 n') 1 0 < tally (count hs) (isMarked ms) + cond (ltb 0 n) 1 0
+          after-less l = rw (lt-ltb 0 n l) (go (lt-or-le 0 n')) where
+            go : (0 < n') ⊎ (n' ≤ 0) → tally (count hs) (isMarked ms') + cond (ltb 0 n') 1 0 < tally (count hs) (isMarked ms) + 1
+            go (inl m) =
+                let (x, y, z) = next-falls .each 0 m in
+                let o : isMarked ms (getD fl' 0 0) ≡ true = mark-test hs (suc k) ms out (a .marks) x ∙ y in
+                let p : isMarked ms' (getD fl' 0 0) ≡ false = mark-test hs (suc (suc k)) ms' out (marks-next hs (suc k) ms out (a .marks) room next-falls w) x ∙ z in
+                rw (lt-ltb 0 n' m) (omega (arith, tally-less (isMarked ms') (isMarked ms) (count hs) fewer x p o))
+            go (inr m) = rw (le-ltb 0 n' m) (omega (arith, tally-mono (isMarked ms') (isMarked ms) (count hs) fewer))
+
+    pub after-early : 0 < n → k < count hs
+    after-early = falls-early k (a .falls)
+
+    -- the end
+    module _ (z : n ≡ 0) where
+      idle : Idle hs (suc k)
+      idle = none-idle hs k (none-fell k (a .falls) z)
+
+      pub after-tests : t ≡ testsOf hs
+      after-tests = a .tests ∙ tests-end hs (suc k) idle
+
+      all-survive : survives hs (suc k) ≡ marked hs
+      all-survive = λ j s t. idle-marked hs (suc k) idle s t j
+
+      pub after-marks : ms ≡ onFront (marksOf hs (marked hs)) out
+      after-marks = rw all-survive at (a .marks)
+
+  -- marks that are written at the front of a list are at the front of what is left
+  pub after-itself : {k : ℕ} {ms out fl : List ℕ} {n t : ℕ} → count hs ≤ length ms → After hs k ms out fl n t → After hs k ms ms fl n t
+  after-itself {k} {ms} {out} room a = record {
+    marks = marks-made hs (survives hs (suc k)) ms ms room (λ i l. marks-at hs (survives hs (suc k)) ms out (a .marks) l) refl;
+    falls = a .falls;
+    most = a .most;
+    room = a .room;
+    tests = a .tests;
+  }
+
+  -- the first round
+  module _ (ms out : List ℕ) (room : count hs ≤ length out) (e : ms ≡ onFront (marksOf hs everyPair) out) where
+    first-marks : ms ≡ onFront (marksOf hs (survives hs 0)) out
+    first-marks =
+        marks-made hs (survives hs 0) ms out (rw (marks-room hs everyPair ms out e room) room) at-place (marks-beyond hs everyPair ms out e) where
+          at-place : (i : ℕ) → i < count hs → getD ms i 0 ≡ markOf hs (survives hs 0) i
+          at-place i l = marks-at hs everyPair ms out e l ∙ go (eq-or-not (label hs i) 0) where
+            go : (label hs i ≡ 0) ⊎ (label hs i ≡ 0 → ⊥) → markOf hs everyPair i ≡ markOf hs (survives hs 0) i
+            go (inl q) =
+                mark-one hs everyPair i q refl ∙ sym (mark-one hs (survives hs 0) i q (survives-none hs (from hs i) (to hs i) ∙ (rw q at (has-at hs l))))
+            go (inr q) = mark-visible hs everyPair i q ∙ sym (mark-visible hs (survives hs 0) i q)
+
+    pub after-first : {qs old new fl ms' : List ℕ} {n r : ℕ} → Lists (count hs) (due hs 0) qs n → Tested hs ms qs n old new fl r → r ≤ most-hops →
+        count hs ≤ length ms' → Taken ms fl r ms' → After hs 0 ms' out fl r n
+    unfolding testsUpTo testsIn total
+    after-first {qs} {n = n} d x l m w = record {
+      marks = marks-next hs 0 ms out first-marks m (falls-all hs 0 ms out first-marks qs n d x) w;
+      falls = falls-all hs 0 ms out first-marks qs n d x;
+      most = l;
+      room = x .room;
+      tests = omega (arith, d .counted);
+    }
+
+  pub lists-listed : {p : ℕ → Bool} {qs : List ℕ} {n : ℕ} → Lists (count hs) p qs n → Listed hs qs n
+  unfolding Listed
+  lists-listed d j m = d .each j m .0
+
+  pub first-queue : {ms qs old new fl : List ℕ} {n r : ℕ} → Tested hs ms qs n old new fl r → count hs ≤ length qs → Unset hs old → Queue hs new qs 0
+  unfolding Unset
+  first-queue {ms} {new = new} x l u = queue-none hs ms (x .flags) l (λ i m. no-test (isMarked new i) (λ h. clash (x .kept i h) (u i m)))
+
+  -- the first round tests the silent hops
+  pub first-yes : (i : ℕ) {a : ℕ} → a ≡ label hs i → a ≡ 0 → due hs 0 i ≡ true
+  unfolding due
+  first-yes i e z = eq-eqb (label hs i) 0 (sym e ∙ z)
+
+  pub first-no : (i : ℕ) {a : ℕ} → a ≡ label hs i → (a ≡ 0 → ⊥) → due hs 0 i ≡ false
+  unfolding due
+  first-no i e n = ne-eqb (label hs i) 0 (λ z. n (e ∙ z))
