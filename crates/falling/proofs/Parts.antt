@@ -187,9 +187,12 @@ module _ (hs : List ℕ) where
             let ((j, l, x), c) = t .each q m in
             let (a, b) = d .each j l in
             let w : getD fl q 0 < count hs = rw x at a in
-            let y : due hs k (getD fl q 0) ≡ true = rw x at b in
-            (w, due-standing hs k (getD fl q 0) w y, no-test (standing hs (suc k) (getD fl q 0))
-            (λ s. clash (survives-closes hs k (from hs (getD fl q 0)) (to hs (getD fl q 0)) (standing-survives hs (suc k) (getD fl q 0) s)) (sym (closes-is (getD fl q 0)) ∙ c)))
+            let y : due hs k (getD fl q 0) ≡ true = rw x at b in (
+              w,
+              due-standing hs k (getD fl q 0) w y,
+              no-test (standing hs (suc k) (getD fl q 0))
+                  (λ s. clash (survives-closes hs k (from hs (getD fl q 0)) (to hs (getD fl q 0)) (standing-survives hs (suc k) (getD fl q 0) s)) (sym (closes-is (getD fl q 0)) ∙ c)),
+            )
 
         all : (i : ℕ) → i < count hs → standing hs k i ≡ true → standing hs (suc k) i ≡ false → Among fl r i
         all i l s f =

@@ -8,7 +8,7 @@ use mathlib.Core.Logic.{_⊎_, inl, inr, ⊎-elim}
 use native.Mathlib.Nat.{not-suc-le-zero}
 use native.Mathlib.Numerals.{add-one}
 use native.Mathlib.Omega.{arith}
-use lib.ListN.{length, getD}
+use lib.ListN.{length, getD, replicate, getD-replicate}
 use lib.Dec.{eqb, ltb}
 use borrow.Author.Tests.{eq-eqb, ne-eqb, lt-ltb, le-ltb}
 use Rattle.below.specs.Tests.{tally, total}
@@ -26,7 +26,7 @@ use Rattle.confluence.proofs.Marks.{mark-one, mark-visible, marks-at, marks-roo
 use Rattle.due.specs.Due.{fell, standing, shaken, due, testsIn, testsUpTo, testsOf}
 use Rattle.due.proofs.Due.{Shaken, fell-yes, fell-place, standing-yes, standing-silent, standing-survives, standing-falls, shaken-yes, shaken-says, not-due-stands, Idle, none-idle, idle-marked, due-early, tests-end}
 use Rattle.retests.specs.Queue.{Among, Leaving, Queue, Wanted, Noted, ClosedBy, ClosedByAny, Listed, Unset}
-use Rattle.retests.proofs.Queueing.{queue-none}
+use Rattle.retests.proofs.Queueing.{flag-no, queue-none}
 use Rattle.falling.specs.Falling.{Lists, Tested, Taken, Falls, After}
 use Rattle.falling.proofs.Parts.{mark-test, falls-all, marks-next, taken-none}
 
@@ -186,15 +186,20 @@ module _ (hs : List ℕ) where
             go (inr q) = mark-visible hs everyPair i q ∙ sym (mark-visible hs (survives hs 0) i q)
 
     pub after-first : {qs old new fl ms' : List ℕ} {n r : ℕ} → Lists (count hs) (due hs 0) qs n → Tested hs ms qs n old new fl r → r ≤ most-hops →
-        count hs ≤ length ms' → Taken ms fl r ms' → After hs 0 ms' out fl r n
+        Taken ms fl r ms' → count hs ≤ length ms' → After hs 0 ms' out fl r n
     unfolding testsUpTo testsIn total
-    after-first {qs} {n = n} d x l m w = record {
+    after-first {qs} {n = n} d x l w m = record {
       marks = marks-next hs 0 ms out first-marks m (falls-all hs 0 ms out first-marks qs n d x) w;
       falls = falls-all hs 0 ms out first-marks qs n d x;
       most = l;
       room = x .room;
       tests = omega (arith, d .counted);
     }
+
+    -- in which nothing fell
+    pub after-still : {qs old new fl : List ℕ} {n r : ℕ} → Lists (count hs) (due hs 0) qs n → Tested hs ms qs n old new fl r → r ≡ 0 → After hs 0 ms out fl r n
+    after-still {fl = fl} d x z =
+        after-first d x (omega arith) (rw z (taken-none ms fl)) (rw (marks-room hs everyPair ms out e room) room)
 
   pub lists-listed : {p : ℕ → Bool} {qs : List ℕ} {n : ℕ} → Lists (count hs) p qs n → Listed hs qs n
   unfolding Listed
@@ -212,3 +217,16 @@ module _ (hs : List ℕ) where
   pub first-no : (i : ℕ) {a : ℕ} → a ≡ label hs i → (a ≡ 0 → ⊥) → due hs 0 i ≡ false
   unfolding due
   first-no i e n = ne-eqb (label hs i) 0 (λ z. n (e ∙ z))
+
+  -- what is listed as fallen was listed to be tested
+  pub tested-inside : {p : ℕ → Bool} {ms qs old new fl : List ℕ} {n r : ℕ} → Lists (count hs) p qs n → Tested hs ms qs n old new fl r →
+      (q : ℕ) → q < r → getD fl q 0 < count hs
+  tested-inside d x q l = let ((j, m, e), y) = x .each q l in rw e at (d .each j m .0)
+
+  pub lists-most : {p : ℕ → Bool} {qs : List ℕ} {n : ℕ} → Lists (count hs) p qs n → n ≤ count hs
+  lists-most {p} d = omega (arith, d .counted, tally-within p (count hs))
+
+  -- flags that are all 0
+  pub zeros-unset : count hs ≤ most-hops → Unset hs (replicate most-hops 0)
+  unfolding Unset
+  zeros-unset l i m = flag-no (replicate most-hops 0) i (λ e. absurd (omega (arith, getD-replicate {A = ℕ} most-hops i 0 0 (omega arith))))

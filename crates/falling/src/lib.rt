@@ -160,5 +160,14 @@ pub fn mark_rounds(hops: &[u16], marks: &mut [u8]) -> usize
         return n;
     }
     take_fallen(marks, &fallen, lost);
-    later_rounds(hops, &starts, marks, &mut queue, &mut flags, &mut fallen, lost, n)
+    later_rounds(
+        hops,
+        &starts,
+        marks,
+        &mut queue,
+        &mut flags,
+        &mut fallen,
+        lost,
+        n,
+    )
 }

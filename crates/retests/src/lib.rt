@@ -130,7 +130,16 @@ fn note_answers(
     while k < past {
         let m = place_at(places, k);
         if label_at(hops, m).0 == a.0 {
-            length = note_pair(hops, starts, marks, flags, queue, length, s1, from_at(hops, m));
+            length = note_pair(
+                hops,
+                starts,
+                marks,
+                flags,
+                queue,
+                length,
+                s1,
+                from_at(hops, m),
+            );
         }
         k += 1;
     }
@@ -211,7 +220,13 @@ fn note_answered(
     if marks[i] != 1 {
         return n;
     }
-    if is_point(hops, starts, to_at(hops, i), label_at(hops, j), to_at(hops, p)) {
+    if is_point(
+        hops,
+        starts,
+        to_at(hops, i),
+        label_at(hops, j),
+        to_at(hops, p),
+    ) {
         return note(hops, marks, flags, queue, n, i);
     }
     n
@@ -276,7 +291,9 @@ fn note_hop(
         return n;
     }
     let s4 = wide(to_at(hops, p).0);
-    if start_of(starts, s1 + 1) + start_of(begins, s4) <= start_of(begins, s4 + 1) + start_of(starts, s1) + FEW {
+    if start_of(starts, s1 + 1) + start_of(begins, s4)
+        <= start_of(begins, s4 + 1) + start_of(starts, s1) + FEW
+    {
         return note_out(hops, starts, marks, flags, queue, n, j, p);
     }
     note_into(hops, starts, begins, places, marks, flags, queue, n, j, p)
@@ -309,7 +326,19 @@ fn note_fallen(
     let mut k = start_of(begins, s3);
     while k < past {
         let j = place_at(places, k);
-        length = note_hop(hops, starts, begins, places, leaving, marks, flags, queue, length, j, p);
+        length = note_hop(
+            hops,
+            starts,
+            begins,
+            places,
+            leaving,
+            marks,
+            flags,
+            queue,
+            length,
+            j,
+            p,
+        );
         k += 1;
     }
     length
@@ -341,7 +370,18 @@ pub fn next_due(
     let mut q = 0;
     while q < lost {
         let p = place_at(fallen, q);
-        length = note_fallen(hops, starts, begins, places, leaving, marks, flags, queue, length, p);
+        length = note_fallen(
+            hops,
+            starts,
+            begins,
+            places,
+            leaving,
+            marks,
+            flags,
+            queue,
+            length,
+            p,
+        );
         q += 1;
     }
     length

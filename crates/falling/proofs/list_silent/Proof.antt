@@ -70,8 +70,8 @@ loop-again c =
       omega arith,
       ⊎-elim (λ w. rw (w .1) (simp length-set (v .2))) (λ w. rw (w .1) (v .2)) (c .if1 .came),
       ⊎-elim
-      (λ w. rw (w .1, w .2) (lists-more _ _ (v .3) (omega (arith, st .pre .0 .hops-most, v .3 .most)) (first-yes (st .args .hops .now) _ e (w .0 .taken))))
-      (λ w. rw (w .1, w .2) (lists-skip _ _ (v .3) (first-no (st .args .hops .now) _ e (w .0 .left)))) (c .if1 .came),
+          (λ w. rw (w .1, w .2) (lists-more _ _ (v .3) (omega (arith, st .pre .0 .hops-most, v .3 .most)) (first-yes (st .args .hops .now) _ e (w .0 .taken))))
+          (λ w. rw (w .1, w .2) (lists-skip _ _ (v .3) (first-no (st .args .hops .now) _ e (w .0 .left)))) (c .if1 .came),
     )
 
 returns : tie.Need-returns Inv-loop μ-loop

@@ -88,8 +88,8 @@ loop-again c =
     let e = c .before .closes-at .ensures in (
       omega arith,
       ⊎-elim
-      (λ w. rw (w .1, w .2) (tested-falls _ _ _ _ v q l (omega (arith, v .most, st .pre .1 .1 .1 .1 .1 .0)) e (not-true _ (w .0 .taken))))
-      (λ w. rw (w .1, w .2) (tested-closes _ _ _ _ v q l e (not-false _ (w .0 .left)))) (c .if1 .came),
+          (λ w. rw (w .1, w .2) (tested-falls _ _ _ _ v q l (omega (arith, v .most, st .pre .1 .1 .1 .1 .1 .0)) e (not-true _ (w .0 .taken))))
+          (λ w. rw (w .1, w .2) (tested-closes _ _ _ _ v q l e (not-false _ (w .0 .left)))) (c .if1 .came),
     )
 
 returns : tie.Need-returns Inv-loop μ-loop

@@ -18,7 +18,7 @@ hop-of-requires : tie.Need-hop-of-requires
 hop-of-requires c κs = search needs
 
 find-row-requires : tie.Need-find-row-requires
-find-row-requires c κs = 
+find-row-requires c κs =
     let st = c .before .before .before .before in
     (st .pre .0, (st .pre .1 .0, rw (c .hop-of .ensures) (st .pre .1 .1)))
 
@@ -29,12 +29,12 @@ enum-told-2 : tie.Need-enum-told-2
 enum-told-2 c = search needs
 
 returns-2 : tie.Need-returns-2
-returns-2 c = 
+returns-2 c =
     let st = c .before .before .before .before .before .before .before in
     point-found _ (st .pre .0 .ascending) _ _ _ (c .before .before .before .hop-of .ensures) (c .before .before .find-row .ensures) (c .enum-told .given .1)
 
 returns-3 : tie.Need-returns-3
-returns-3 c = 
+returns-3 c =
     let st = c .before .before .before .before .before .before .before in
     point-missing _ (st .pre .0 .ascending) _ _ _ (c .before .before .before .hop-of .ensures) (c .before .before .find-row .ensures) (c .enum-told2 .given .1)
     (⊎-elim (λ w z e. w .3 .left e) (λ w z e. w .left z) (c .before .before .before .before .if1 .came))

@@ -61,8 +61,8 @@ loop-again c =
       ⊎-elim (λ w. rw (w .3) (simp length-set (lp .inv .0))) (λ w. rw (w .1) (lp .inv .0)) (c .if1 .came),
       omega arith,
       ⊎-elim
-      (λ w. rw (w .3) (leaving-more (st .args .hops .now) (st .args .marks .now) (lp .leaving) (lp .inv .2) (w .2 .ensures ∙ w .1 .ensures) (omega (arith, w .2 .ensures, w .1 .ensures, lp .inv .0))))
-      (λ w. rw (w .1) (leaving-skip (st .args .hops .now) (st .args .marks .now) (lp .leaving) (lp .inv .2) (w .0 .left))) (c .if1 .came),
+          (λ w. rw (w .3) (leaving-more (st .args .hops .now) (st .args .marks .now) (lp .leaving) (lp .inv .2) (w .2 .ensures ∙ w .1 .ensures) (omega (arith, w .2 .ensures, w .1 .ensures, lp .inv .0))))
+          (λ w. rw (w .1) (leaving-skip (st .args .hops .now) (st .args .marks .now) (lp .leaving) (lp .inv .2) (w .0 .left))) (c .if1 .came),
     )
 
 returns : tie.Need-returns Inv-loop μ-loop

@@ -13,7 +13,7 @@ shared-slice-read-if1 : tie.Need-shared-slice-read-if1
 shared-slice-read-if1 c = search needs
 
 returns : tie.Need-returns
-returns c = 
+returns c =
     let st = c .before .before in
     noted-none _ _ (st .pre .1 .1 .0) (λ x l w. absurd (c .if1 .taken (flag-says (st .args .marks .now) (st .args .i) (rw (w .inside) at (w .marked)))))
 
@@ -21,7 +21,7 @@ element-copy-out-if2 : tie.Need-element-copy-out-if2
 element-copy-out-if2 c = search needs
 
 returns-2 : tie.Need-returns-2
-returns-2 c = 
+returns-2 c =
     let st = c .before .before .before .before in
     noted-none _ _ (st .pre .1 .1 .0) (λ x l w. rw (w .inside) (flag-yes (st .args .flags .now) (st .args .i) (c .if2 .taken)))
 
@@ -32,22 +32,22 @@ cast-queue : tie.Need-cast-queue
 cast-queue c = search needs
 
 mul-queue : tie.Need-mul-queue
-mul-queue c = 
+mul-queue c =
     let st = c .before .before .before .before in
     omega (arith, queue-room (st .args .hops .now) (st .args .marks .now) (st .pre .1 .1 .0) (st .pre .1 .1 .1 .0) (flag-no (st .args .flags .now) (st .args .i) (c .if2 .left)), st .pre .0 .hops-most)
 
 element-write-queue : tie.Need-element-write-queue
-element-write-queue c = 
+element-write-queue c =
     let st = c .before .before .before .before in
     omega (arith, queue-room (st .args .hops .now) (st .args .marks .now) (st .pre .1 .1 .0) (st .pre .1 .1 .1 .0) (flag-no (st .args .flags .now) (st .args .i) (c .if2 .left)), st .pre .0 .hops-most)
 
 add-result : tie.Need-add-result
-add-result c = 
+add-result c =
     let st = c .before .before .before .before in
     omega (arith, queue-room (st .args .hops .now) (st .args .marks .now) (st .pre .1 .1 .0) (st .pre .1 .1 .1 .0) (flag-no (st .args .flags .now) (st .args .i) (c .if2 .left)), st .pre .0 .hops-most)
 
 returns-3 : tie.Need-returns-3
-returns-3 c = 
+returns-3 c =
     let st = c .before .before .before .before in
     noted-one _ _ (st .pre .1 .1 .0) (st .pre .1 .1 .1 .0) (flag-no (st .args .flags .now) (st .args .i) (c .if2 .left)) (st .pre .1 .1 .1 .1) (search needs)
 

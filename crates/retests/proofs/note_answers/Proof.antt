@@ -113,9 +113,9 @@ loop-again c =
       omega arith,
       omega arith,
       ⊎-elim
-      (λ w. rw (w .5, w .6, w .7)
-      (walk-more hs ms (Into hs ms ps (st .args .j) (st .args .p)) (v .4) (v .6) (into-yes hs ms ps (st .args .j) (st .args .p) _ d e (v .1) (w .0 .taken) (w .3 .ensures) (pair-to hs ms (v .0) refl (w .4 .ensures)))))
-      (λ w. rw (w .1, w .2, w .3) (walk-skip hs ms (Into hs ms ps (st .args .j) (st .args .p)) (v .4) (v .6) (into-no hs ms ps (st .args .j) (st .args .p) _ d e (v .1) (w .0 .left)))) (c .if1 .came),
+          (λ w. rw (w .5, w .6, w .7)
+          (walk-more hs ms (Into hs ms ps (st .args .j) (st .args .p)) (v .4) (v .6) (into-yes hs ms ps (st .args .j) (st .args .p) _ d e (v .1) (w .0 .taken) (w .3 .ensures) (pair-to hs ms (v .0) refl (w .4 .ensures)))))
+          (λ w. rw (w .1, w .2, w .3) (walk-skip hs ms (Into hs ms ps (st .args .j) (st .args .p)) (v .4) (v .6) (into-no hs ms ps (st .args .j) (st .args .p) _ d e (v .1) (w .0 .left)))) (c .if1 .came),
     )
 
 returns : tie.Need-returns Inv-loop μ-loop
