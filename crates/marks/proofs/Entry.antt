@@ -60,6 +60,6 @@ module _ (sh : Shape) (hs out : List ℕ) where
   unfolding markOutput
   output-same n = rw (ne-eqb (markAnswer sh hs out .number) 0 n)
 
--- what `mark_all` leaves, by its places
+-- what `mark_rounds` leaves, by its places
 pub made-at : (hs ms out : List ℕ) → ms ≡ onFront (marksMade hs) out → (i : ℕ) → i < count hs → getD ms i 0 ≡ markAt hs i
 made-at hs ms out e i l = marks-at hs (marked hs) ms out e l

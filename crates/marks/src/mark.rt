@@ -1,4 +1,5 @@
 // The entry `mark`: the marks of a graph without rings, or the row that refuses it.
+use falling::mark_rounds;
 use graph::Answer;
 use graph::Shape;
 use graph::answers::accept;
@@ -6,7 +7,6 @@ use graph::answers::refuse;
 use graph::hops::hop_count;
 use limits::check;
 use rings::ring_answer;
-use sweeps::mark_all;
 ghost use mathlib.Core.Path.{_≡_};
 ghost use Rattle.marks.specs.Mark.{markAnswer, markOutput};
 
@@ -35,7 +35,7 @@ pub fn mark(shape: Shape, hops: &[u16], marks: &mut [u8]) -> Answer
 {
     let answer = mark_answer(shape, hops, marks);
     if answer.number == 0 {
-        mark_all(hops, marks);
+        mark_rounds(hops, marks);
     }
     answer
 }

@@ -43,7 +43,7 @@ module _ {sh : Shape} {hs : List ℕ} (red : Reducible sh hs) where
     falls = falls red;
   }
 
--- what `mark_all` leaves in ms is marks, one a hop, of which no visible hop has one, and they are of the marked set
+-- what `mark_rounds` leaves in ms is marks, one a hop, of which no visible hop has one, and they are of the marked set
 module _ (sh : Shape) (hs ms out : List ℕ) (e : ms ≡ onFront (marksOf hs (marked hs)) out) where
   pub left-marks : count hs ≤ length out → SilentMarks hs ms
   left-marks l = record { room = omega (arith, marks-room hs (marked hs) ms out e l); silent = marks-silent hs (marked hs) ms out e }

@@ -1,5 +1,6 @@
 // The entry `reduce`: the map and the short graph of a graph without rings, or the row that refuses it.
 use super::Reduction;
+use falling::mark_rounds;
 use graph::Answer;
 use graph::MOST_HOPS;
 use graph::Shape;
@@ -8,7 +9,6 @@ use graph::answers::refuse;
 use limits::check;
 use reducing::reduce_marked;
 use rings::ring_answer;
-use sweeps::mark_all;
 ghost use mathlib.Core.Path.{_≡_};
 ghost use Prim.Native.Nat.{_≤_};
 ghost use lib.ListN.{length};
@@ -47,7 +47,7 @@ fn accepted_reduction(shape: Shape, hops: &[u16], map: &mut [u16], short: &mut [
     ensures shortened { λ r. ⌜ now (short .exit) ≡ onFront (flat (markedHops shape (now (hops .entry)))) (now (short .entry)) ⌝ }
 {
     let mut marks = [0u8; MOST_HOPS];
-    mark_all(hops, &mut marks);
+    mark_rounds(hops, &mut marks);
     let made = reduce_marked(shape, hops, &marks, map, short);
     let short_shape = made.shape;
     Reduction {

@@ -1,4 +1,5 @@
 // What the program prints of a file.
+use falling::mark_rounds;
 use graph::MOST_HOPS;
 use graph::MOST_NUMBERS;
 use graph::MOST_STATES;
@@ -9,7 +10,6 @@ use reducing::reduce_marked;
 use rings::ring_answer;
 use rows::put_refusal;
 use rows::put_report;
-use sweeps::mark_all;
 ghost use mathlib.Core.Path.{_≡_};
 ghost use Prim.Native.Nat.{_≤_};
 ghost use lib.ListN.{length};
@@ -31,7 +31,7 @@ fn print_reduced(shape: Shape, hops: &[u16], out: &mut [u8]) -> usize
     let mut marks = [0u8; MOST_HOPS];
     let mut map = [0u16; MOST_STATES];
     let mut short = [0u16; MOST_NUMBERS];
-    mark_all(hops, &mut marks);
+    mark_rounds(hops, &mut marks);
     let made = reduce_marked(shape, hops, &marks, &mut map, &mut short);
     let new = made.shape;
     let n = made.hops;

@@ -9,8 +9,8 @@ use Rattle.marks.proofs.mark.mark.Tie as tie
 mark-answer-requires : tie.Need-mark-answer-requires
 mark-answer-requires c κs = search needs
 
-mark-all-requires : tie.Need-mark-all-requires
-mark-all-requires c κs =
+mark-rounds-requires : tie.Need-mark-rounds-requires
+mark-rounds-requires c κs =
     let e = rw (c .before .before .before .mark-answer .ensures) at (c .before .if1 .taken) in
     (admitted-ready (mark-admitted _ _ _ e), mark-room _ _ _ e)
 
@@ -20,7 +20,7 @@ same-length c = search needs
 returns : tie.Need-returns
 returns c =
     let d = c .before .before .before .before .before .before .mark-answer .ensures in
-    (d, c .before .before .mark-all .ensures ∙ output-marked _ _ _ (rw d at (c .before .before .before .before .if1 .taken)))
+    (d, c .before .before .mark-rounds .ensures .1 ∙ output-marked _ _ _ (rw d at (c .before .before .before .before .if1 .taken)))
 
 same-length-2 : tie.Need-same-length-2
 same-length-2 c = search needs
@@ -33,4 +33,4 @@ returns-2 c =
 pub mark-spec : {M : Type 1} → statement M
 mark-spec =
     tie.close
-    (tie.spec mark-answer-requires mark-all-requires same-length returns same-length-2 returns-2)
+    (tie.spec mark-answer-requires mark-rounds-requires same-length returns same-length-2 returns-2)

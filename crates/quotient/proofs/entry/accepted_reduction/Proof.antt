@@ -7,11 +7,11 @@ use borrow.Author.Needs.{needs}
 use Rattle.quotient.proofs.entry.accepted_reduction.Statement.{statement}
 use Rattle.quotient.proofs.entry.accepted_reduction.Tie as tie
 
-slice-aggregate-mark-all : tie.Need-slice-aggregate-mark-all
-slice-aggregate-mark-all c = search needs
+slice-aggregate-mark-rounds : tie.Need-slice-aggregate-mark-rounds
+slice-aggregate-mark-rounds c = search needs
 
-mark-all-requires : tie.Need-mark-all-requires
-mark-all-requires c κs = let adm = c .before .before .before .before .pre .0 .admitted in (admitted-ready adm, omega (arith, adm .hops-most))
+mark-rounds-requires : tie.Need-mark-rounds-requires
+mark-rounds-requires c κs = let adm = c .before .before .before .before .pre .0 .admitted in (admitted-ready adm, omega (arith, adm .hops-most))
 
 slice-aggregate-reduce-marked : tie.Need-slice-aggregate-reduce-marked
 slice-aggregate-reduce-marked c = search needs
@@ -20,7 +20,7 @@ reduce-marked-requires : tie.Need-reduce-marked-requires
 reduce-marked-requires c κs =
     let st = c .before .before .before .before .before .before .before .before .before in
     let red = st .pre .0 in
-    (red .admitted, (held-settles red _, (left-marks (st .args .shape) _ _ _ (c .before .before .before .before .mark-all .ensures) (omega (arith, red .admitted .hops-most)), (st .pre .1 .0, st .pre .1 .1))))
+    (red .admitted, (held-settles red _, (left-marks (st .args .shape) _ _ _ (c .before .before .before .before .mark-rounds .ensures .1) (omega (arith, red .admitted .hops-most)), (st .pre .1 .0, st .pre .1 .1))))
 
 accept-requires : tie.Need-accept-requires
 accept-requires c κs = search needs
@@ -33,7 +33,7 @@ same-length-2 c = search needs
 
 returns : tie.Need-returns
 returns c =
-    let marked = c .before .before .before .before .before .before .before .before .before .before .before .mark-all .ensures in
+    let marked = c .before .before .before .before .before .before .before .before .before .before .before .mark-rounds .ensures .1 in
     let made = c .before .before .before .before .before .before .reduce-marked .ensures in
     (left-made _ _ _ _ marked (c .accept .ensures) (made .0), (left-map _ _ _ _ marked _ (made .1 .0), left-short _ _ _ _ marked _ (made .1 .1)))
 
@@ -41,8 +41,8 @@ pub accepted-reduction-spec : {M : Type 1} → statement M
 accepted-reduction-spec =
     tie.close
     (tie.spec
-    slice-aggregate-mark-all
-    mark-all-requires
+    slice-aggregate-mark-rounds
+    mark-rounds-requires
     slice-aggregate-reduce-marked
     reduce-marked-requires
     accept-requires

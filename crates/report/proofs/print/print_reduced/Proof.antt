@@ -13,11 +13,11 @@ use borrow.Author.Needs.{needs}
 use Rattle.report.proofs.print.print_reduced.Statement.{statement}
 use Rattle.report.proofs.print.print_reduced.Tie as tie
 
-slice-aggregate-mark-all : tie.Need-slice-aggregate-mark-all
-slice-aggregate-mark-all c = search needs
+slice-aggregate-mark-rounds : tie.Need-slice-aggregate-mark-rounds
+slice-aggregate-mark-rounds c = search needs
 
-mark-all-requires : tie.Need-mark-all-requires
-mark-all-requires c κs = let adm = c .before .before .before .pre .0 .admitted in (admitted-ready adm, omega (arith, adm .hops-most))
+mark-rounds-requires : tie.Need-mark-rounds-requires
+mark-rounds-requires c κs = let adm = c .before .before .before .pre .0 .admitted in (admitted-ready adm, omega (arith, adm .hops-most))
 
 slice-aggregate-reduce-marked : tie.Need-slice-aggregate-reduce-marked
 slice-aggregate-reduce-marked c = search needs
@@ -32,7 +32,7 @@ reduce-marked-requires : tie.Need-reduce-marked-requires
 reduce-marked-requires c κs =
     let st = c .before .before .before .before .before .before .before .before in
     let red = st .pre .0 in
-    let e = c .before .before .before .before .mark-all .ensures in
+    let e = c .before .before .before .before .mark-rounds .ensures .1 in
     (red .admitted, (held-settles red _, (left-marks (st .args .shape) _ _ _ e (omega (arith, red .admitted .hops-most)), (omega (arith, red .admitted .states-most), omega (arith, red .admitted .hops-most, red .admitted .three-a-hop)))))
 
 slice-aggregate-put-report : tie.Need-slice-aggregate-put-report
@@ -48,7 +48,7 @@ part-requires : tie.Need-part-requires
 part-requires c κs =
     let st = c .before .before .before .before .before .before .before .before .before .before .before .before .before .before .before in
     let red = st .pre .0 in
-    let e = c .before .before .before .before .before .before .before .before .before .before .before .mark-all .ensures in
+    let e = c .before .before .before .before .before .before .before .before .before .before .before .mark-rounds .ensures .1 in
     let r = c .before .before .before .before .before .before .reduce-marked .ensures in
     (omega arith, omega (arith, reduced-most red (replicate most-hops 0) e (r .0)))
 
@@ -56,7 +56,7 @@ put-report-requires : tie.Need-put-report-requires
 put-report-requires c κs =
     let st = c .before .before .before .before .before .before .before .before .before .before .before .before .before .before .before .before .before in
     let red = st .pre .0 in
-    let e = c .before .before .before .before .before .before .before .before .before .before .before .before .before .mark-all .ensures in
+    let e = c .before .before .before .before .before .before .before .before .before .before .before .before .before .mark-rounds .ensures .1 in
     let r = c .before .before .before .before .before .before .before .before .reduce-marked .ensures in
     (omega (arith, red .admitted .hops-most), (omega (arith, red .admitted .states-most), (red .admitted .states-most, room-same (sym (reduced-lines red (reduced-marks red (replicate most-hops 0) e) (reduced-map red (replicate most-hops 0) e (replicate most-states 0) (r .1 .0)) (reduced-shape red (replicate most-hops 0) e (r .0)) (reduced-short red (replicate most-hops 0) e (r .0) (replicate most-numbers 0) (r .1 .1) (c .before .part .ensures .0)))) (text-room (report-most red) (st .pre .1)))))
 
@@ -67,7 +67,7 @@ returns : tie.Need-returns
 returns c =
     let st = c .before .before .before .before .before .before .before .before .before .before .before .before .before .before .before .before .before .before .before .before in
     let red = st .pre .0 in
-    let e = c .before .before .before .before .before .before .before .before .before .before .before .before .before .before .before .before .mark-all .ensures in
+    let e = c .before .before .before .before .before .before .before .before .before .before .before .before .before .before .before .before .mark-rounds .ensures .1 in
     let r = c .before .before .before .before .before .before .before .before .before .before .before .reduce-marked .ensures in
     put-same (reduced-lines red (reduced-marks red (replicate most-hops 0) e) (reduced-map red (replicate most-hops 0) e (replicate most-states 0) (r .1 .0)) (reduced-shape red (replicate most-hops 0) e (r .0)) (reduced-short red (replicate most-hops 0) e (r .0) (replicate most-numbers 0) (r .1 .1) (c .before .before .before .before .part .ensures .0))) (c .before .before .put-report .ensures)
 
@@ -75,8 +75,8 @@ pub print-reduced-spec : {M : Type 1} → statement M
 print-reduced-spec =
     tie.close
     (tie.spec
-    slice-aggregate-mark-all
-    mark-all-requires
+    slice-aggregate-mark-rounds
+    mark-rounds-requires
     slice-aggregate-reduce-marked
     slice-aggregate-reduce-marked-2
     slice-aggregate-reduce-marked-3
