@@ -4,7 +4,7 @@ use crate::random::Random;
 use differential::entries::Graph;
 use std::collections::BTreeSet;
 
-type Hops = BTreeSet<(u16, u16, u16)>;
+pub type Hops = BTreeSet<(u16, u16, u16)>;
 
 pub fn graph_of(states: usize, labels: usize, initial: usize, hops: &Hops) -> Graph {
     let hops = hops.iter().take(4096).flat_map(|&(from, label, to)| [from, label, to]).collect();
@@ -123,6 +123,79 @@ fn product(random: &mut Random, states: usize, labels: usize) -> Hops {
         hops.insert((random.below(states) as u16, 2, random.below(states) as u16));
     }
     hops
+}
+
+/// A graph of up to about so many states whose marking takes many rounds: a chain, a ladder, waves or fans, its states in any order, with a few hops put in or
+/// left out.
+pub fn many_rounds(random: &mut Random, most_states: usize) -> Graph {
+    let size = random.between(4, most_states) as u16;
+    let (states, mut hops) = match random.below(5) {
+        0 => chain(size),
+        1 => chain_to_one_end(size),
+        2 => ladder(size / 2),
+        3 => {
+            let chains = random.between(1, 6) as u16;
+            waves((size / 2).max(2), chains)
+        }
+        _ => fans(random.between(1, 3) as u16, (size / 3).max(1), (size / 2).max(2)),
+    };
+    for _ in 0..random.below(4) {
+        let (one, two) = (random.below(states.into()) as u16, random.below(states.into()) as u16);
+        match random.below(4) {
+            // silent hops lead upward in all of them
+            0 if one != two => _ = hops.insert((one.min(two), 0, one.max(two))),
+            1 => _ = hops.insert((one, random.between(1, 2) as u16, two)),
+            _ => {
+                let at = random.below(hops.len());
+                hops = hops.into_iter().enumerate().filter(|(i, _)| *i != at).map(|(_, hop)| hop).collect();
+            }
+        }
+    }
+    let name = order(random, states.into());
+    let hops = hops.into_iter().map(|(from, label, to)| (name[usize::from(from)], label, name[usize::from(to)])).collect();
+    graph_of(states.into(), 3, random.below(states.into()), &hops)
+}
+
+/// From each state to the next a silent hop and one labelled 1, and one labelled 1 from the last to the first: a silent hop closes while the next one is marked,
+/// and one falls a round.
+pub fn chain(states: u16) -> (u16, Hops) {
+    let along = (0..states - 1).flat_map(|s| [(s, 0, s + 1), (s, 1, s + 1)]);
+    (states, along.chain([(states - 1, 1, 0)]).collect())
+}
+
+/// A silent hop from each state to the next and one to the last; the last one but one has a visible hop that nothing answers. The hops to the last fall one a
+/// round, and the others are tested again beside them.
+pub fn chain_to_one_end(states: u16) -> (u16, Hops) {
+    let end = states - 1;
+    let next = (0..end - 1).map(|s| (s, 0, s + 1));
+    (states, next.chain((0..end).map(|s| (s, 0, end))).chain([(end - 1, 2, 0)]).collect())
+}
+
+/// Two rails of hops labelled 1 and silent rungs between them, which fall one a round from the far end.
+pub fn ladder(rungs: u16) -> (u16, Hops) {
+    let rung = (0..rungs).map(|i| (i, 0, rungs + i));
+    let rails = (0..rungs - 1).flat_map(|i| [(i, 1, i + 1), (rungs + i, 1, rungs + i + 1)]);
+    (2 * rungs, rung.chain(rails).chain([(rungs - 1, 2, 0)]).collect())
+}
+
+/// So many chains of such a length at once, each to an end of its own, that fall one after the other: the last state's hop labelled 2 is answered by each end with
+/// one to the next end, and silent hops lead from each end to those after it.
+pub fn waves(length: u16, chains: u16) -> (u16, Hops) {
+    let end = |j: u16| length + j;
+    let next = (0..length - 1).map(|i| (i, 0, i + 1));
+    let out = (0..length).flat_map(|i| (0..chains).map(move |j| (i, 0, end(j))));
+    let order = (0..=chains).flat_map(|j| (j + 1..=chains).map(move |l| (end(j), 0, end(l))));
+    let again = (0..=chains).map(|j| (end(j), 2, end((j + 1).min(chains))));
+    (end(chains) + 1, next.chain(out).chain(order).chain(again).chain([(length - 1, 2, 0)]).collect())
+}
+
+/// States with silent hops to each of so many others, and from those to one; beside them a chain to one end.
+pub fn fans(states: u16, width: u16, length: u16) -> (u16, Hops) {
+    let hub = states + width;
+    let fan = (0..states).flat_map(|s| (states..hub).map(move |t| (s, 0, t))).chain((states..hub).map(|t| (t, 0, hub)));
+    let (more, beside) = chain_to_one_end(length);
+    let beside = beside.into_iter().map(|(from, label, to)| (hub + 1 + from, label, hub + 1 + to));
+    (hub + 1 + more, fan.chain(beside).collect())
 }
 
 /// Numbers around each limit, and such as lose bits where a number is cut to 16.
