@@ -125,11 +125,11 @@ fn product(random: &mut Random, states: usize, labels: usize) -> Hops {
     hops
 }
 
-/// A graph of up to about so many states whose marking takes many rounds: a chain, a ladder, waves or fans, its states in any order, with a few hops put in or
-/// left out.
+/// A graph of up to about so many states whose marking takes many rounds, or in which much is fallen or answered at once: its states in any order, with a few hops
+/// put in or left out.
 pub fn many_rounds(random: &mut Random, most_states: usize) -> Graph {
     let size = random.between(4, most_states) as u16;
-    let (states, mut hops) = match random.below(5) {
+    let (states, mut hops) = match random.below(8) {
         0 => chain(size),
         1 => chain_to_one_end(size),
         2 => ladder(size / 2),
@@ -137,7 +137,10 @@ pub fn many_rounds(random: &mut Random, most_states: usize) -> Graph {
             let chains = random.between(1, 6) as u16;
             waves((size / 2).max(2), chains)
         }
-        _ => fans(random.between(1, 3) as u16, (size / 3).max(1), (size / 2).max(2)),
+        4 => fans(random.between(1, 3) as u16, (size / 3).max(1), (size / 2).max(2)),
+        5 => layers(size.div_ceil(3), size.div_ceil(4), size.div_ceil(3)),
+        6 => wide(size.min(24)),
+        _ => answered_again(size),
     };
     for _ in 0..random.below(4) {
         let (one, two) = (random.below(states.into()) as u16, random.below(states.into()) as u16);
@@ -196,6 +199,33 @@ pub fn fans(states: u16, width: u16, length: u16) -> (u16, Hops) {
     let (more, beside) = chain_to_one_end(length);
     let beside = beside.into_iter().map(|(from, label, to)| (hub + 1 + from, label, hub + 1 + to));
     (hub + 1 + more, fan.chain(beside).collect())
+}
+
+/// Three layers of so many states, with silent hops from each state to all of the next layer: none of the last hops closes, and then none of the first.
+pub fn layers(first: u16, second: u16, third: u16) -> (u16, Hops) {
+    let (end1, end2) = (first, first + second);
+    let one = (0..end1).flat_map(|s| (end1..end2).map(move |t| (s, 0, t)));
+    let two = (end1..end2).flat_map(|s| (end2..end2 + third).map(move |t| (s, 0, t)));
+    (end2 + third, one.chain(two).collect())
+}
+
+/// State 0 has silent hops to so many states, as has state 1 to others, and many hops to state 1; only its hop to the last state stays marked, to which those states
+/// lead. Of the hops into 1 each is gone over for each of 1's hops that fell.
+pub fn wide(width: u16) -> (u16, Hops) {
+    let last = 2 + 2 * width;
+    let zero = (0..width).flat_map(|i| [(0, 0, 2 + i), (2 + i, 0, last)]);
+    let one = (0..width).map(|i| (1, 0, 2 + width + i));
+    let many = (1..3).flat_map(|a| [(0, a, 1), (last, a, 1)]);
+    (last + 1, zero.chain(one).chain(many).chain([(0, 0, last)]).collect())
+}
+
+/// States 0 and 1, a silent hop between them, and from both a hop labelled 1 to each state of a chain to one end: whenever one of the chain falls the hop is
+/// tested again.
+pub fn answered_again(length: u16) -> (u16, Hops) {
+    let (more, chain) = chain_to_one_end(length);
+    let chain = chain.into_iter().map(|(from, label, to)| (2 + from, label, 2 + to));
+    let both = (0..more).flat_map(|i| [(0, 1, 2 + i), (1, 1, 2 + i)]);
+    (2 + more, chain.chain(both).chain([(0, 0, 1)]).collect())
 }
 
 /// Numbers around each limit, and such as lose bits where a number is cut to 16.

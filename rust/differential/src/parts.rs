@@ -331,7 +331,7 @@ fn audits_about(c: &mut Comparer, one: &Graph, two: &Graph, map: &[u16]) {
     }
 }
 
-/// Markings of many rounds: chains, ladders, waves and fans, random ones and some of the full size.
+/// Markings of many rounds: chains, ladders, waves, fans and the like, random small ones and some large ones.
 pub fn rounds(c: &mut Comparer, count: usize) {
     for _ in 0..count {
         let g = make::many_rounds(&mut c.random, 30);
@@ -352,6 +352,9 @@ pub fn rounds(c: &mut Comparer, count: usize) {
     }
     assert_eq!(tests_of(make::chain(1024)), 2045, "tests of the longest chain");
     for graph in [make::chain_to_one_end(1024), make::ladder(512), make::waves(20, 20), make::fans(5, 80, 80)] {
+        tests_of(graph);
+    }
+    for graph in [make::layers(20, 25, 30), make::wide(300), make::answered_again(300)] {
         tests_of(graph);
     }
 }
