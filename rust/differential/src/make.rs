@@ -154,9 +154,16 @@ pub fn many_rounds(random: &mut Random, most_states: usize) -> Graph {
             }
         }
     }
+    let mut labels = 3;
+    if random.percent(40) {
+        // rows that are longer than what leads to a state: hops that every state has
+        labels = 3 + 20;
+        let to = random.below(states.into()) as u16;
+        hops.extend((0..states).flat_map(|s| (3..labels as u16).map(move |label| (s, label, to))));
+    }
     let name = order(random, states.into());
     let hops = hops.into_iter().map(|(from, label, to)| (name[usize::from(from)], label, name[usize::from(to)])).collect();
-    graph_of(states.into(), 3, random.below(states.into()), &hops)
+    graph_of(states.into(), labels, random.below(states.into()), &hops)
 }
 
 /// From each state to the next a silent hop and one labelled 1, and one labelled 1 from the last to the first: a silent hop closes while the next one is marked,
