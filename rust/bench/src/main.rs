@@ -125,9 +125,6 @@ fn mark_row(Named { name, graph }: &Named) {
 
 /// Marking by repeated sweeps and by rounds, both plain, and by rounds of the library. The sweeps are left out where they are not wanted.
 fn mark_fast_row(Named { name, graph }: &Named, swept: bool) {
-    if !asked("mark_fast", name) {
-        return;
-    }
     let fast: Call = &|e, o| e.mark_fast(graph, &mut o.marks, &mut o.answer);
     let rounds = Timed::new(|o| fast(&Plain, o));
     let tests = rounds.outputs.answer[3];
@@ -222,8 +219,12 @@ fn main() {
     row("read", "16,364 different names of two and three bytes, alike at first", &|e, o| e.read(&alike, &mut o.hops, &mut o.answer));
 
     println!("\n{MARK_FAST_HEAD}");
-    graphs.iter().chain(&markings).for_each(|input| mark_fast_row(input, true));
-    long.iter().for_each(|input| mark_fast_row(input, false));
+    let swept = graphs.iter().chain(&markings).map(|input| (input, true));
+    for (input, swept) in swept.chain(long.iter().map(|input| (input, false))) {
+        if asked("mark_fast", input.name) {
+            mark_fast_row(input, swept);
+        }
+    }
 }
 
 /// The short graph and the map, by the plain implementation.
