@@ -122,6 +122,7 @@ pub fn long_markings() -> Vec<Named> {
             graph("waves: 60 chains of 36 hops that fall one after the other", states, 3, chain)
         },
         looked_at_again("block of 17 and 23 states over waves, each fall tests all its 391 hops again", 56, 26, (17, 23), 1),
+        over_one(600, 350),
     ]
 }
 
@@ -162,6 +163,20 @@ fn fans() -> Named {
     let (chain, states) = one_a_sweep(500);
     let chain = chain.into_iter().map(|[from, label, to]| [506 + from, label, 506 + to]);
     graph("five fans of 500, beside a chain that falls a hop a sweep", 506 + states, 3, fan.chain(chain))
+}
+
+/// State 0 has silent hops to so many ends, which fall one a round, the lowest first: it has a hop labelled 2 to itself, which each end answers by one to the end
+/// before it. Silent hops lead from all of them to a hub, so that nothing else falls. Over it a block: so many states with a hop labelled 1 to 0, and with silent
+/// hops to two that have one to each end. For each hop that falls all those silent hops are tested again, and look through the ends that have fallen.
+fn over_one(ends: u16, ones: u16) -> Named {
+    let (hub, one) = (1 + ends, 2 + ends);
+    let two = one + ones;
+    let falling = (1..=hub).map(|e| [0, 0, e]).chain((1..hub).map(|e| [e, 0, hub]));
+    let again = (2..hub).map(|e| [e, 2, e - 1]).chain([[0, 2, 0], [hub, 2, hub]]);
+    let block = (one..two).flat_map(|s| [[s, 0, two], [s, 0, two + 1], [s, 1, 0]]).chain([[two, 0, two + 1]]);
+    let answers = (two..two + 2).flat_map(|s| (1..hub).map(move |e| [s, 1, e]));
+    let name = "block of 350 and 2 states over a state whose 600 hops fall one a round";
+    graph(name, two + 2, 3, falling.chain(again).chain(block).chain(answers))
 }
 
 /// Waves, and over them a block: silent hops from each of some states to each of others, the former with hops by so many labels to each state of the chains, the
