@@ -129,7 +129,7 @@ fn product(random: &mut Random, states: usize, labels: usize) -> Hops {
 /// put in or left out.
 pub fn many_rounds(random: &mut Random, most_states: usize) -> Graph {
     let size = random.between(4, most_states) as u16;
-    let (states, mut hops) = match random.below(8) {
+    let (states, mut hops) = match random.below(10) {
         0 => chain(size),
         1 => chain_to_one_end(size),
         2 => ladder(size / 2),
@@ -140,7 +140,9 @@ pub fn many_rounds(random: &mut Random, most_states: usize) -> Graph {
         4 => fans(random.between(1, 3) as u16, (size / 3).max(1), (size / 2).max(2)),
         5 => layers(size.div_ceil(3), size.div_ceil(4), size.div_ceil(3)),
         6 => wide(size.min(24)),
-        _ => answered_again(size),
+        7 => answered_again(size),
+        8 => over_waves(random.between(2, 7) as u16, random.between(1, 6) as u16, random.between(1, 3) as u16, random.between(1, 3) as u16),
+        _ => over_one(size, random.between(1, 3) as u16),
     };
     for _ in 0..random.below(4) {
         let (one, two) = (random.below(states.into()) as u16, random.below(states.into()) as u16);
@@ -233,6 +235,28 @@ pub fn answered_again(length: u16) -> (u16, Hops) {
     let chain = chain.into_iter().map(|(from, label, to)| (2 + from, label, 2 + to));
     let both = (0..more).flat_map(|i| [(0, 1, 2 + i), (1, 1, 2 + i)]);
     (2 + more, chain.chain(both).chain([(0, 0, 1)]).collect())
+}
+
+/// Waves, and over them a block that is tested again whenever one of their hops falls: silent hops from each of some states to each of others, the former with a hop
+/// labelled 1 to each state of the chains, the latter to each end.
+pub fn over_waves(length: u16, chains: u16, ones: u16, twos: u16) -> (u16, Hops) {
+    let (one, waves) = waves(length, chains);
+    let (two, past) = (one + ones, one + ones + twos);
+    let silent = (one..two).flat_map(|s| (two..past).map(move |t| (s, 0, t)));
+    let order = (two..past).flat_map(|s| (s + 1..past).map(move |t| (s, 0, t)));
+    let tried = (one..two).flat_map(|s| (0..length).map(move |t| (s, 1, t)));
+    let answers = (two..past).flat_map(|s| (length..length + chains).map(move |e| (s, 1, e)));
+    (past, waves.into_iter().chain(silent).chain(order).chain(tried).chain(answers).collect())
+}
+
+/// State 0 has silent hops to ends and to a hub, and those to ends fall one a round: its hop labelled 2 to itself is answered by each end with one to the end before.
+/// Over it some states with a hop labelled 1 to 0 and a silent hop to one state that answers by all ends.
+pub fn over_one(ends: u16, ones: u16) -> (u16, Hops) {
+    let (hub, one, two) = (1 + ends, 2 + ends, 2 + ends + ones);
+    let falling = (1..=hub).map(|e| (0, 0, e)).chain((1..hub).map(|e| (e, 0, hub)));
+    let again = (2..hub).map(|e| (e, 2, e - 1)).chain([(0, 2, 0), (hub, 2, hub)]);
+    let block = (one..two).flat_map(|s| [(s, 0, two), (s, 1, 0)]);
+    (two + 1, falling.chain(again).chain(block).chain((1..hub).map(|e| (two, 1, e))).collect())
 }
 
 /// Numbers around each limit, and such as lose bits where a number is cut to 16.

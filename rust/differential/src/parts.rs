@@ -354,7 +354,7 @@ pub fn rounds(c: &mut Comparer, count: usize) {
     for graph in [make::chain_to_one_end(1024), make::ladder(512), make::waves(20, 20), make::fans(5, 80, 80)] {
         tests_of(graph);
     }
-    for graph in [make::layers(20, 25, 30), make::wide(300), make::answered_again(300)] {
+    for graph in [make::layers(20, 25, 30), make::wide(300), make::answered_again(300), make::over_waves(12, 10, 6, 5), make::over_one(150, 4)] {
         tests_of(graph);
     }
 }
