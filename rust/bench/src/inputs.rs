@@ -105,6 +105,7 @@ pub fn markings() -> Vec<Named> {
         answered_again(),
         graph("three layers of 45 states, silent hops between all", states, 1, layers),
         looked_at_again("two states with 44 labels over waves", 30, 30, (1, 1), 44),
+        over_one(600, 350),
     ]
 }
 
@@ -122,7 +123,6 @@ pub fn long_markings() -> Vec<Named> {
             graph("waves: 60 chains of 36 hops that fall one after the other", states, 3, chain)
         },
         looked_at_again("block of 17 and 23 states over waves, each fall tests all its 391 hops again", 56, 26, (17, 23), 1),
-        over_one(600, 350),
     ]
 }
 
@@ -167,7 +167,7 @@ fn fans() -> Named {
 
 /// State 0 has silent hops to so many ends, which fall one a round, the lowest first: it has a hop labelled 2 to itself, which each end answers by one to the end
 /// before it. Silent hops lead from all of them to a hub, so that nothing else falls. Over it a block: so many states with a hop labelled 1 to 0, and with silent
-/// hops to two that have one to each end. For each hop that falls all those silent hops are tested again, and look through the ends that have fallen.
+/// hops to two that have one to each end. For each hop that falls all those silent hops are tested again, and look through the ends that have fallen. A sweep takes them all at once.
 fn over_one(ends: u16, ones: u16) -> Named {
     let (hub, one) = (1 + ends, 2 + ends);
     let two = one + ones;
