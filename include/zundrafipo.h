@@ -57,6 +57,7 @@
 /* How many elements each entry's answer takes. */
 #define ZF_ANSWER_CHECK 3
 #define ZF_ANSWER_MARK 3
+#define ZF_ANSWER_MARK_FAST 4
 #define ZF_ANSWER_REDUCE 7
 #define ZF_ANSWER_AUDIT 4
 #define ZF_ANSWER_ROUND 4
@@ -67,8 +68,9 @@
 /* How many bytes of stack a call takes at most, whatever it is lent: measured at full size and rounded up (tests/stack.sh), for no proof speaks of a
  * stack. A thread of 256 KiB is enough for every entry. */
 #define ZF_STACK_CHECK 4096
-#define ZF_STACK_MARK 16384
-#define ZF_STACK_REDUCE 24576
+#define ZF_STACK_MARK 49152
+#define ZF_STACK_MARK_FAST 49152
+#define ZF_STACK_REDUCE 65536
 #define ZF_STACK_AUDIT 40960
 #define ZF_STACK_ROUND 40960
 #define ZF_STACK_HOPS_OF 4096
@@ -85,6 +87,11 @@ uint32_t zf_check(uint32_t states, uint32_t labels, uint32_t initial, const uint
 /* Marks the hops of the greatest confluent set. Output: `marks`, one 1 or 0 a hop. */
 uint32_t zf_mark(uint32_t states, uint32_t labels, uint32_t initial, const uint16_t *hops, size_t hops_len, uint8_t *marks, size_t marks_len,
                  uint64_t *answer, size_t answer_len);
+
+/* Marks the same hops by rounds, with the same refusals: the first round tests every silent hop, each later one those still marked that have a hop to
+ * try with a closing that fell in the round before. Output: `marks`, one 1 or 0 a hop. Figure: the number of tests. */
+uint32_t zf_mark_fast(uint32_t states, uint32_t labels, uint32_t initial, const uint16_t *hops, size_t hops_len, uint8_t *marks, size_t marks_len,
+                      uint64_t *answer, size_t answer_len);
 
 /* Reduces a graph. Outputs: `map`, one number a state; `short_hops`, for which room is asked as for the input, hops_len numbers, and of which three
  * are written for each hop of the short graph. Figures: the short graph's state count, label count, hop count and initial state. */

@@ -69,6 +69,7 @@ static void numbers(void) {
 static size_t length;
 static uint32_t check(size_t n) { return zf_check(P1, answer, n); }
 static uint32_t mark(size_t n) { return zf_mark(P1, marks, 4, answer, n); }
+static uint32_t mark_fast(size_t n) { return zf_mark_fast(P1, marks, 4, answer, n); }
 static uint32_t reduce(size_t n) { return zf_reduce(P1, map, 4, list, 12, answer, n); }
 static uint32_t audit(size_t n) { return zf_audit(P1, 2, 2, 0, p1_short, 3, p1_map, 4, answer, n); }
 static uint32_t round_of(size_t n) { return zf_round(P1, 0, 1, answer, n); }
@@ -96,6 +97,7 @@ static void answer_of(const char *entry, uint32_t (*call)(size_t), size_t takes,
 static void answers(void) {
     answer_of("zf_check's answer", check, ZF_ANSWER_CHECK, 0);
     answer_of("zf_mark's answer", mark, ZF_ANSWER_MARK, 0);
+    answer_of("zf_mark_fast's answer", mark_fast, ZF_ANSWER_MARK_FAST, 2);
     answer_of("zf_reduce's answer", reduce, ZF_ANSWER_REDUCE, 0);
     answer_of("zf_audit's answer", audit, ZF_ANSWER_AUDIT, 0);
     answer_of("zf_round's answer", round_of, ZF_ANSWER_ROUND, 1);
@@ -112,6 +114,10 @@ static void nothing(void) {
     expect("mark no hops", zf_mark(1, 1, 0, NULL, 0, NULL, 0, answer, ZF_ANSWER_MARK), ZF_ACCEPTED);
     expect("mark no room", zf_mark(P1, NULL, 0, answer, ZF_ANSWER_MARK), ZF_ROOM);
     expect("mark no answer", zf_mark(P1, marks, 4, NULL, 0), ZF_ROOM);
+    expect("mark_fast no hops", zf_mark_fast(1, 1, 0, NULL, 0, NULL, 0, answer, ZF_ANSWER_MARK_FAST), ZF_ACCEPTED);
+    expect("its tests", answer[3], 0);
+    expect("mark_fast no room", zf_mark_fast(P1, NULL, 0, answer, ZF_ANSWER_MARK_FAST), ZF_ROOM);
+    expect("mark_fast no answer", zf_mark_fast(P1, marks, 4, NULL, 0), ZF_ROOM);
     expect("reduce no hops", zf_reduce(1, 1, 0, NULL, 0, map, 1, NULL, 0, answer, ZF_ANSWER_REDUCE), ZF_ACCEPTED);
     expect("its states", answer[3], 1);
     expect("its hops", answer[5], 0);

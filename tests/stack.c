@@ -16,7 +16,7 @@
 #define NAMES (ZF_MOST_LABELS - 1)
 #define BLOCK (NAMES * (ZF_LONGEST_NAME + 1))
 
-static uint16_t tiles[NUMBERS], unordered[NUMBERS], ring[NUMBERS], knot[NUMBERS], small[NUMBERS], read_hops[NUMBERS], written_hops[NUMBERS];
+static uint16_t tiles[NUMBERS], unordered[NUMBERS], ring[NUMBERS], falling[NUMBERS], knot[NUMBERS], small[NUMBERS], read_hops[NUMBERS], written_hops[NUMBERS];
 static uint16_t map[ZF_MOST_STATES], wrong_map[ZF_MOST_STATES], one_class[ZF_MOST_STATES], written_map[ZF_MOST_STATES];
 static const uint16_t loops[9] = {0, 1, 0, 0, 2, 0, 0, 3, 0};
 static uint8_t names[BLOCK], repeated[BLOCK], marks[ZF_MOST_HOPS], out[ZF_LONGEST_FILE], file[ZF_LONGEST_FILE + 1], repeated_file[ZF_LONGEST_FILE];
@@ -52,6 +52,15 @@ static void fill_ring(void) {
     }
 }
 
+/* From each state to the next a silent hop and three visible ones; the last has visible ones to the first. A silent hop closes while the next one is marked, and
+ * so one falls a round: 1,023 tests in the first round, then one in each of 1,022. */
+static void fill_falling(void) {
+    uint16_t *at = falling;
+    for (unsigned s = 0; s < ZF_MOST_STATES - 1; s++)
+        for (unsigned l = 0; l <= 3; l++) at = put_hop(at, s, l, s + 1);
+    for (unsigned l = 1; l <= 4; l++) at = put_hop(at, ZF_MOST_STATES - 1, l, 0);
+}
+
 /* 64 states, a silent hop from each to each. */
 static void fill_knot(void) {
     uint16_t *at = knot;
@@ -78,10 +87,20 @@ static uint32_t check(void) { return zf_check(FULL, LIST(tiles), answer, ZF_ANSW
 static uint32_t check_order(void) { return zf_check(FULL, LIST(unordered), answer, ZF_ANSWER_CHECK); }
 
 static uint32_t mark(void) { return zf_mark(FULL, LIST(tiles), marks, ZF_MOST_HOPS, answer, ZF_ANSWER_MARK); }
+static uint32_t mark_falling(void) { return zf_mark(FULL, LIST(falling), marks, ZF_MOST_HOPS, answer, ZF_ANSWER_MARK); }
 static uint32_t mark_ring(void) { return zf_mark(FULL, LIST(ring), marks, ZF_MOST_HOPS, answer, ZF_ANSWER_MARK); }
 static uint32_t mark_short(void) { return zf_mark(FULL, LIST(tiles), marks, ZF_MOST_HOPS, answer, ZF_ANSWER_MARK - 1); }
 
+static uint32_t fast_at(const uint16_t *hops, size_t answer_len) { return zf_mark_fast(FULL, LIST(hops), marks, ZF_MOST_HOPS, answer, answer_len); }
+static uint32_t fast(void) { return fast_at(tiles, ZF_ANSWER_MARK_FAST); }
+static uint32_t fast_falling(void) { return fast_at(falling, ZF_ANSWER_MARK_FAST); }
+static uint32_t fast_ring(void) { return fast_at(ring, ZF_ANSWER_MARK_FAST); }
+static uint32_t fast_short(void) { return fast_at(falling, ZF_ANSWER_MARK_FAST - 1); }
+
 static uint32_t reduce(void) { return zf_reduce(FULL, LIST(tiles), written_map, ZF_MOST_STATES, LIST(written_hops), answer, ZF_ANSWER_REDUCE); }
+static uint32_t reduce_falling(void) {
+    return zf_reduce(FULL, LIST(falling), written_map, ZF_MOST_STATES, LIST(written_hops), answer, ZF_ANSWER_REDUCE);
+}
 static uint32_t reduce_ring(void) { return zf_reduce(FULL, LIST(ring), written_map, ZF_MOST_STATES, LIST(written_hops), answer, ZF_ANSWER_REDUCE); }
 static uint32_t reduce_short(void) { return zf_reduce(FULL, LIST(tiles), written_map, ZF_MOST_STATES, LIST(written_hops), answer, ZF_ANSWER_REDUCE - 1); }
 
@@ -128,9 +147,15 @@ static const struct call calls[] = {
     {"zf_check", "accepted", check, ZF_ACCEPTED, 1, 1, ZF_STACK_CHECK},
     {"zf_check", "the last hop not above the one before", check_order, ZF_ORDER, 2, ZF_MOST_HOPS - 1, ZF_STACK_CHECK},
     {"zf_mark", "accepted", mark, ZF_ACCEPTED, 1, 1, ZF_STACK_MARK},
+    {"zf_mark", "a chain that falls a hop a round", mark_falling, ZF_ACCEPTED, 1, 1, ZF_STACK_MARK},
     {"zf_mark", "a ring of 1,024 states", mark_ring, ZF_RING, 2, 0, ZF_STACK_MARK},
     {"zf_mark", "answer too short", mark_short, ZF_ROOM, 0, 0, ZF_STACK_MARK},
+    {"zf_mark_fast", "nothing falls", fast, ZF_ACCEPTED, 3, 512, ZF_STACK_MARK_FAST},
+    {"zf_mark_fast", "a chain that falls a hop a round", fast_falling, ZF_ACCEPTED, 3, 2045, ZF_STACK_MARK_FAST},
+    {"zf_mark_fast", "a ring of 1,024 states", fast_ring, ZF_RING, 3, 0, ZF_STACK_MARK_FAST},
+    {"zf_mark_fast", "answer too short", fast_short, ZF_ROOM, 0, 0, ZF_STACK_MARK_FAST},
     {"zf_reduce", "accepted", reduce, ZF_ACCEPTED, 5, 1792, ZF_STACK_REDUCE},
+    {"zf_reduce", "a chain that falls a hop a round", reduce_falling, ZF_ACCEPTED, 5, ZF_MOST_HOPS, ZF_STACK_REDUCE},
     {"zf_reduce", "a ring of 1,024 states", reduce_ring, ZF_RING, 5, 0, ZF_STACK_REDUCE},
     {"zf_reduce", "answer too short", reduce_short, ZF_ROOM, 0, 0, ZF_STACK_REDUCE},
     {"zf_audit", "of what reduce left", audit, ZF_ACCEPTED, 3, 0, ZF_STACK_AUDIT},
@@ -189,6 +214,7 @@ static size_t stack_of(struct task *task) {
 static int prepare(const char *path) {
     fill_tiles();
     fill_ring();
+    fill_falling();
     fill_knot();
     fill_names();
     if (zf_write(FULL, LIST(tiles), names, BLOCK, file, sizeof file, answer, ZF_ANSWER_WRITE) != ZF_ACCEPTED || answer[3] != ZF_LONGEST_FILE) return 0;
@@ -219,7 +245,7 @@ int main(int argc, char **argv) {
         size_t used;
         memset(answer, 0, sizeof answer);
         used = stack_of(&task);
-        printf("stack: %-11s %-45s %7zu of %6zu\n", call->entry, call->what, used, call->most);
+        printf("stack: %-12s %-45s %7zu of %6zu\n", call->entry, call->what, used, call->most);
         if (task.number != call->number || answer[call->at] != call->figure || used == 0 || used > call->most) {
             failed++;
             fprintf(stderr, "stack: %s, %s: number %" PRIu32 ", figure %" PRIu64 ", expected %" PRIu32 ", %" PRIu64 ", and at most %zu bytes\n", call->entry, call->what,

@@ -95,7 +95,21 @@ fn falling() -> Named {
     graph("ladder that falls a rung a sweep, beside a block", block + 2 * rungs, 3, order.chain(rung).chain(rails).chain(fault))
 }
 
-/// The graphs on which marking by plain sweeps takes longest: they have a name of their own, since each of them takes minutes.
+/// Graphs that are timed for marking alone.
+pub fn markings() -> Vec<Named> {
+    let (layers, states) = layers(45);
+    vec![
+        one_a_round(),
+        many_into("510 silent hops and 1,023 labels to a state with 510 silent hops", false),
+        many_into("the same, one of the silent hops stays marked", true),
+        answered_again(),
+        graph("three layers of 45 states, silent hops between all", states, 1, layers),
+        looked_at_again("two states with 44 labels over waves", 30, 30, (1, 1), 44),
+        over_one(600, 350),
+    ]
+}
+
+/// The graphs on which marking by repeated sweeps takes longest, a second to minutes: sweeps are timed on them with a word of their own, and once.
 pub fn long_markings() -> Vec<Named> {
     vec![
         {
@@ -103,11 +117,81 @@ pub fn long_markings() -> Vec<Named> {
             let (block, states) = looked_up_again(states, 8, 330);
             graph("chain that falls a hop a sweep, beside a block looked up again", states, 3, chain.into_iter().chain(block))
         },
+        fans(),
         {
             let (chain, states) = waves(36, 60);
             graph("waves: 60 chains of 36 hops that fall one after the other", states, 3, chain)
         },
+        looked_at_again("block of 17 and 23 states over waves, each fall tests all its 391 hops again", 56, 26, (17, 23), 1),
     ]
+}
+
+/// From each state to the next a silent hop and one labelled 1; the last has one labelled 1 to the first. A silent hop closes while the next one is marked, and so
+/// one falls a round.
+fn one_a_round() -> Named {
+    let along = (0..1023).flat_map(|s| [[s, 0, s + 1], [s, 1, s + 1]]);
+    graph("chain of 1,024 that falls a hop a round", 1024, 2, along.chain([[1023, 1, 0]]))
+}
+
+/// State 0 has silent hops to 510 states and a hop by each visible label to state 1, which has silent hops to 510 others: for each of these that falls every hop
+/// into 1 is gone over, unless nothing marked leaves 0. Something does where 0 also has a silent hop to a state that answers all labels and to which the 510 lead.
+fn many_into(name: &'static str, stays: bool) -> Named {
+    let silent = (0..510).flat_map(|i| [[0, 0, 2 + i], [1, 0, 512 + i]]);
+    let labels = (1..1024).map(|a| [0, a, 1]);
+    let kept = (0..510).map(|i| [2 + i, 0, 1022]).chain((1..1024).map(|a| [1022, a, 1])).chain([[0, 0, 1022]]);
+    graph(name, 1023, 1024, silent.chain(labels).chain(kept.filter(|_| stays)))
+}
+
+/// States 0 and 1, a silent hop between them, and from both a hop labelled 1 to each state of a chain that falls a hop a round: whenever one falls the hop is tested
+/// again.
+fn answered_again() -> Named {
+    let (chain, states) = one_a_sweep(680);
+    let chain = chain.into_iter().map(|[from, label, to]| [2 + from, label, 2 + to]);
+    let both = (0..680).flat_map(|i| [[0, 1, 2 + i], [1, 1, 2 + i]]);
+    graph("two states with 680 hops, tested again 680 times", 2 + states, 3, chain.chain(both).chain([[0, 0, 1], [1, 1, 1 + states]]))
+}
+
+/// Three layers of so many states, with silent hops from each state to all of the next layer: most pairs of hops are met.
+fn layers(width: u16) -> (Hops, u16) {
+    let between = |s: u16| (0..width).flat_map(move |i| (0..width).map(move |j| [s + i, 0, s + width + j]));
+    (between(0).chain(between(width)).collect(), 3 * width)
+}
+
+/// Five states with silent hops to each of 500, which lead to one: 2,500 hops that stay marked, beside a chain that falls a hop a sweep.
+fn fans() -> Named {
+    let fan = (0..5).flat_map(|s| (5..505).map(move |t| [s, 0, t])).chain((5..505).map(|t| [t, 0, 505]));
+    let (chain, states) = one_a_sweep(500);
+    let chain = chain.into_iter().map(|[from, label, to]| [506 + from, label, 506 + to]);
+    graph("five fans of 500, beside a chain that falls a hop a sweep", 506 + states, 3, fan.chain(chain))
+}
+
+/// State 0 has silent hops to so many ends, which fall one a round, the lowest first: it has a hop labelled 2 to itself, which each end answers by one to the end
+/// before it. Silent hops lead from all of them to a hub, so that nothing else falls. Over it a block: so many states with a hop labelled 1 to 0, and with silent
+/// hops to two that have one to each end. For each hop that falls all those silent hops are tested again, and look through the ends that have fallen. A sweep takes them all at once.
+fn over_one(ends: u16, ones: u16) -> Named {
+    let (hub, one) = (1 + ends, 2 + ends);
+    let two = one + ones;
+    let falling = (1..=hub).map(|e| [0, 0, e]).chain((1..hub).map(|e| [e, 0, hub]));
+    let again = (2..hub).map(|e| [e, 2, e - 1]).chain([[0, 2, 0], [hub, 2, hub]]);
+    let block = (one..two).flat_map(|s| [[s, 0, two], [s, 0, two + 1], [s, 1, 0]]).chain([[two, 0, two + 1]]);
+    let answers = (two..two + 2).flat_map(|s| (1..hub).map(move |e| [s, 1, e]));
+    let name = "block of 350 and 2 states over a state whose 600 hops fall one a round";
+    graph(name, two + 2, 3, falling.chain(again).chain(block).chain(answers))
+}
+
+/// Waves, and over them a block: silent hops from each of some states to each of others, the former with hops by so many labels to each state of the chains, the
+/// latter by the same labels to each end. For each hop of the waves that falls all those silent hops are tested again, and every hop tried looks through the ends
+/// whose chains have fallen, which are numbered first.
+fn looked_at_again(name: &'static str, length: u16, chains: u16, (ones, twos): (u16, u16), labels: u16) -> Named {
+    let (waves, one) = waves(length, chains);
+    let turned = |s: u16| if s < length { s } else { 2 * length + chains - s };
+    let waves = waves.into_iter().map(|[from, label, to]| [turned(from), label, turned(to)]);
+    let two = one + ones;
+    let silent = (one..two).flat_map(|s| (two..two + twos).map(move |t| [s, 0, t]));
+    let order = (two..two + twos).flat_map(|s| (s + 1..two + twos).map(move |t| [s, 0, t]));
+    let tried = (3..3 + labels).flat_map(|a| (one..two).flat_map(move |s| (0..length).map(move |t| [s, a, t])));
+    let answers = (3..3 + labels).flat_map(|a| (two..two + twos).flat_map(move |s| (0..chains).map(move |j| [s, a, length + 1 + j])));
+    graph(name, two + twos, 3 + labels, waves.chain(silent).chain(order).chain(tried).chain(answers))
 }
 
 /// A chain of states with a silent hop to the next and one to the state e; the last one's hop to e has nothing to close it. Whether a state's hop to e closes

@@ -1,10 +1,11 @@
 //! Times each entry of the library beside a plain Rust implementation of the same algorithm, by turns in the same run, and prints a Markdown table.
+//! A second table has mark_fast beside repeated sweeps too.
 //!
 //!     cargo run --release -p bench --features library [-- WORD]
 //!
-//! With a word only the rows that have it are timed. Without the feature the plain implementation is timed alone. Both must leave the same answer
-//! and the same outputs, or the run fails. Times are medians of processor time. The inputs on which marking takes minutes are timed with the word
-//! `minutes` only, and once each.
+//! With a word only the rows that have it are timed. Without the feature the plain implementation is timed alone. All must leave the same answer
+//! and the same outputs, or the run fails. Times are medians of processor time. The inputs on which repeated sweeps take a second to minutes are swept with the
+//! word `minutes` only, and once each.
 
 mod clock;
 mod inputs;
@@ -83,35 +84,75 @@ fn asked(entry: &str, input: &str) -> bool {
     std::env::args().nth(1).map_or(true, |word| entry.contains(&word) || input.contains(&word))
 }
 
-/// Times two ways by turns, and prints their row; the second may be missing.
-fn row_of(entry: &str, input: &str, mut one: Timed, mut two: Option<Timed>) {
+/// Times ways by turns, as far as they are there, and gives the median of each. One that is long was timed when it was made, and is not again.
+fn medians<const N: usize>(what: &str, mut ways: [Option<Timed>; N]) -> [Option<f64>; N] {
+    let mut outputs = ways.iter().flatten().map(|way| &way.outputs);
+    let first = outputs.next();
+    assert!(outputs.all(|other| Some(other) == first), "{what}: all must leave the same");
     let start = clock::now();
-    if let Some(two) = &two {
-        assert!(one.outputs == two.outputs, "{entry} on {input}: both must leave the same");
-    }
-    let long = one.once > LONGEST;
-    if let (true, Some(two)) = (long, &mut two) {
-        two.samples.push(two.once.as_secs_f64());
-    }
-    while !long && (one.samples.len() < 3 || (one.samples.len() < MOST_SAMPLES && clock::now() - start < LONGEST)) {
-        one.sample();
-        if let Some(two) = &mut two {
-            two.sample();
+    for turn in 0..MOST_SAMPLES {
+        if turn >= 3 && clock::now() - start > LONGEST {
+            break;
         }
+        ways.iter_mut().flatten().filter(|way| way.once <= LONGEST).for_each(Timed::sample);
     }
-    let one = one.median();
-    match two.map(Timed::median) {
-        Some(two) => println!("| {entry} | {input} | {} | {} | {:.2} |", show(one), show(two), two / one),
-        None => println!("| {entry} | {input} | {} | - | - |", show(one)),
+    ways.map(|way| way.map(Timed::median))
+}
+
+/// A way of the library beside a plain one.
+fn row_of(entry: &str, input: &str, plain: impl Fn(&mut Outputs) -> u32, of_library: Call) {
+    if asked(entry, input) {
+        let library = entries::library().map(|library| Timed::new(move |o| of_library(library, o)));
+        let [plain, library] = medians(&format!("{entry} on {input}"), [Some(Timed::new(plain)), library]);
+        println!("| {entry} | {input} | {} | {} | {} |", show_some(plain), show_some(library), ratio(library, plain));
     }
 }
 
 /// An entry of the library beside the plain one.
 fn row(entry: &str, input: &str, call: Call) {
-    if asked(entry, input) {
-        let library = entries::library().map(|library| Timed::new(move |o| call(library, o)));
-        row_of(entry, input, Timed::new(|o| call(&Plain, o)), library);
+    row_of(entry, input, |o| call(&Plain, o), call);
+}
+
+/// The entry mark of the library, which goes by rounds, beside the plain rounds.
+fn mark_row(Named { name, graph }: &Named) {
+    let rounds = |o: &mut Outputs| {
+        let number = Plain.mark_fast(graph, &mut o.marks, &mut o.answer);
+        o.answer[3] = 0;
+        number
+    };
+    row_of("mark", name, rounds, &|e, o| e.mark(graph, &mut o.marks, &mut o.answer));
+}
+
+/// Marking by repeated sweeps and by rounds, both plain, and by rounds of the library. The sweeps are left out where they are not wanted.
+fn mark_fast_row(Named { name, graph }: &Named, swept: bool) {
+    let fast: Call = &|e, o| e.mark_fast(graph, &mut o.marks, &mut o.answer);
+    let rounds = Timed::new(|o| fast(&Plain, o));
+    let tests = rounds.outputs.answer[3];
+    let sweeps = swept.then(|| {
+        Timed::new(|o| {
+            o.answer[3] = tests;
+            Plain.mark(graph, &mut o.marks, &mut o.answer)
+        })
+    });
+    let library = entries::library().map(|library| Timed::new(move |o| fast(library, o)));
+    let [sweeps, rounds, library] = medians(&format!("mark_fast on {name}"), [sweeps, Some(rounds), library]);
+    let (to_sweeps, to_rounds) = (ratio(library, sweeps), ratio(library, rounds));
+    println!("| {name} | {tests} | {} | {} | {} | {to_sweeps} | {to_rounds} |", show_some(sweeps), show_some(rounds), show_some(library));
+}
+
+const MARK_FAST_HEAD: &str =
+    "| mark_fast on | tests | plain sweeps | plain rounds | library | to sweeps | to rounds |\n|---|---|---|---|---|---|---|";
+
+fn ratio(of: Option<f64>, to: Option<f64>) -> String {
+    match of.zip(to).map(|(of, to)| of / to) {
+        None => "-".to_string(),
+        Some(ratio) if ratio < 0.1 => format!("{ratio:.4}"),
+        Some(ratio) => format!("{ratio:.2}"),
     }
+}
+
+fn show_some(seconds: Option<f64>) -> String {
+    seconds.map_or("-".to_string(), show)
 }
 
 fn show(seconds: f64) -> String {
@@ -124,26 +165,20 @@ fn show(seconds: f64) -> String {
     }
 }
 
-/// The inputs on which marking by plain sweeps takes minutes.
-fn minutes() {
-    for Named { name, graph } in &inputs::long_markings() {
-        let name = format!("{name} (minutes)");
-        row("mark", &name, &|e, o| e.mark(graph, &mut o.marks, &mut o.answer));
-    }
-}
-
 fn main() {
-    println!("| entry | input | plain | library | ratio |\n|---|---|---|---|---|");
+    let long = inputs::long_markings();
     if std::env::args().nth(1).as_deref() == Some("minutes") {
-        return minutes();
+        println!("{MARK_FAST_HEAD}");
+        long.iter().for_each(|input| mark_fast_row(input, true));
+        return;
     }
+    let markings = inputs::markings();
+    println!("| entry | input | plain | library | ratio |\n|---|---|---|---|---|");
     let graphs = inputs::graphs();
     for Named { name, graph } in &graphs {
         row("check", name, &|e, o| e.check(graph, &mut o.answer));
     }
-    for Named { name, graph } in &graphs {
-        row("mark", name, &|e, o| e.mark(graph, &mut o.marks, &mut o.answer));
-    }
+    graphs.iter().chain(&markings).chain(&long).for_each(mark_row);
     for Named { name, graph } in &graphs {
         row("reduce", name, &|e, o| e.reduce(graph, &mut o.map, &mut o.hops, &mut o.answer));
     }
@@ -182,6 +217,14 @@ fn main() {
     row("read", "19,446 different names of two bytes", &|e, o| e.read(&many, &mut o.hops, &mut o.answer));
     let alike = inputs::alike_names();
     row("read", "16,364 different names of two and three bytes, alike at first", &|e, o| e.read(&alike, &mut o.hops, &mut o.answer));
+
+    println!("\n{MARK_FAST_HEAD}");
+    let swept = graphs.iter().chain(&markings).map(|input| (input, true));
+    for (input, swept) in swept.chain(long.iter().map(|input| (input, false))) {
+        if asked("mark_fast", input.name) {
+            mark_fast_row(input, swept);
+        }
+    }
 }
 
 /// The short graph and the map, by the plain implementation.

@@ -1,4 +1,5 @@
-//! What every entry must answer, and what every lent element must hold afterwards, written straight from the scope document's sentences ("document 01").
+//! What every entry must answer, and what every lent element must hold afterwards, written straight from the scope document's sentences ("document 01"),
+//! and from those of the change requests.
 //!
 //! It is for tests alone and is written to be held against the text: sums are summed, sets are sets, the greatest confluent set is found by
 //! throwing out what violates the condition until nothing changes. It shares no code with the library and none of its ways of computing.
@@ -11,7 +12,7 @@ mod silent;
 
 pub use file::{read, write, LONGEST_FILE};
 pub use graph::{check, hops_of, Graph, Hop};
-pub use silent::{audit, lowest_on_ring, mark, marked, reduce, round, survivors};
+pub use silent::{audit, lowest_on_ring, mark, mark_fast, marked, reduce, round, survivors};
 
 /// An answer: number, table and place, then the figures of the entry.
 #[derive(Clone, Debug, PartialEq, Eq)]

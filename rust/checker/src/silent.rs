@@ -164,6 +164,44 @@ fn try_mark(graph: &Graph, marks: &[u8]) -> Result<Vec<u8>, Refusal> {
     Ok(written(&marked(graph), marks))
 }
 
+/// The entry mark_fast: the answer, and what the output for marks holds afterwards. One figure: the number of tests.
+pub fn mark_fast(graph: &Graph, marks: &[u8]) -> (Answer, Vec<u8>) {
+    match try_mark(graph, marks) {
+        Ok(after) => {
+            let admitted = Admitted::new(graph);
+            let (survives, tests) = all_rounds(&admitted);
+            assert!(after.starts_with(&marks_of(&admitted, &survives)), "the marked set is what survives every k");
+            (Answer::accepted(vec![tests]), after)
+        }
+        Err(refusal) => (Answer::refused(refusal, 1), marks.to_vec()),
+    }
+}
+
+/// What survives every round, and the number of tests. Wish 10: "the first tests every silent hop, each later one only those still marked that have a hop to try
+/// and an s4 .. with s3 to s4 fallen in the round before". What falls in a round is in U for all tests of that round.
+fn all_rounds(graph: &Admitted) -> (Pairs, u64) {
+    let silent = graph.list.iter().filter(|h| h.label == 0);
+    let mut tests = silent.clone().count() as u64;
+    let mut before = Pairs::silent_hops(graph);
+    loop {
+        let now = one_round(graph, &before);
+        let fallen = |s3: u64, s4: u64| before.has(s3, s4) && !now.has(s3, s4);
+        tests += silent.clone().filter(|h| now.has(h.from, h.to) && has_try_that(graph, h.from, h.to, fallen)).count() as u64;
+        if now == before {
+            return (now, tests);
+        }
+        before = now;
+    }
+}
+
+/// For the hop `s1` to `s2` there are a hop s1, a, s3 and an s4, where "s2 has a hop labelled a to s4, or a is silent and s4 = s2", with this of s3 and s4.
+fn has_try_that(graph: &Admitted, s1: u64, s2: u64, of: impl Fn(u64, u64) -> bool) -> bool {
+    graph.leaving[s1 as usize].iter().any(|tried| {
+        let (a, s3) = (tried.label, tried.to);
+        graph.leaving[s2 as usize].iter().any(|h| h.label == a && of(s3, h.to)) || (a == 0 && of(s3, s2))
+    })
+}
+
 /// The entry that answers the round question. One figure: 1 or 0.
 pub fn round(graph: &Graph, place: u64, rounds: u64) -> Answer {
     match try_round(graph, place, rounds) {

@@ -97,6 +97,67 @@ fn p10() {
     assert_eq!([survives(0, 0), survives(0, 1), survives(0, 2), survives(0, 3)], [1, 1, 0, 0]);
 }
 
+/// The number of tests; the marks are those of `mark`.
+fn tests(states: u64, labels: u64, hops: &[u16]) -> u64 {
+    let (answer, after) = mark_fast(&graph(states, labels, hops), &vec![7; hops.len() / 3]);
+    assert_eq!(after, marks(states, labels, hops));
+    assert_eq!((answer.number, answer.table, answer.place, answer.figures.len()), (0, 1, 0, 1));
+    answer.figures[0]
+}
+
+#[test]
+fn tests_of_the_worked_graphs() {
+    assert_eq!(tests(4, 2, &P1), 2);
+    assert_eq!(tests(4, 2, &P1[..9]), 1);
+    assert_eq!(tests(3, 1, &[0, 0, 1, 0, 0, 2]), 2);
+    assert_eq!(tests(3, 1, &[0, 0, 1, 0, 0, 2, 1, 0, 2]), 3);
+    assert_eq!(tests(5, 2, &[0, 0, 1, 0, 0, 2, 1, 0, 3, 1, 1, 4, 2, 0, 3]), 6);
+    assert_eq!(tests(2, 2, &[0, 0, 1, 0, 1, 0, 1, 1, 1]), 1);
+    assert_eq!(tests(5, 3, &P10), 3);
+}
+
+#[test]
+fn no_silent_hop_is_no_test() {
+    assert_eq!(tests(1, 1, &[]), 0);
+    assert_eq!(tests(3, 3, &[0, 1, 0, 0, 2, 1, 2, 1, 0]), 0);
+}
+
+/// From each state to the next a silent hop and one labelled 1; the last has one labelled 1 to the first. A silent hop closes while the next one is marked.
+fn one_a_round(states: u16) -> Vec<u16> {
+    let last = states - 1;
+    (0..states).flat_map(|s| if s < last { vec![s, 0, s + 1, s, 1, s + 1] } else { vec![s, 1, 0] }).collect()
+}
+
+#[test]
+fn a_chain_that_falls_one_hop_a_round() {
+    assert_eq!(tests(2, 2, &one_a_round(2)), 1);
+    assert_eq!(tests(3, 2, &one_a_round(3)), 3);
+    assert_eq!(one_a_round(1024).len(), 3 * 2047);
+    assert_eq!(tests(1024, 2, &one_a_round(1024)), 2045);
+}
+
+/// W10.3: the hop 0 to 1 is tested again when 2 to 3 falls, even if 2 to 4 still closes the hop labelled 1; and once if both fell.
+#[test]
+fn tested_again_wherever_a_closing_fell() {
+    let hops = [0, 0, 1, 0, 1, 2, 1, 1, 3, 1, 1, 4, 2, 0, 3, 2, 0, 4, 2, 2, 5, 3, 0, 4, 4, 2, 5];
+    assert_eq!((marks(6, 3, &hops), tests(6, 3, &hops)), (vec![1, 0, 0, 0, 0, 1, 0, 1, 0], 5));
+    assert_eq!((marks(6, 3, &hops[..24]), tests(6, 3, &hops[..24])), (vec![0, 0, 0, 0, 0, 0, 0, 1], 5));
+}
+
+#[test]
+fn mark_fast_refuses_as_mark() {
+    let p1 = graph(4, 2, &P1);
+    assert_eq!(mark_fast(&p1, &[5; 3]), (mark_fast(&p1, &[]).0, vec![5; 3]));
+    assert_eq!(mark_fast(&p1, &[5; 3]).0.numbers(), [6, 1, 0, 0]);
+    assert_eq!(mark_fast(&p1, &[5; 6]).1, [1, 0, 0, 1, 5, 5]);
+    assert_eq!(mark_fast(&graph(1025, 1, &[]), &[]).0.numbers(), [1, 1, 0, 0]);
+    assert_eq!(mark_fast(&Graph { states: 3, labels: 1, initial: 3, hops: &[] }, &[]).0.numbers(), [2, 1, 0, 0]);
+    assert_eq!(mark_fast(&graph(3, 1, &[0, 0, 1, 1, 0, 3]), &[]).0.numbers(), [3, 1, 1, 0]);
+    assert_eq!(mark_fast(&graph(3, 1, &[0, 0, 1, 0, 0, 1]), &[]).0.numbers(), [4, 1, 1, 0]);
+    // 5 comes before 6: the output is too short
+    assert_eq!(mark_fast(&graph(3, 1, &[0, 0, 1, 1, 0, 2, 2, 0, 1]), &[]).0.numbers(), [5, 1, 1, 0]);
+}
+
 #[test]
 fn limits() {
     assert_eq!(check(&graph(1024, 1, &[])).number, 0);

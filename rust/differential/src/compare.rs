@@ -1,7 +1,7 @@
 //! One call of an entry against the checker: the returned number, every element of the answer and of every output, guard elements before and behind each
 //! of them, and inputs that must stay as they are.
 
-use crate::met::{graph_word, hops_of_condition, read_word, round_word, write_word, Condition, Met};
+use crate::met::{fast_word, graph_word, hops_of_condition, read_word, round_word, write_word, Condition, Met};
 use crate::random::Random;
 use checker::Answer;
 use differential::entries::{Entries, Graph};
@@ -184,6 +184,29 @@ impl<'a> Comparer<'a> {
         let fits = self.judge(returned, expected.number, &expected.numbers(), ("mark", met), &answer, &what);
         self.output(&marks, &after, fits, &what);
         self.same_input(&g.hops, &input, &what);
+    }
+
+    /// The marks must be those of mark too.
+    pub fn mark_fast(&mut self, g: &Graph, len: Length) -> Answer {
+        let what = || format!("mark_fast {}", show(g));
+        let input = g.hops.clone();
+        let len = len.choose(&mut self.random);
+        let mut marks = Lent::<u8>::new(&mut self.random, len);
+        let (expected, after) = checker::mark_fast(&g.lent(), marks.held());
+        let (of_mark, after_mark) = checker::mark(&g.lent(), marks.held());
+        assert_eq!((&expected.numbers()[..3], &after), (&of_mark.numbers()[..], &after_mark), "mark and mark_fast of {g:?}");
+        let mut answer = self.answer(4);
+        let returned = self.entries.mark_fast(g, marks.part(), answer.part());
+        let met = match expected.number {
+            0 => Some(fast_word(g, expected.figures[0], &after)),
+            5 => Some("5"),
+            6 => Some("6"),
+            number => graph_word(g, number, expected.place),
+        };
+        let fits = self.judge(returned, expected.number, &expected.numbers(), ("mark_fast", met), &answer, &what);
+        self.output(&marks, &after, fits, &what);
+        self.same_input(&g.hops, &input, &what);
+        expected
     }
 
     /// Where it accepts, also what came out.

@@ -20,6 +20,7 @@ pub trait Entries {
     fn name(&self) -> &'static str;
     fn check(&self, g: &Graph, answer: &mut [u64]) -> u32;
     fn mark(&self, g: &Graph, marks: &mut [u8], answer: &mut [u64]) -> u32;
+    fn mark_fast(&self, g: &Graph, marks: &mut [u8], answer: &mut [u64]) -> u32;
     fn reduce(&self, g: &Graph, map: &mut [u16], short: &mut [u16], answer: &mut [u64]) -> u32;
     fn audit(&self, one: &Graph, two: &Graph, map: &[u16], answer: &mut [u64]) -> u32;
     fn round(&self, g: &Graph, place: u64, rounds: u32, answer: &mut [u64]) -> u32;
@@ -74,6 +75,13 @@ impl Entries for Plain {
 
     fn mark(&self, g: &Graph, marks: &mut [u8], answer: &mut [u64]) -> u32 {
         with_copies(marks, answer.len() >= 3, |marks| give(plain::mark(shape(g), &g.hops, marks), &[], answer))
+    }
+
+    fn mark_fast(&self, g: &Graph, marks: &mut [u8], answer: &mut [u64]) -> u32 {
+        with_copies(marks, answer.len() >= 4, |marks| {
+            let (found, tests) = plain::mark_fast(shape(g), &g.hops, marks);
+            give(found, &[tests.into()], answer)
+        })
     }
 
     fn reduce(&self, g: &Graph, map: &mut [u16], short: &mut [u16], answer: &mut [u64]) -> u32 {
@@ -143,6 +151,12 @@ impl Entries for Library {
         let (hops, len) = (g.hops.as_ptr(), g.hops.len());
         let (out, out_len) = (marks.as_mut_ptr(), marks.len());
         unsafe { zundrafipo::ffi::zf_mark(g.states, g.labels, g.initial, hops, len, out, out_len, answer.as_mut_ptr(), answer.len()) }
+    }
+
+    fn mark_fast(&self, g: &Graph, marks: &mut [u8], answer: &mut [u64]) -> u32 {
+        let (hops, len) = (g.hops.as_ptr(), g.hops.len());
+        let (out, out_len) = (marks.as_mut_ptr(), marks.len());
+        unsafe { zundrafipo::ffi::zf_mark_fast(g.states, g.labels, g.initial, hops, len, out, out_len, answer.as_mut_ptr(), answer.len()) }
     }
 
     fn reduce(&self, g: &Graph, map: &mut [u16], short: &mut [u16], answer: &mut [u64]) -> u32 {

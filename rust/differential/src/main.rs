@@ -70,6 +70,7 @@ fn main() {
     part("answers of every length", &mut parts::answers);
     part("every condition of every entry", &mut parts::conditions);
     part("random small graphs", &mut |c| parts::small(c, options.small));
+    part("markings of many rounds", &mut |c| parts::rounds(c, options.small / 10));
     part("random files", &mut |c| parts::files(c, options.files));
     part("every damage of a byte", &mut parts::every_damage);
     part("large graphs", &mut |c| parts::large(c, options.large));

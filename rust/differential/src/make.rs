@@ -4,7 +4,7 @@ use crate::random::Random;
 use differential::entries::Graph;
 use std::collections::BTreeSet;
 
-type Hops = BTreeSet<(u16, u16, u16)>;
+pub type Hops = BTreeSet<(u16, u16, u16)>;
 
 pub fn graph_of(states: usize, labels: usize, initial: usize, hops: &Hops) -> Graph {
     let hops = hops.iter().take(4096).flat_map(|&(from, label, to)| [from, label, to]).collect();
@@ -123,6 +123,140 @@ fn product(random: &mut Random, states: usize, labels: usize) -> Hops {
         hops.insert((random.below(states) as u16, 2, random.below(states) as u16));
     }
     hops
+}
+
+/// A graph of up to about so many states whose marking takes many rounds, or in which much is fallen or answered at once: its states in any order, with a few hops
+/// put in or left out.
+pub fn many_rounds(random: &mut Random, most_states: usize) -> Graph {
+    let size = random.between(4, most_states) as u16;
+    let (states, mut hops) = match random.below(10) {
+        0 => chain(size),
+        1 => chain_to_one_end(size),
+        2 => ladder(size / 2),
+        3 => {
+            let chains = random.between(1, 6) as u16;
+            waves((size / 2).max(2), chains)
+        }
+        4 => fans(random.between(1, 3) as u16, (size / 3).max(1), (size / 2).max(2)),
+        5 => layers(size.div_ceil(3), size.div_ceil(4), size.div_ceil(3)),
+        6 => wide(size.min(24)),
+        7 => answered_again(size),
+        8 => over_waves(random.between(2, 7) as u16, random.between(1, 6) as u16, random.between(1, 3) as u16, random.between(1, 3) as u16),
+        _ => over_one(size, random.between(1, 3) as u16),
+    };
+    for _ in 0..random.below(4) {
+        let (one, two) = (random.below(states.into()) as u16, random.below(states.into()) as u16);
+        match random.below(4) {
+            // silent hops lead upward in all of them
+            0 if one != two => _ = hops.insert((one.min(two), 0, one.max(two))),
+            1 => _ = hops.insert((one, random.between(1, 2) as u16, two)),
+            _ => {
+                let at = random.below(hops.len());
+                hops = hops.into_iter().enumerate().filter(|(i, _)| *i != at).map(|(_, hop)| hop).collect();
+            }
+        }
+    }
+    let mut labels = 3;
+    if random.percent(40) {
+        // rows that are longer than what leads to a state: hops that every state has
+        labels = 3 + 20;
+        let to = random.below(states.into()) as u16;
+        hops.extend((0..states).flat_map(|s| (3..labels as u16).map(move |label| (s, label, to))));
+    }
+    let name = order(random, states.into());
+    let hops = hops.into_iter().map(|(from, label, to)| (name[usize::from(from)], label, name[usize::from(to)])).collect();
+    graph_of(states.into(), labels, random.below(states.into()), &hops)
+}
+
+/// From each state to the next a silent hop and one labelled 1, and one labelled 1 from the last to the first: a silent hop closes while the next one is marked,
+/// and one falls a round.
+pub fn chain(states: u16) -> (u16, Hops) {
+    let along = (0..states - 1).flat_map(|s| [(s, 0, s + 1), (s, 1, s + 1)]);
+    (states, along.chain([(states - 1, 1, 0)]).collect())
+}
+
+/// A silent hop from each state to the next and one to the last; the last one but one has a visible hop that nothing answers. The hops to the last fall one a
+/// round, and the others are tested again beside them.
+pub fn chain_to_one_end(states: u16) -> (u16, Hops) {
+    let end = states - 1;
+    let next = (0..end - 1).map(|s| (s, 0, s + 1));
+    (states, next.chain((0..end).map(|s| (s, 0, end))).chain([(end - 1, 2, 0)]).collect())
+}
+
+/// Two rails of hops labelled 1 and silent rungs between them, which fall one a round from the far end.
+pub fn ladder(rungs: u16) -> (u16, Hops) {
+    let rung = (0..rungs).map(|i| (i, 0, rungs + i));
+    let rails = (0..rungs - 1).flat_map(|i| [(i, 1, i + 1), (rungs + i, 1, rungs + i + 1)]);
+    (2 * rungs, rung.chain(rails).chain([(rungs - 1, 2, 0)]).collect())
+}
+
+/// So many chains of such a length at once, each to an end of its own, that fall one after the other: the last state's hop labelled 2 is answered by each end with
+/// one to the next end, and silent hops lead from each end to those after it.
+pub fn waves(length: u16, chains: u16) -> (u16, Hops) {
+    let end = |j: u16| length + j;
+    let next = (0..length - 1).map(|i| (i, 0, i + 1));
+    let out = (0..length).flat_map(|i| (0..chains).map(move |j| (i, 0, end(j))));
+    let order = (0..=chains).flat_map(|j| (j + 1..=chains).map(move |l| (end(j), 0, end(l))));
+    let again = (0..=chains).map(|j| (end(j), 2, end((j + 1).min(chains))));
+    (end(chains) + 1, next.chain(out).chain(order).chain(again).chain([(length - 1, 2, 0)]).collect())
+}
+
+/// States with silent hops to each of so many others, and from those to one; beside them a chain to one end.
+pub fn fans(states: u16, width: u16, length: u16) -> (u16, Hops) {
+    let hub = states + width;
+    let fan = (0..states).flat_map(|s| (states..hub).map(move |t| (s, 0, t))).chain((states..hub).map(|t| (t, 0, hub)));
+    let (more, beside) = chain_to_one_end(length);
+    let beside = beside.into_iter().map(|(from, label, to)| (hub + 1 + from, label, hub + 1 + to));
+    (hub + 1 + more, fan.chain(beside).collect())
+}
+
+/// Three layers of so many states, with silent hops from each state to all of the next layer: none of the last hops closes, and then none of the first.
+pub fn layers(first: u16, second: u16, third: u16) -> (u16, Hops) {
+    let (end1, end2) = (first, first + second);
+    let one = (0..end1).flat_map(|s| (end1..end2).map(move |t| (s, 0, t)));
+    let two = (end1..end2).flat_map(|s| (end2..end2 + third).map(move |t| (s, 0, t)));
+    (end2 + third, one.chain(two).collect())
+}
+
+/// State 0 has silent hops to so many states, as has state 1 to others, and many hops to state 1; only its hop to the last state stays marked, to which those states
+/// lead. Of the hops into 1 each is gone over for each of 1's hops that fell.
+pub fn wide(width: u16) -> (u16, Hops) {
+    let last = 2 + 2 * width;
+    let zero = (0..width).flat_map(|i| [(0, 0, 2 + i), (2 + i, 0, last)]);
+    let one = (0..width).map(|i| (1, 0, 2 + width + i));
+    let many = (1..3).flat_map(|a| [(0, a, 1), (last, a, 1)]);
+    (last + 1, zero.chain(one).chain(many).chain([(0, 0, last)]).collect())
+}
+
+/// States 0 and 1, a silent hop between them, and from both a hop labelled 1 to each state of a chain to one end: whenever one of the chain falls the hop is
+/// tested again.
+pub fn answered_again(length: u16) -> (u16, Hops) {
+    let (more, chain) = chain_to_one_end(length);
+    let chain = chain.into_iter().map(|(from, label, to)| (2 + from, label, 2 + to));
+    let both = (0..more).flat_map(|i| [(0, 1, 2 + i), (1, 1, 2 + i)]);
+    (2 + more, chain.chain(both).chain([(0, 0, 1)]).collect())
+}
+
+/// Waves, and over them a block that is tested again whenever one of their hops falls: silent hops from each of some states to each of others, the former with a hop
+/// labelled 1 to each state of the chains, the latter to each end.
+pub fn over_waves(length: u16, chains: u16, ones: u16, twos: u16) -> (u16, Hops) {
+    let (one, waves) = waves(length, chains);
+    let (two, past) = (one + ones, one + ones + twos);
+    let silent = (one..two).flat_map(|s| (two..past).map(move |t| (s, 0, t)));
+    let order = (two..past).flat_map(|s| (s + 1..past).map(move |t| (s, 0, t)));
+    let tried = (one..two).flat_map(|s| (0..length).map(move |t| (s, 1, t)));
+    let answers = (two..past).flat_map(|s| (length..length + chains).map(move |e| (s, 1, e)));
+    (past, waves.into_iter().chain(silent).chain(order).chain(tried).chain(answers).collect())
+}
+
+/// State 0 has silent hops to ends and to a hub, and those to ends fall one a round: its hop labelled 2 to itself is answered by each end with one to the end before.
+/// Over it some states with a hop labelled 1 to 0 and a silent hop to one state that answers by all ends.
+pub fn over_one(ends: u16, ones: u16) -> (u16, Hops) {
+    let (hub, one, two) = (1 + ends, 2 + ends, 2 + ends + ones);
+    let falling = (1..=hub).map(|e| (0, 0, e)).chain((1..hub).map(|e| (e, 0, hub)));
+    let again = (2..hub).map(|e| (e, 2, e - 1)).chain([(0, 2, 0), (hub, 2, hub)]);
+    let block = (one..two).flat_map(|s| [(s, 0, two), (s, 1, 0)]);
+    (two + 1, falling.chain(again).chain(block).chain((1..hub).map(|e| (two, 1, e))).collect())
 }
 
 /// Numbers around each limit, and such as lose bits where a number is cut to 16.

@@ -25,12 +25,24 @@ const LENGTH: &[&str] = &["1 no multiple of three"];
 /// Row 14 of a name, in a file and in a block.
 const NAME: &[&str] = &["14 no bytes", "14 too many bytes", "14 the same"];
 
+/// What an accepted mark_fast did. Again and again: after the first round there were more than two tests for each silent hop.
+const FAST: &[&str] = &[
+    "0 no silent hop",
+    "0 tested once, all marked",
+    "0 tested once, some marked",
+    "0 tested once, none marked",
+    "0 tested again, some marked",
+    "0 tested again, none marked",
+    "0 tested again and again",
+];
+
 const SHORT_ANSWER: &[&str] = &["answer too short, else accepted", "answer too short, else refused"];
 
 /// All that a run must meet.
-const MUST: [(&str, &[&[&str]]); 12] = [
+const MUST: [(&str, &[&[&str]]); 13] = [
     ("check", &[&["0"], GRAPH, LENGTH, SHORT_ANSWER]),
     ("mark", &[&["0 some marked", "0 none marked"], GRAPH, LENGTH, &["5", "6"], SHORT_ANSWER]),
+    ("mark_fast", &[FAST, GRAPH, LENGTH, &["5", "6"], SHORT_ANSWER]),
     ("reduce", &[&["0 smaller", "0 as many states"], GRAPH, LENGTH, &["5", "6 map", "6 short hops"], SHORT_ANSWER]),
     ("audit", &[&["0 no faults", "0 faults"], &["7", "8 too short", "8 too long", "8 entry"], SHORT_ANSWER]),
     ("audit, graph 1", &[GRAPH, LENGTH]),
@@ -129,6 +141,23 @@ pub fn graph_word(g: &Graph, number: u64, place: u64) -> Option<&'static str> {
         4 if hop(place) == hop(place - 1) => Some("4 the same"),
         4 => Some("4 below"),
         _ => None,
+    }
+}
+
+/// What an accepted mark_fast with so many tests and these marks did.
+pub fn fast_word(g: &Graph, tests: u64, marks: &[u8]) -> &'static str {
+    let hops = g.hops.len() / 3;
+    let silent = g.hops.chunks_exact(3).filter(|hop| hop[1] == 0).count();
+    let marked = marks[..hops].iter().filter(|&&mark| mark == 1).count();
+    let again = tests - silent as u64;
+    match (again, marked) {
+        _ if silent == 0 => "0 no silent hop",
+        (0, 0) => "0 tested once, none marked",
+        (0, _) if marked == silent => "0 tested once, all marked",
+        (0, _) => "0 tested once, some marked",
+        _ if again > 2 * silent as u64 => "0 tested again and again",
+        (_, 0) => "0 tested again, none marked",
+        _ => "0 tested again, some marked",
     }
 }
 

@@ -28,6 +28,10 @@ pub fn worked(c: &mut Comparer) {
     for g in &graphs {
         whole(c, g);
     }
+    let tests = [2, 1, 2, 3, 6, 1, 0, 0, 3];
+    for (g, tests) in graphs.iter().zip(tests) {
+        assert_eq!(c.mark_fast(g, AtLeast(g.hops.len() / 3)).figures, [tests], "tests of {g:?}");
+    }
     let map = [0, 0, 1, 1];
     for hops in [&[0, 1, 1][..], &[], &[0, 1, 1, 1, 1, 1]] {
         c.audit(&graphs[0], &graph(2, 2, hops), &map);
@@ -46,6 +50,7 @@ fn whole(c: &mut Comparer, g: &Graph) {
     c.check(g);
     for len in 0..=hops + 2 {
         c.mark(g, Exactly(len));
+        c.mark_fast(g, Exactly(len));
     }
     for len in 0..=states + 2 {
         c.reduce(g, Exactly(len), AtLeast(numbers));
@@ -120,6 +125,7 @@ pub fn all_small(c: &mut Comparer) {
                 let g = Graph { states: 2, labels: 2, initial, hops: hops.clone() };
                 c.check(&g);
                 c.mark(&g, About(2));
+                c.mark_fast(&g, About(2));
                 c.reduce(&g, About(2), About(6));
                 c.write(&g, &[], About(20));
             }
@@ -138,6 +144,7 @@ pub fn answers(c: &mut Comparer) {
             c.check(&g);
             for short in [g.hops.len(), g.hops.len().saturating_sub(1)] {
                 c.mark(&g, Exactly(short / 3));
+                c.mark_fast(&g, Exactly(short / 3));
                 c.reduce(&g, Exactly(g.states as usize), Exactly(short));
                 c.read(&file, Exactly(short));
             }
@@ -165,6 +172,7 @@ pub fn conditions(c: &mut Comparer) {
         let (states, numbers) = (g.states as usize, g.hops.len());
         c.check(&g);
         c.mark(&g, Exactly(numbers / 3));
+        c.mark_fast(&g, Exactly(numbers / 3));
         c.reduce(&g, Exactly(states), Exactly(numbers));
         c.audit(&g, &p1, &vec![0; states]);
         c.audit(&p1, &g, &[0; 4]);
@@ -263,6 +271,7 @@ fn every_entry(c: &mut Comparer, g: &Graph, other_states: usize) {
     let states = (g.states as usize).min(1030);
     c.check(g);
     c.mark(g, About(hops));
+    c.mark_fast(g, About(hops));
     let (map_len, short_len) = if c.random.percent(50) { (AtLeast(states), AtLeast(g.hops.len())) } else { (About(states), About(g.hops.len())) };
     let reduced = c.reduce(g, map_len, short_len);
     for _ in 0..3 {
@@ -319,6 +328,34 @@ fn audits_about(c: &mut Comparer, one: &Graph, two: &Graph, map: &[u16]) {
         let at = 3 * c.random.below(two.hops.len() / 3);
         fewer.hops.drain(at..at + 3);
         c.audit(one, &fewer, map);
+    }
+}
+
+/// Markings of many rounds: chains, ladders, waves, fans and the like, random small ones and some large ones.
+pub fn rounds(c: &mut Comparer, count: usize) {
+    for _ in 0..count {
+        let g = make::many_rounds(&mut c.random, 30);
+        c.mark(&g, AtLeast(g.hops.len() / 3));
+        c.mark_fast(&g, About(g.hops.len() / 3));
+    }
+    let mut tests_of = |(states, hops): (u16, make::Hops)| {
+        let g = make::graph_of(states.into(), 3, 0, &hops);
+        c.mark(&g, Exactly(hops.len()));
+        c.reduce(&g, Exactly(states.into()), Exactly(3 * hops.len()));
+        c.answer_len = Some(4);
+        let tests = c.mark_fast(&g, Exactly(hops.len())).figures[0];
+        c.answer_len = None;
+        tests
+    };
+    for states in 2..40 {
+        assert_eq!(tests_of(make::chain(states)), 2 * u64::from(states) - 3, "tests of a chain of {states}");
+    }
+    assert_eq!(tests_of(make::chain(1024)), 2045, "tests of the longest chain");
+    for graph in [make::chain_to_one_end(1024), make::ladder(512), make::waves(20, 20), make::fans(5, 80, 80)] {
+        tests_of(graph);
+    }
+    for graph in [make::layers(20, 25, 30), make::wide(300), make::answered_again(300), make::over_waves(12, 10, 6, 5), make::over_one(150, 4)] {
+        tests_of(graph);
     }
 }
 
@@ -474,6 +511,7 @@ pub fn limits(c: &mut Comparer) {
                 let g = Graph { states, labels, initial: 0, hops: hops[..3 * count].to_vec() };
                 c.check(&g);
                 c.mark(&g, About(count));
+                c.mark_fast(&g, About(count));
                 c.reduce(&g, About(states as usize), About(3 * count));
                 c.round(&g, 0, 1);
                 c.write(&g, &[], About(24_600));
@@ -486,10 +524,12 @@ pub fn limits(c: &mut Comparer) {
         g.hops.extend(vec![0; extra]);
         c.check(&g);
         c.mark(&g, About(4096));
+        c.mark_fast(&g, About(4096));
     }
     let g = Graph { states: 3, labels: 1, initial: 0, hops: vec![0; 200_000] };
     c.check(&g);
     c.mark(&g, About(70_000));
+    c.mark_fast(&g, About(70_000));
     // every hop and every pair of a hop and a state is a fault, and so are the initial states
     let one = full(1024, 6, hops[..3 * 4096].to_vec());
     let two = Graph { states: 1024, labels: 6, initial: 1, hops: flat((0..4096u16).map(|i| [0, 2 + i / 1024, i % 1024])) };

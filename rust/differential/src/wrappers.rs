@@ -26,7 +26,7 @@ pub fn wrappers(c: &mut Comparer, count: usize) {
         one_graph(c, &g);
         typed_views(c, &g);
         name_block(c);
-        c.calls += 11;
+        c.calls += 12;
     }
 }
 
@@ -37,6 +37,10 @@ fn one_graph(c: &mut Comparer, g: &Graph) {
 
     let (answer, marks) = checker::mark(&g.lent(), &vec![0; hops]);
     assert_eq!(graph.mark(), split(answer).map(|_| marks.iter().map(|&m| m == 1).collect()), "mark of {g:?}");
+
+    let (answer, marks) = checker::mark_fast(&g.lent(), &vec![0; hops]);
+    let expected = split(answer).map(|figures| zundrafipo::FastMarking { marks: marks.iter().map(|&m| m == 1).collect(), tests: figures[0] as u32 });
+    assert_eq!(graph.mark_fast(), expected, "mark_fast of {g:?}");
 
     let (answer, map, short) = checker::reduce(&g.lent(), &vec![0; (g.states as usize).min(1024)], &vec![0; g.hops.len()]);
     let expected = split(answer).map(|figures| zundrafipo::Reduction {

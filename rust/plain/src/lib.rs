@@ -1,5 +1,7 @@
 //! The entries in plain Rust, by the library's algorithms: a table of first places for the hops of a state, one binary search for a hop among them, sweeps for
-//! rings and marks, searches by states for the audit, a table of what is known for the round question, lengths before bytes for names.
+//! rings, rounds for marks, searches by states for the audit, a table of what is known for the round question, lengths before bytes for names.
+//!
+//! `mark` alone goes another way, by repeated sweeps: that is what marking by rounds is compared with.
 //!
 //! It stands beside the library in the benchmarks and in the differential tests. Nothing here is proved.
 
@@ -10,6 +12,7 @@ mod mark;
 mod reduce;
 mod rings;
 mod round;
+mod rounds;
 
 pub use audit::audit;
 pub use check::{check, hops_of};
@@ -18,6 +21,7 @@ pub use mark::mark;
 pub use reduce::reduce;
 pub use rings::lowest_on_ring;
 pub use round::round;
+pub use rounds::mark_fast;
 
 pub const MOST_STATES: usize = 1024;
 pub const MOST_LABELS: usize = 1024;

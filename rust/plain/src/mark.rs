@@ -1,7 +1,16 @@
 use crate::{check, find_row, first_places, from_at, hop_count, label_at, lowest_on_ring, places, refuse, to_at, Answer, Shape, ACCEPTED};
 
-/// The entry mark.
+/// The entry mark, by repeated sweeps: what the rounds of `mark_fast` are compared with.
 pub fn mark(shape: Shape, hops: &[u16], marks: &mut [u8]) -> Answer {
+    let answer = admitted(shape, hops, marks.len());
+    if answer.number == 0 {
+        set_marks(shape.states as usize, hops, &mut marks[..hop_count(hops)]);
+    }
+    answer
+}
+
+/// The answer of a marking, with room for so many marks.
+pub(crate) fn admitted(shape: Shape, hops: &[u16], room: usize) -> Answer {
     let checked = check(shape, hops);
     if checked.number != 0 {
         return checked;
@@ -9,16 +18,14 @@ pub fn mark(shape: Shape, hops: &[u16], marks: &mut [u8]) -> Answer {
     if let Some(state) = lowest_on_ring(shape.states as usize, hops) {
         return refuse(5, state);
     }
-    let count = hop_count(hops);
-    if marks.len() < count {
+    if room < hop_count(hops) {
         return refuse(6, 0);
     }
-    set_marks(shape.states as usize, hops, &mut marks[..count]);
     ACCEPTED
 }
 
 /// For an admitted graph and one element a hop: silent hops start marked; sweeps in list order, in place, until nothing changes.
-pub(crate) fn set_marks(states: usize, hops: &[u16], marks: &mut [u8]) {
+fn set_marks(states: usize, hops: &[u16], marks: &mut [u8]) {
     let first = first_places(states, hops);
     for (place, mark) in marks.iter_mut().enumerate() {
         *mark = u8::from(label_at(hops, place) == 0);
@@ -66,6 +73,6 @@ fn answered(hops: &[u16], first: &[u16], marks: &[u8], range: std::ops::Range<us
 }
 
 /// `s3` is `s4`, or the silent hop between them is marked.
-fn joined(hops: &[u16], first: &[u16], marks: &[u8], s3: u16, s4: u16) -> bool {
+pub(crate) fn joined(hops: &[u16], first: &[u16], marks: &[u8], s3: u16, s4: u16) -> bool {
     s3 == s4 || find_row(hops, first, (s3, 0, s4)).is_some_and(|place| marks[place] == 1)
 }

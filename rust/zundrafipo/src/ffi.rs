@@ -21,6 +21,19 @@ extern "C" {
         answer_len: usize,
     ) -> u32;
 
+    /// Marks the same hops by rounds. Answer: 4, with the number of tests.
+    pub fn zf_mark_fast(
+        states: u32,
+        labels: u32,
+        initial: u32,
+        hops: *const u16,
+        hops_len: usize,
+        marks: *mut u8,
+        marks_len: usize,
+        answer: *mut u64,
+        answer_len: usize,
+    ) -> u32;
+
     /// Reduces a graph. Answer: 7, with the short graph's state count, label count, hop count and initial state.
     pub fn zf_reduce(
         states: u32,

@@ -25,6 +25,25 @@ pub struct Graph {
     pub flat_hops: Vec<u16>,
 }
 
+/// What [`Graph::mark_fast`] gives: the marks, and how many tests they took.
+///
+/// ```
+/// use zundrafipo::{FastMarking, Graph};
+///
+/// let FastMarking { marks, tests } = Graph::new(3, 1, 0, vec![0, 0, 1, 0, 0, 2, 1, 0, 2]).mark_fast()?;
+/// assert_eq!(marks, [true, true, true]);
+/// assert_eq!(tests, 3);
+/// # Ok::<(), zundrafipo::Refusal>(())
+/// ```
+#[derive(Clone, Debug, PartialEq, Eq, Hash)]
+pub struct FastMarking {
+    /// Whether each hop, in list order, is marked, as [`Graph::mark`] has it.
+    pub marks: Vec<bool>,
+    /// The number of tests. The first round tests every silent hop, each later one those still marked that have a hop to try with a closing that fell in the
+    /// round before.
+    pub tests: u32,
+}
+
 /// What [`Graph::reduce`] gives: the short graph, and the map that leads to it.
 ///
 /// ```
@@ -196,6 +215,53 @@ impl Graph {
             )
         };
         judge(number, answer).map(|_| ())
+    }
+
+    /// The marks of [`Graph::mark`], with the number of tests that the rounds of the marking took.
+    ///
+    /// ```
+    /// use zundrafipo::Graph;
+    ///
+    /// let graph = Graph::new(5, 3, 0, vec![0, 0, 1, 0, 1, 2, 1, 1, 3, 2, 0, 3, 2, 2, 4]);
+    /// let marking = graph.mark_fast()?;
+    /// assert_eq!(marking.marks, graph.mark()?);
+    /// assert_eq!(marking.tests, 3);
+    /// # Ok::<(), zundrafipo::Refusal>(())
+    /// ```
+    pub fn mark_fast(&self) -> Result<FastMarking, Refusal> {
+        let mut marks = vec![0; (self.flat_hops.len() / 3).min(MOST_HOPS)];
+        let tests = self.mark_fast_into(&mut marks)?;
+        Ok(FastMarking { marks: marks.iter().map(|&mark| mark == 1).collect(), tests })
+    }
+
+    /// Writes one 1 or 0 a hop to the front of `marks` and gives the number of tests; nothing past them, and nothing at all with a refusal.
+    ///
+    /// ```
+    /// use zundrafipo::Graph;
+    ///
+    /// let mut marks = [9; 2];
+    /// assert_eq!(Graph::new(2, 1, 0, vec![0, 0, 1]).mark_fast_into(&mut marks)?, 1);
+    /// assert_eq!(marks, [1, 9]);
+    /// # Ok::<(), zundrafipo::Refusal>(())
+    /// ```
+    pub fn mark_fast_into(&self, marks: &mut [u8]) -> Result<u32, Refusal> {
+        let mut answer = [0; 4];
+        // SAFETY: each pointer stands with the length of the slice it is of; outputs and answer are borrowed alone.
+        let number = unsafe {
+            ffi::zf_mark_fast(
+                self.states,
+                self.labels,
+                self.initial,
+                self.flat_hops.as_ptr(),
+                self.flat_hops.len(),
+                marks.as_mut_ptr(),
+                marks.len(),
+                answer.as_mut_ptr(),
+                answer.len(),
+            )
+        };
+        let [_, _, _, tests] = judge(number, answer)?;
+        Ok(figure(tests))
     }
 
     /// The short graph, in which each class of states joined by marked hops is one state, with the map to it.

@@ -31,7 +31,7 @@ mod names;
 mod refusal;
 
 pub use file::{read, read_into, Figures, File};
-pub use graph::{hops_of, Audit, Graph, Reduction, ShortFigures};
+pub use graph::{hops_of, Audit, FastMarking, Graph, Reduction, ShortFigures};
 pub use hop::{Hop, Hops};
 pub use names::{NameBlock, Names};
 pub use refusal::Refusal;
@@ -57,7 +57,7 @@ fn judge<const N: usize>(number: u32, answer: [u64; N]) -> Result<[u64; N], Refu
     }
 }
 
-/// A count or state number of an accepted graph; it is at most 65,535.
+/// A count or state number of an accepted graph, at most 65,535, or the number of tests of its marking, at most 16,777,216.
 fn figure(number: u64) -> u32 {
     u32::try_from(number).expect("a figure of an accepted graph fits 32 bits")
 }

@@ -1,0 +1,245 @@
+use crate::mark::{admitted, joined};
+use crate::{find_row, first_places, from_at, hop_count, label_at, places, to_at, Answer, Shape};
+use std::ops::Range;
+
+/// The entry mark_fast, with the number of tests.
+pub fn mark_fast(shape: Shape, hops: &[u16], marks: &mut [u8]) -> (Answer, u32) {
+    let answer = admitted(shape, hops, marks.len());
+    if answer.number != 0 {
+        return (answer, 0);
+    }
+    (answer, set_marks(shape.states as usize, hops, &mut marks[..hop_count(hops)]))
+}
+
+/// For an admitted graph and one element a hop: silent hops start marked; the first round tests them all, each later one those for which a closing fell in the
+/// round before. What falls in a round keeps its mark until the round is over. Gives the number of tests.
+pub(crate) fn set_marks(states: usize, hops: &[u16], marks: &mut [u8]) -> u32 {
+    let first = first_places(states, hops);
+    let mut tests = 0;
+    for (place, mark) in marks.iter_mut().enumerate() {
+        *mark = u8::from(label_at(hops, place) == 0);
+        tests += u32::from(*mark);
+    }
+    let mut fallen: Vec<u16> = vec![];
+    for place in 0..marks.len() {
+        if marks[place] == 1 && !closes(hops, &first, marks, place) {
+            fallen.push(place as u16);
+        }
+    }
+    if fallen.is_empty() {
+        return tests;
+    }
+    take_off(marks, &fallen);
+    let mut later = Later::new(states, hops, &first, marks);
+    while !fallen.is_empty() {
+        for &place in &fallen {
+            later.note_fallen(marks, place.into());
+        }
+        tests += later.due.len() as u32;
+        later.test(marks, &mut fallen);
+        take_off(marks, &fallen);
+    }
+    tests
+}
+
+fn take_off(marks: &mut [u8], fallen: &[u16]) {
+    for &place in fallen {
+        marks[usize::from(place)] = 0;
+    }
+}
+
+/// The hops into each state: those of `s` stand at `places[first[s]..first[s + 1]]`.
+struct Entering {
+    first: Vec<u16>,
+    places: Vec<u16>,
+}
+
+/// Counted, then filled.
+fn entering(states: usize, hops: &[u16]) -> Entering {
+    let mut first = vec![0; states + 1];
+    for place in 0..hop_count(hops) {
+        first[usize::from(to_at(hops, place)) + 1] += 1;
+    }
+    for state in 0..states {
+        first[state + 1] += first[state];
+    }
+    let mut next = first.clone();
+    let mut places = vec![0; hop_count(hops)];
+    for place in 0..hop_count(hops) {
+        let slot = &mut next[usize::from(to_at(hops, place))];
+        places[usize::from(*slot)] = place as u16;
+        *slot += 1;
+    }
+    Entering { first, places }
+}
+
+/// What the rounds after the first go by.
+struct Later<'a> {
+    hops: &'a [u16],
+    first: &'a [u16],
+    entering: Entering,
+    /// Whether a hop that the first round left marked leaves the state. Elsewhere there is nothing to test again.
+    left: Vec<bool>,
+    /// The hops to test in this round.
+    due: Vec<u16>,
+    /// Whether a hop is among them: it is tested once, however many closings fell.
+    is_due: Vec<bool>,
+}
+
+/// A state's row is gone over unless it is longer than the hops into s4 by more than this: it stands in one place, and those are strewn.
+const ROW_AHEAD: usize = 16;
+
+impl<'a> Later<'a> {
+    fn new(states: usize, hops: &'a [u16], first: &'a [u16], marks: &[u8]) -> Later<'a> {
+        let mut left = vec![false; states];
+        for (place, &mark) in marks.iter().enumerate() {
+            left[usize::from(from_at(hops, place))] |= mark == 1;
+        }
+        let count = hop_count(hops);
+        Later { hops, first, entering: entering(states, hops), left, due: Vec::with_capacity(count), is_due: vec![false; count] }
+    }
+
+    /// Notes the hops s1 to s2 for which the hop at `fallen`, s3 to s4, was a closing. Over the hops s1, a, s3 it looks for s2 where there is less to look at: among
+    /// the silent hops of s1, or among the hops labelled a into s4.
+    fn note_fallen(&mut self, marks: &[u8], fallen: usize) {
+        let (s3, s4) = (from_at(self.hops, fallen), to_at(self.hops, fallen));
+        let into_s4 = places(&self.entering.first, s4);
+        for entry in places(&self.entering.first, s3) {
+            let tried = usize::from(self.entering.places[entry]);
+            let (s1, label) = (from_at(self.hops, tried), label_at(self.hops, tried));
+            if !self.left[usize::from(s1)] {
+                continue;
+            }
+            let row = places(self.first, s1);
+            if row.len() <= into_s4.len() + ROW_AHEAD {
+                self.note_along(marks, row, label, s4);
+            } else {
+                self.note_into(marks, s1, label, s4, into_s4.clone());
+            }
+        }
+    }
+
+    /// Notes the marked hops of a row to an s2 that answers `label` by `s4`.
+    fn note_along(&mut self, marks: &[u8], row: Range<usize>, label: u16, s4: u16) {
+        for place in row {
+            if label_at(self.hops, place) != 0 {
+                return;
+            }
+            if marks[place] == 1 && !self.is_due[place] {
+                let s2 = to_at(self.hops, place);
+                if (label == 0 && s2 == s4) || find_row(self.hops, self.first, (s2, label, s4)).is_some() {
+                    self.note(place);
+                }
+            }
+        }
+    }
+
+    /// Notes the marked hops of `s1` to an s2 that answers `label` by `s4`, by the hops into `s4`.
+    fn note_into(&mut self, marks: &[u8], s1: u16, label: u16, s4: u16, into_s4: Range<usize>) {
+        for entry in into_s4 {
+            let answer = usize::from(self.entering.places[entry]);
+            if label_at(self.hops, answer) == label {
+                self.note_between(marks, s1, from_at(self.hops, answer));
+            }
+        }
+        if label == 0 {
+            self.note_between(marks, s1, s4);
+        }
+    }
+
+    fn note_between(&mut self, marks: &[u8], s1: u16, s2: u16) {
+        if let Some(place) = find_row(self.hops, self.first, (s1, 0, s2)) {
+            if marks[place] == 1 && !self.is_due[place] {
+                self.note(place);
+            }
+        }
+    }
+
+    fn note(&mut self, place: usize) {
+        self.is_due[place] = true;
+        self.due.push(place as u16);
+    }
+
+    /// Tests what is due, which then is nothing; `fallen` takes what fell.
+    fn test(&mut self, marks: &[u8], fallen: &mut Vec<u16>) {
+        fallen.clear();
+        for &place in &self.due {
+            self.is_due[usize::from(place)] = false;
+            if !closes(self.hops, self.first, marks, place.into()) {
+                fallen.push(place);
+            }
+        }
+        self.due.clear();
+    }
+}
+
+/// One test: every hop of the state that the hop at `place` leaves is closed. The hops tried and those that answer are both passed once, label by label (`at`) and
+/// hop by hop (`same`): where s2 has the hop tried itself, s4 is s3 and nothing is looked up.
+fn closes(hops: &[u16], first: &[u16], marks: &[u8], place: usize) -> bool {
+    let s2 = to_at(hops, place);
+    let answers = places(first, s2);
+    let (mut at, mut same) = (answers.start, answers.start);
+    for tried in places(first, from_at(hops, place)) {
+        let (label, s3) = (label_at(hops, tried), to_at(hops, tried));
+        while same < answers.end && (label_at(hops, same), to_at(hops, same)) < (label, s3) {
+            same += 1;
+        }
+        if same < answers.end && (label_at(hops, same), to_at(hops, same)) == (label, s3) {
+            continue;
+        }
+        while at < answers.end && label_at(hops, at) < label {
+            at += 1;
+        }
+        if !((label == 0 && joined(hops, first, marks, s3, s2)) || answered(hops, first, marks, at..answers.end, label, s2, s3)) {
+            return false;
+        }
+    }
+    true
+}
+
+/// So few hops that can answer are tried without a look at which side is shorter.
+const FEW: usize = 4;
+
+/// A hop labelled `label` at the front of `range`, which are hops of `s2`, answers the one to `s3`. The shorter side is gone over: these hops, or the silent hops
+/// of `s3`.
+fn answered(hops: &[u16], first: &[u16], marks: &[u8], range: Range<usize>, label: u16, s2: u16, s3: u16) -> bool {
+    let row = places(first, s3);
+    if range.len() > FEW && no_more_silent(hops, row.clone(), range.clone(), label) {
+        return reached(hops, first, marks, row, label, s2);
+    }
+    for place in range {
+        if label_at(hops, place) != label {
+            return false;
+        }
+        if joined(hops, first, marks, s3, to_at(hops, place)) {
+            return true;
+        }
+    }
+    false
+}
+
+/// There are no more silent hops at the front of `row` than hops labelled `label` at that of `range`. Both are passed until one side ends.
+fn no_more_silent(hops: &[u16], row: Range<usize>, range: Range<usize>, label: u16) -> bool {
+    let (mut silent, mut answer) = (row.start, range.start);
+    while silent < row.end && label_at(hops, silent) == 0 {
+        if answer == range.end || label_at(hops, answer) != label {
+            return false;
+        }
+        silent += 1;
+        answer += 1;
+    }
+    true
+}
+
+/// A marked hop of a row leads to where `s2` has a hop labelled `label`.
+fn reached(hops: &[u16], first: &[u16], marks: &[u8], row: Range<usize>, label: u16, s2: u16) -> bool {
+    for place in row {
+        if label_at(hops, place) != 0 {
+            return false;
+        }
+        if marks[place] == 1 && find_row(hops, first, (s2, label, to_at(hops, place))).is_some() {
+            return true;
+        }
+    }
+    false
+}
