@@ -1,6 +1,7 @@
-// Check, mark and the round question.
+// Check, both markings and the round question.
 use tells_marking::tell_check;
 use tells_marking::tell_mark;
+use tells_marking::tell_mark_fast;
 use tells_marking::tell_round;
 ghost use mathlib.Core.Path.{_≡_};
 ghost use mathlib.Core.List.{[]};
@@ -9,7 +10,8 @@ ghost use Rattle.limits.specs.Check.{checkOf};
 ghost use Rattle.marks.specs.Mark.{markAnswer, markOutput};
 ghost use Rattle.rounds.specs.Question.{questionAnswer, questionOf};
 ghost use Rattle.answers.specs.Numbers.{shapeOf, numbersOf, returned, told, unlessShort};
-ghost use Rattle.tells_marking.specs.Numbers.{roundNumbers};
+ghost use Rattle.fast.specs.Fast.{countedOf};
+ghost use Rattle.tells_marking.specs.Numbers.{roundNumbers, countedNumbers};
 
 #[no_mangle]
 pub extern "C" fn zf_check(
@@ -46,6 +48,28 @@ pub extern "C" fn zf_mark(
         told 3 (numbersOf (markAnswer (shapeOf states labels initial) (now (hops .entry)) (now (marks .entry))) []) (now (answer .entry)) ⌝ }
 {
     tell_mark(states, labels, initial, hops, marks, answer)
+}
+
+#[no_mangle]
+pub extern "C" fn zf_mark_fast(
+    states: u32,
+    labels: u32,
+    initial: u32,
+    hops: &[u16],
+    marks: &mut [u8],
+    answer: &mut [u64],
+) -> u32
+    ensures returns { λ r. ⌜ r ≡
+        returned (markAnswer (shapeOf states labels initial) (now (hops .entry)) (now (marks .entry))) 4 (length (now (answer .entry))) ⌝ }
+    ensures marks { λ r. ⌜ now (marks .exit) ≡
+        unlessShort 4
+        (now (answer .entry))
+        (markOutput (shapeOf states labels initial) (now (hops .entry)) (now (marks .entry)))
+        (now (marks .entry)) ⌝ }
+    ensures tells { λ r. ⌜ now (answer .exit) ≡
+        told 4 (countedNumbers (countedOf (shapeOf states labels initial) (now (hops .entry)) (now (marks .entry)))) (now (answer .entry)) ⌝ }
+{
+    tell_mark_fast(states, labels, initial, hops, marks, answer)
 }
 
 #[no_mangle]

@@ -1,9 +1,14 @@
--- The figures of the round question, as its entry for C and Rust tells them. Assumes nothing: this is a definition.
+-- The figures of the round question and of the faster marking, as their entries for C and Rust tell them. Assumes nothing: these are definitions.
 use Prim.Native.Nat.{ℕ}
 use mathlib.Core.List.{List, [], _∷_}
 use Rattle.rounds.specs.declared.RoundAnswer.{RoundAnswer}
+use Rattle.fast.specs.declared.Counted.{Counted}
 use Rattle.answers.specs.Numbers.{numbersOf}
 
 -- "4: + 1 or 0"
 abbrev pub roundNumbers : RoundAnswer → List ℕ
 roundNumbers r = numbersOf (r .answer) (r .survives ∷ [])
+
+-- "4: tests"
+abbrev pub countedNumbers : Counted → List ℕ
+countedNumbers c = numbersOf (c .answer) (c .tests ∷ [])

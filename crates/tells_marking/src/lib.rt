@@ -1,9 +1,10 @@
-// Check, mark and the round question, as the entries for C and Rust tell them: capi exports these functions unchanged. Each finds the entry's answer
-// and tells it; mark leaves the marks alone where the answer slice is too short.
-// Stands on limits (check), marks (mark), rounds (the round question) and answers (what is told and returned).
+// Check, both markings and the round question, as the entries for C and Rust tell them: capi exports these functions unchanged. Each finds the entry's
+// answer and tells it; a marking leaves the marks alone where the answer slice is too short.
+// Stands on limits (check), marks (mark), fast (the faster marking), rounds (the round question) and answers (what is told and returned).
 use answers::short_number;
 use answers::tell_answer;
 use answers::tell_figure;
+use fast::mark_fast;
 use graph::Shape;
 use limits::check;
 use marks::mark::mark;
@@ -16,7 +17,8 @@ ghost use Rattle.limits.specs.Check.{checkOf};
 ghost use Rattle.marks.specs.Mark.{markAnswer, markOutput};
 ghost use Rattle.rounds.specs.Question.{questionAnswer, questionOf};
 ghost use Rattle.answers.specs.Numbers.{shapeOf, numbersOf, returned, told, unlessShort};
-ghost use Rattle.tells_marking.specs.Numbers.{roundNumbers};
+ghost use Rattle.fast.specs.Fast.{countedOf};
+ghost use Rattle.tells_marking.specs.Numbers.{roundNumbers, countedNumbers};
 
 pub fn tell_check(states: u32, labels: u32, initial: u32, hops: &[u16], answer: &mut [u64]) -> u32
     ensures returns { λ r. ⌜ r ≡ returned (checkOf (shapeOf states labels initial) (now (hops .entry))) 3 (length (now (answer .entry))) ⌝ }
@@ -62,6 +64,38 @@ pub fn tell_mark(
     }
     let a = mark(shape, hops, marks);
     tell_answer(answer, a)
+}
+
+// The same with the number of tests.
+pub fn tell_mark_fast(
+    states: u32,
+    labels: u32,
+    initial: u32,
+    hops: &[u16],
+    marks: &mut [u8],
+    answer: &mut [u64],
+) -> u32
+    ensures returns { λ r. ⌜ r ≡
+        returned (markAnswer (shapeOf states labels initial) (now (hops .entry)) (now (marks .entry))) 4 (length (now (answer .entry))) ⌝ }
+    ensures marks { λ r. ⌜ now (marks .exit) ≡
+        unlessShort 4
+        (now (answer .entry))
+        (markOutput (shapeOf states labels initial) (now (hops .entry)) (now (marks .entry)))
+        (now (marks .entry)) ⌝ }
+    ensures tells { λ r. ⌜ now (answer .exit) ≡
+        told 4 (countedNumbers (countedOf (shapeOf states labels initial) (now (hops .entry)) (now (marks .entry)))) (now (answer .entry)) ⌝ }
+{
+    let shape = Shape {
+        states,
+        labels,
+        initial,
+    };
+    if answer.len() < 4 {
+        let unwritten = mark_answer(shape, hops, marks);
+        return short_number(unwritten, answer.len(), 4);
+    }
+    let counted = mark_fast(shape, hops, marks);
+    tell_figure(answer, counted.answer, counted.tests as u64)
 }
 
 pub fn tell_round(

@@ -10,6 +10,8 @@ use Rattle.shrinking.specs.Rounds.{leftAfter}
 use Rattle.confluence.specs.Rounds.{survives, marked, closes, tried, answered, answers, hopAnswers, answer, closing}
 use Rattle.confluence.specs.Held.{marksOf, markOf}
 use Rattle.marks.specs.Mark.{markAnswer}
+use Rattle.due.specs.Due.{fell, standing, reached, shaken, due, testsIn, testsUpTo, testsOf}
+use Rattle.fast.specs.Fast.{countedOf}
 use Rattle.representatives.specs.Representative.{markedFrom, resting, onward, followed, repOf, newOf, mapOf}
 use Rattle.insertion.specs.Insertion.{insert, collected}
 use Rattle.short.specs.Short.{gathered, shortHops, shortShape, mapList}
@@ -22,6 +24,6 @@ use Rattle.worked.specs.Table.{tableOf, table, outcomeOf, fallsIn}
 pub given : tableOf table ≡ table
 unfolding
     all any least listed tally total flat is labelled has before checkOf countsFit inside firstOutside rises firstFalling leadsBy onRing lowestOnRing ringless
-    leftAfter survives marked closes tried answered answers hopAnswers answer closing marksOf markOf markAnswer markedFrom resting onward followed repOf newOf mapOf
+    leftAfter survives marked closes tried answered answers hopAnswers answer closing marksOf markOf markAnswer fell standing reached shaken due testsIn testsUpTo testsOf countedOf markedFrom resting onward followed repOf newOf mapOf
     insert collected gathered shortHops shortShape mapList initialFault kept lostFaults offers backed matched madeUp madeUpFaults faultsOf reduceAnswer reduceOf firstHigh mapFits auditAnswer auditOf outcomeOf fallsIn
 given = refl

@@ -13,6 +13,7 @@ use Rattle.graph.specs.declared.Shape.{Shape}
 use Rattle.graph.specs.declared.Answer.{Answer}
 use Rattle.confluence.specs.Rounds.{survives}
 use Rattle.marks.specs.Mark.{marksMade, markAnswer}
+use Rattle.fast.specs.Fast.{countedOf}
 use Rattle.quotient.specs.Reduce.{markedMap, markedHops, reduceOf}
 use Rattle.quotient.specs.declared.Reduction.{Reduction}
 use Rattle.bisimulation.specs.Auditing.{auditOf}
@@ -29,12 +30,14 @@ abbrev pub shape : ℕ → ℕ → Shape
 shape n l = shapeFrom n l 0
 
 -- what is said of a graph: what `mark` and `reduce` return for outputs that are long enough ("Reduce .. returns the short graph's state, label and hop
--- counts and initial state"), the marks, for each hop the round in which it falls (0: it is visible, or survives every round), the map and the short hops
+-- counts and initial state"), the marks, for each hop the round in which it falls (0: it is visible, or survives every round), the number of tests that
+-- `mark_fast` returns ("3 for P10"), the map and the short hops
 pub record Outcome : Type 0 where
   pub answer : Answer
   pub reduced : Reduction
   pub marks : List ℕ
   pub falls : List ℕ
+  pub tests : ℕ
   pub map : List ℕ
   pub short : List Hop
 
@@ -63,7 +66,7 @@ fallsIn hs i =
     (least (count hs) (λ (k : ℕ). not (survives hs k (from hs i) (to hs i)))) 0
 
 abbrev pub refusedWith : Answer → Outcome
-refusedWith a = record { answer = a; reduced = record { answer = a; shape = shape 0 0; hops = 0 }; marks = []; falls = []; map = []; short = [] }
+refusedWith a = record { answer = a; reduced = record { answer = a; shape = shape 0 0; hops = 0 }; marks = []; falls = []; tests = 0; map = []; short = [] }
 
 unfoldable pub outcomeOf : Shape → List ℕ → Outcome
 outcomeOf sh hs =
@@ -73,10 +76,19 @@ outcomeOf sh hs =
       reduced = reduceOf sh hs (sh .states) (length hs);
       marks = marksMade hs;
       falls = listed (count hs) (fallsIn hs);
+      tests = countedOf sh hs hs .tests;
       map = markedMap sh hs;
       short = markedHops sh hs;
     })
-    (record { answer = markAnswer sh hs hs; reduced = reduceOf sh hs (sh .states) (length hs); marks = []; falls = []; map = []; short = [] })
+    (record {
+      answer = markAnswer sh hs hs;
+      reduced = reduceOf sh hs (sh .states) (length hs);
+      marks = [];
+      falls = [];
+      tests = countedOf sh hs hs .tests;
+      map = [];
+      short = [];
+    })
 
 abbrev pub entryOf : Entry → Entry
 entryOf e = record { graph = e .graph; hops = e .hops; outcome = outcomeOf (e .graph) (flat (e .hops)) }
@@ -122,13 +134,14 @@ p8 = hop 0 0 1 ∷ hop 1 0 2 ∷ hop 2 0 1 ∷ []
 abbrev p10 : List Hop
 p10 = hop 0 0 1 ∷ hop 0 1 2 ∷ hop 1 1 3 ∷ hop 2 0 3 ∷ hop 2 2 4 ∷ []
 
--- the marks, the falls, the map, the short graph's shape, its hop count and its hops
-abbrev accepts : List ℕ → List ℕ → List ℕ → Shape → ℕ → List Hop → Outcome
-accepts m f t sh n s = record {
+-- the marks, the falls, the number of tests, the map, the short graph's shape, its hop count and its hops
+abbrev accepts : List ℕ → List ℕ → ℕ → List ℕ → Shape → ℕ → List Hop → Outcome
+accepts m f k t sh n s = record {
   answer = accepted;
   reduced = record { answer = accepted; shape = sh; hops = n };
   marks = m;
   falls = f;
+  tests = k;
   map = t;
   short = s;
 }
@@ -136,53 +149,53 @@ accepts m f t sh n s = record {
 abbrev finds : ℕ → Audit
 finds n = record { answer = accepted; faults = n }
 
--- document 01's figures
+-- document 01's figures, and document 02's of wish 10
 abbrev pub table : Table
 table = record {
   graphs =
       record {
         graph = shape 4 2;
         hops = p1;
-        outcome = accepts (1 ∷ 0 ∷ 0 ∷ 1 ∷ []) (0 ∷ 0 ∷ 0 ∷ 0 ∷ []) (0 ∷ 0 ∷ 1 ∷ 1 ∷ []) (shape 2 2) 1 (hop 0 1 1 ∷ []);
+        outcome = accepts (1 ∷ 0 ∷ 0 ∷ 1 ∷ []) (0 ∷ 0 ∷ 0 ∷ 0 ∷ []) 2 (0 ∷ 0 ∷ 1 ∷ 1 ∷ []) (shape 2 2) 1 (hop 0 1 1 ∷ []);
       } ∷
       record {
         graph = shape 4 2;
         hops = p2;
-        outcome = accepts (0 ∷ 0 ∷ 0 ∷ []) (1 ∷ 0 ∷ 0 ∷ []) (0 ∷ 1 ∷ 2 ∷ 3 ∷ []) (shape 4 2) 3 p2;
+        outcome = accepts (0 ∷ 0 ∷ 0 ∷ []) (1 ∷ 0 ∷ 0 ∷ []) 1 (0 ∷ 1 ∷ 2 ∷ 3 ∷ []) (shape 4 2) 3 p2;
       } ∷
       record {
         graph = shape 3 1;
         hops = p3;
-        outcome = accepts (0 ∷ 0 ∷ []) (1 ∷ 1 ∷ []) (0 ∷ 1 ∷ 2 ∷ []) (shape 3 1) 2 p3;
+        outcome = accepts (0 ∷ 0 ∷ []) (1 ∷ 1 ∷ []) 2 (0 ∷ 1 ∷ 2 ∷ []) (shape 3 1) 2 p3;
       } ∷
       record {
         graph = shape 3 1;
         hops = p4;
-        outcome = accepts (1 ∷ 1 ∷ 1 ∷ []) (0 ∷ 0 ∷ 0 ∷ []) (0 ∷ 0 ∷ 0 ∷ []) (shape 1 1) 0 [];
+        outcome = accepts (1 ∷ 1 ∷ 1 ∷ []) (0 ∷ 0 ∷ 0 ∷ []) 3 (0 ∷ 0 ∷ 0 ∷ []) (shape 1 1) 0 [];
       } ∷
       record {
         graph = shape 5 2;
         hops = p5;
         outcome =
-            accepts (1 ∷ 0 ∷ 0 ∷ 0 ∷ 1 ∷ []) (0 ∷ 2 ∷ 1 ∷ 0 ∷ 0 ∷ []) (0 ∷ 0 ∷ 1 ∷ 1 ∷ 2 ∷ []) (shape 3 2) 2 (hop 0 0 1 ∷ hop 0 1 2 ∷ []);
+            accepts (1 ∷ 0 ∷ 0 ∷ 0 ∷ 1 ∷ []) (0 ∷ 2 ∷ 1 ∷ 0 ∷ 0 ∷ []) 6 (0 ∷ 0 ∷ 1 ∷ 1 ∷ 2 ∷ []) (shape 3 2) 2 (hop 0 0 1 ∷ hop 0 1 2 ∷ []);
       } ∷
       record {
         graph = shape 2 2;
         hops = p6;
-        outcome = accepts (1 ∷ 0 ∷ 0 ∷ []) (0 ∷ 0 ∷ 0 ∷ []) (0 ∷ 0 ∷ []) (shape 1 2) 1 (hop 0 1 0 ∷ []);
+        outcome = accepts (1 ∷ 0 ∷ 0 ∷ []) (0 ∷ 0 ∷ 0 ∷ []) 1 (0 ∷ 0 ∷ []) (shape 1 2) 1 (hop 0 1 0 ∷ []);
       } ∷
       record { graph = shape 1 1; hops = p7; outcome = refusedWith (refused 5 0) } ∷
       record { graph = shape 3 1; hops = p8; outcome = refusedWith (refused 5 1) } ∷
       record {
         graph = shape 5 3;
         hops = p10;
-        outcome = accepts (0 ∷ 0 ∷ 0 ∷ 0 ∷ 0 ∷ []) (2 ∷ 0 ∷ 0 ∷ 1 ∷ 0 ∷ []) (0 ∷ 1 ∷ 2 ∷ 3 ∷ 4 ∷ []) (shape 5 3) 5 p10;
+        outcome = accepts (0 ∷ 0 ∷ 0 ∷ 0 ∷ 0 ∷ []) (2 ∷ 0 ∷ 0 ∷ 1 ∷ 0 ∷ []) 3 (0 ∷ 1 ∷ 2 ∷ 3 ∷ 4 ∷ []) (shape 5 3) 5 p10;
       } ∷
       -- ours: P1 begun in state 2, whose representative is state 3, of new number 1 ("Its initial state is the map of the old one")
       record {
         graph = shapeFrom 4 2 2;
         hops = p1;
-        outcome = accepts (1 ∷ 0 ∷ 0 ∷ 1 ∷ []) (0 ∷ 0 ∷ 0 ∷ 0 ∷ []) (0 ∷ 0 ∷ 1 ∷ 1 ∷ []) (shapeFrom 2 2 1) 1 (hop 0 1 1 ∷ []);
+        outcome = accepts (1 ∷ 0 ∷ 0 ∷ 1 ∷ []) (0 ∷ 0 ∷ 0 ∷ 0 ∷ []) 2 (0 ∷ 0 ∷ 1 ∷ 1 ∷ []) (shapeFrom 2 2 1) 1 (hop 0 1 1 ∷ []);
       } ∷
       [];
   -- P9: P1 with its result; with the short hop taken out; with (1,1,1) added to the short graph

@@ -1,0 +1,19 @@
+-- `capi::marking::zf_mark_fast` meets its contract, which is that of `tells_marking::tell_mark_fast`. Assumes nothing.
+use borrow.Author.Needs.{needs}
+use Rattle.capi.proofs.marking.zf_mark_fast.Statement.{statement}
+use Rattle.capi.proofs.marking.zf_mark_fast.Tie as tie
+
+tell-mark-fast-requires : tie.Need-tell-mark-fast-requires
+tell-mark-fast-requires c κs = search needs
+
+same-length : tie.Need-same-length
+same-length c = search needs
+
+same-length-2 : tie.Need-same-length-2
+same-length-2 c = search needs
+
+returns : tie.Need-returns
+returns c = c .before .before .before .before .tell-mark-fast .ensures
+
+pub zf-mark-fast-spec : {M : Type 1} → statement M
+zf-mark-fast-spec = tie.close (tie.spec tell-mark-fast-requires same-length same-length-2 returns)

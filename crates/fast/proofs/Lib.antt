@@ -1,0 +1,2 @@
+pub mod Counting  -- what the entry returns, with a refusal and without
+pub mod Joined  -- the two markings leave the same marks

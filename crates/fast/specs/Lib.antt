@@ -1,0 +1,1 @@
+pub mod Fast  -- the entry's answer with the number of tests

@@ -1,0 +1,29 @@
+// The entry `mark_fast`: document 02's faster marking. It answers, refuses and writes as `mark` does, and returns the number of tests too. That the rounds
+// which it goes through and the sweeps of the first marking leave the same marks is the theorem `joined` (proofs/). It stands on `falling` (the marking
+// behind the refusals), `due` (the number of tests), `marks` (the answer and the output) and, for the theorem, `sweeps`.
+use falling::mark_rounds;
+use graph::Answer;
+use graph::Shape;
+use marks::mark::mark_answer;
+ghost use mathlib.Core.Path.{_≡_};
+ghost use Rattle.marks.specs.Mark.{markOutput};
+ghost use Rattle.fast.specs.Fast.{countedOf};
+
+// What the entry returns: the answer of `mark`, and the number of tests.
+pub struct Counted {
+    pub answer: Answer,
+    pub tests: usize,
+}
+
+// The entry. A refusal writes nothing, and its number of tests is 0.
+pub fn mark_fast(shape: Shape, hops: &[u16], marks: &mut [u8]) -> Counted
+    ensures answers { λ r. ⌜ r ≡ countedOf shape (now (hops .entry)) (now (marks .entry)) ⌝ }
+    ensures writes { λ r. ⌜ now (marks .exit) ≡ markOutput shape (now (hops .entry)) (now (marks .entry)) ⌝ }
+{
+    let answer = mark_answer(shape, hops, marks);
+    if answer.number != 0 {
+        return Counted { answer, tests: 0 };
+    }
+    let tests = mark_rounds(hops, marks);
+    Counted { answer, tests }
+}
