@@ -140,6 +140,9 @@ module _ (hs ms : List ℕ) where
       pub asked-off : {fs qs : List ℕ} {n : ℕ} → (getD ms i 0 ≡ 1 → ⊥) → Queue hs fs qs n → Noted hs ms (Asked hs j p i) fs fs qs n
       asked-off f c = noted-none hs ms c (λ x l w. let e = w .inside .0 in absurd (f (flag-says ms i (rw e at (w .marked)))))
 
+      pub asked-again : {fs qs : List ℕ} {n : ℕ} → getD fs i 0 ≡ 1 → Queue hs fs qs n → Noted hs ms (Asked hs j p i) fs fs qs n
+      asked-again {fs} f c = noted-none hs ms c (λ x l w. rw (w .inside .0) (flag-yes fs i f))
+
     pub out-all : Ascending hs → {lo hi k : ℕ} → lo ≡ firstOf hs (from hs j) → hi ≡ labelledPast hs (from hs j) 0 → hi ≤ k → k ≤ hi →
         {fs new qs : List ℕ} {r : ℕ} → Noted hs ms (Walked (Asked hs j p) lo k) fs new qs r → Noted hs ms (Trying hs j p) fs new qs r
     out-all up {lo} {hi} {k} a b u v g = noted-same hs ms g on back where

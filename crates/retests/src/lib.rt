@@ -220,6 +220,9 @@ fn note_answered(
     if marks[i] != 1 {
         return n;
     }
+    if flags[i] == 1 {
+        return n;
+    }
     if is_point(
         hops,
         starts,
