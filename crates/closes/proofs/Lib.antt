@@ -1,1 +1,1 @@
-pub mod Rows  -- two states' hops walked side by side, and the ways out of X and Y
+pub mod Rows  -- one state's hops walked, two states' side by side, and the ways out of X and Y

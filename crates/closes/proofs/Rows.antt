@@ -1,5 +1,5 @@
--- Two states' hops in an ascending list, walked side by side: the table of first places gives their ranges, and labels do not fall in one. By it the
--- ways out of X and Y. Assumes nothing.
+-- One state's hops in an ascending list walked, and two states' side by side: the table of first places gives their ranges, and labels do not fall in one.
+-- By it the ways out of X and Y. Assumes nothing.
 use Prim.Native.Nat.{ℕ, _+_, _<_, _≤_}
 use mathlib.Core.Path.{_≡_, refl, sym, _∙_}
 use mathlib.Core.Bool.{Bool, true, false, not}
@@ -30,13 +30,56 @@ module _ (hs : List ℕ) (up : Ascending hs) where
   tried-before u s1 s2 e k l =
       tried-other hs u s1 s2 k (λ q. let h : from hs k < s1 = first-below hs up s1 (omega arith) in absurd (omega arith))
 
+-- One state's hops walked: j goes over those of s1, up to `end`.
+pub record Own (hs : List ℕ) (s1 end j : ℕ) : Type 0 where
+  pub end-is : end ≡ firstOf hs (s1 + 1)
+  pub j-from : firstOf hs s1 ≤ j
+  pub j-in : j ≤ end
+
+module _ (hs : List ℕ) (up : Ascending hs) (s1 end : ℕ) where
+  pub own-start : {j : ℕ} → end ≡ firstOf hs (s1 + 1) → j ≡ firstOf hs s1 → Own hs s1 end j
+  own-start p e = record { end-is = p; j-from = omega arith; j-in = omega (arith, first-next hs up s1) }
+
+  module _ {j : ℕ} (o : Own hs s1 end j) where
+    -- X: no hop from `end` on is tried
+    pub tried-done : (u : Pairs) (s2 : ℕ) → end ≤ j → ((k : ℕ) → k < j → tried hs (answers hs (closing u)) s1 s2 k ≡ true) → true ≡ closes hs u s1 s2
+    unfolding closes pastOf
+    tried-done u s2 l f =
+        sym (all-yes (tried hs (answers hs (closing u)) s1 s2) (count hs) (λ k m. ⊎-elim (λ a. f k a) (λ a. tried-other hs u s1 s2 k (after k m a)) (lt-or-le k j))) where
+          after : (k : ℕ) → k < count hs → j ≤ k → from hs k ≡ s1 → ⊥
+          after k m a q = let (x, y) = range-holds hs up s1 m q in omega (arith, o .end-is)
+
+    module _ (l : j < end) where
+      -- the hop at j is one of s1
+      pub own-in : j < count hs
+      own-in = omega (arith, o .end-is, first-within hs up (s1 + 1))
+
+      pub own-from : from hs j ≡ s1
+      unfolding pastOf
+      own-from = range-only hs up s1 own-in (o .j-from) (omega (arith, o .end-is))
+
+      pub own-next : Own hs s1 end (j + 1)
+      own-next = record { end-is = o .end-is; j-from = omega (arith, o .j-from); j-in = omega arith }
+
+      -- X: the one at j is tried, against a silent hop to t, which is s2
+      module _ (u : Pairs) (s2 : ℕ) {t : ℕ} {v : Bool} (q : t ≡ s2) (e : v ≡ answered hs u t j) where
+        pub tried-fails : not v ≡ true → false ≡ closes hs u s1 s2
+        unfolding closes
+        tried-fails n =
+            let d : answered hs u s2 j ≡ false = rw q at (sym e ∙ not-true v n) in
+            sym (all-fails (tried hs (answers hs (closing u)) s1 s2) (count hs) own-in (tried-own hs u s1 s2 j own-from ∙ d))
+
+        pub tried-next : not v ≡ false → ((k : ℕ) → k < j → tried hs (answers hs (closing u)) s1 s2 k ≡ true) →
+            (k : ℕ) → k < j + 1 → tried hs (answers hs (closing u)) s1 s2 k ≡ true
+        tried-next n f =
+            let d : answered hs u s2 j ≡ true = rw q at (sym e ∙ not-false v n) in
+            below-more _ j f (tried-own hs u s1 s2 j own-from ∙ d)
+
 -- Two states' hops walked side by side: j goes over those of s1, up to `end`, and `at` over those of s2, up to `past`. The labels that `at`
 -- has passed are below every label that j has still to come to.
 pub record Walk (hs : List ℕ) (s1 s2 end past at j : ℕ) : Type 0 where
-  pub end-is : end ≡ firstOf hs (s1 + 1)
+  pub own : Own hs s1 end j
   pub past-is : past ≡ firstOf hs (s2 + 1)
-  pub j-from : firstOf hs s1 ≤ j
-  pub j-in : j ≤ end
   pub at-from : firstOf hs s2 ≤ at
   pub at-in : at ≤ past
   pub behind : (k : ℕ) → firstOf hs s2 ≤ k → k < at → (i : ℕ) → j ≤ i → i < end → label hs k < label hs i
@@ -46,24 +89,14 @@ module _ (hs : List ℕ) (up : Ascending hs) (s1 s2 end past : ℕ) where
       Walk hs s1 s2 end past at j
   walk-start p q r e =
       record {
-        end-is = p;
+        own = own-start hs up s1 end p e;
         past-is = q;
-        j-from = omega arith;
-        j-in = omega (arith, first-next hs up s1);
         at-from = omega arith;
         at-in = omega (arith, first-next hs up s2);
         behind = λ k l m i n o. absurd (omega arith);
       }
 
   module _ {at j : ℕ} (w : Walk hs s1 s2 end past at j) (l : j < end) where
-    -- the hop at j is one of s1
-    pub walk-in : j < count hs
-    walk-in = omega (arith, w .end-is, first-within hs up (s1 + 1))
-
-    pub walk-from : from hs j ≡ s1
-    unfolding pastOf
-    walk-from = range-only hs up s1 walk-in (w .j-from) (omega (arith, w .end-is))
-
     pub walk-past : past ≤ count hs
     walk-past = omega (arith, w .past-is, first-within hs up (s2 + 1))
 
@@ -72,16 +105,14 @@ module _ (hs : List ℕ) (up : Ascending hs) (s1 s2 end past : ℕ) where
       later : (i : ℕ) → j ≤ i → i < end → label hs j ≤ label hs i
       unfolding pastOf
       later i m n =
-          let o : i < count hs = omega (arith, w .end-is, first-within hs up (s1 + 1)) in
-          ascending-label hs up m o (walk-from ∙ sym (range-only hs up s1 o (omega (arith, w .j-from)) (omega (arith, w .end-is))))
+          let o : i < count hs = omega (arith, w .own .end-is, first-within hs up (s1 + 1)) in
+          ascending-label hs up m o (own-from hs up s1 end (w .own) l ∙ sym (range-only hs up s1 o (omega (arith, w .own .j-from)) (omega (arith, w .own .end-is))))
 
       pub walk-skip : Walk hs s1 s2 end past r j
       walk-skip =
           record {
-            end-is = w .end-is;
+            own = w .own;
             past-is = w .past-is;
-            j-from = w .j-from;
-            j-in = w .j-in;
             at-from = omega (arith, w .at-from, sk .after);
             at-in = sk .before;
             behind = λ k a b i m n. ⊎-elim (λ c. w .behind k a c i m n) (λ c. omega (arith, sk .passed k c b, later i m n)) (lt-or-le k at);
@@ -109,36 +140,12 @@ module _ (hs : List ℕ) (up : Ascending hs) (s1 s2 end past : ℕ) where
       pub walk-next : Walk hs s1 s2 end past r (j + 1)
       walk-next =
           record {
-            end-is = w .end-is;
+            own = own-next hs up s1 end (w .own) l;
             past-is = w .past-is;
-            j-from = omega (arith, w .j-from);
-            j-in = omega arith;
             at-from = walk-skip .at-from;
             at-in = walk-skip .at-in;
             behind = λ k a b i m n. walk-skip .behind k a b i (omega arith) n;
           }
-
-  -- X: no hop from `end` on is tried, and the one at j is, against a silent hop to t, which is s2
-  module _ (u : Pairs) {at j : ℕ} (w : Walk hs s1 s2 end past at j) where
-    pub tried-done : end ≤ j → ((k : ℕ) → k < j → tried hs (answers hs (closing u)) s1 s2 k ≡ true) → true ≡ closes hs u s1 s2
-    unfolding closes pastOf
-    tried-done l f =
-        sym (all-yes (tried hs (answers hs (closing u)) s1 s2) (count hs) (λ k m. ⊎-elim (λ a. f k a) (λ a. tried-other hs u s1 s2 k (after k m a)) (lt-or-le k j))) where
-          after : (k : ℕ) → k < count hs → j ≤ k → from hs k ≡ s1 → ⊥
-          after k m a q = let (x, y) = range-holds hs up s1 m q in omega (arith, w .end-is)
-
-    module _ (l : j < end) {t : ℕ} {v : Bool} (q : t ≡ s2) (e : v ≡ answered hs u t j) where
-      pub tried-fails : not v ≡ true → false ≡ closes hs u s1 s2
-      unfolding closes
-      tried-fails n =
-          let d : answered hs u s2 j ≡ false = rw q at (sym e ∙ not-true v n) in
-          sym (all-fails (tried hs (answers hs (closing u)) s1 s2) (count hs) (walk-in w l) (tried-own hs u s1 s2 j (walk-from w l) ∙ d))
-
-      pub tried-next : not v ≡ false → ((k : ℕ) → k < j → tried hs (answers hs (closing u)) s1 s2 k ≡ true) →
-          (k : ℕ) → k < j + 1 → tried hs (answers hs (closing u)) s1 s2 k ≡ true
-      tried-next n f =
-          let d : answered hs u s2 j ≡ true = rw q at (sym e ∙ not-false v n) in
-          below-more _ j f (tried-own hs u s1 s2 j (walk-from w l) ∙ d)
 
 -- Y of the hop at place j, labelled a to s3: s2 has the like hop, or itself answers, or another hop of s2 must
 module _ (hs : List ℕ) (u : Pairs) (s2 j : ℕ) {a s3 : ℕ} (p : a ≡ label hs j) (q : s3 ≡ to hs j) {v : Bool} where

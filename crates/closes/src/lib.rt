@@ -1,4 +1,5 @@
-// Whether a silent hop closes with the set that a list of marks is: document 01's condition, decided. `sweeps` asks it of each marked hop.
+// Whether a silent hop closes with the set that a list of marks is: document 01's condition, decided. `sweeps` asks it of each marked hop, and
+// `again` asks one trial, where only some of the hops need be tried.
 // Each hop of the one end is tried once. The hops of both ends are walked side by side, in the order of the list: where the other end has the like hop
 // there is no more to ask, and else `answering` is asked for one that closes.
 // It stands on `confluence` (what closing is, and the set that marks are), `graph` (hops and their order), `starts` (where a state's hops begin) and
@@ -74,7 +75,7 @@ fn stands_at(hops: &[u16], h: Hop, k: usize, past: usize) -> bool
 
 // Y: whether the hop at place j is answered from the state of `rest`, whose hops of its label or above begin there. `same` is where a hop of that state
 // with the label and the end of j would stand: if it does, s4 is s3 itself, and no more is asked.
-fn is_answered(
+pub fn is_answered(
     hops: &[u16],
     starts: &[u16; STARTS],
     marks: &[u8],

@@ -11,7 +11,7 @@ use Rattle.confluence.specs.Rounds.{closing, answers, tried}
 use Rattle.confluence.specs.Held.{heldBy}
 use Rattle.closes.specs.Walk.{Skipped}
 use Rattle.starts.proofs.Firsts.{start-is}
-use Rattle.closes.proofs.Rows.{Walk, walk-start, walk-in, walk-past, walk-row, walk-next, tried-before, tried-done, tried-fails, tried-next}
+use Rattle.closes.proofs.Rows.{own-in, Walk, walk-start, walk-past, walk-row, walk-next, tried-before, tried-done, tried-fails, tried-next}
 use Rattle.closes.proofs.closes_at.Statement.{statement}
 use Rattle.closes.proofs.closes_at.Tie as tie
 
@@ -79,13 +79,13 @@ loop-holds c =
     )
 
 label-at-requires : tie.Need-label-at-requires Inv-loop μ-loop
-label-at-requires c κs = walk-in _ (c .before .before .before .before .before .before .before .before .before .before .before .before .pre .0 .ascending) _ _ _ _ (c .before .loop .inv .0) (c .loop-test .taken)
+label-at-requires c κs = own-in _ (c .before .before .before .before .before .before .before .before .before .before .before .before .pre .0 .ascending) _ _ (c .before .loop .inv .0 .own) (c .loop-test .taken)
 
 skip-requires : tie.Need-skip-requires Inv-loop μ-loop
 skip-requires c κs = (c .before .before .loop .inv .0 .at-in, walk-past _ (c .before .before .before .before .before .before .before .before .before .before .before .before .before .pre .0 .ascending) _ _ _ _ (c .before .before .loop .inv .0) (c .before .loop-test .taken))
 
 to-at-requires-2 : tie.Need-to-at-requires-2 Inv-loop μ-loop
-to-at-requires-2 c κs = walk-in _ (c .before .before .before .before .before .before .before .before .before .before .before .before .before .before .pre .0 .ascending) _ _ _ _ (c .before .before .before .loop .inv .0) (c .before .before .loop-test .taken)
+to-at-requires-2 c κs = own-in _ (c .before .before .before .before .before .before .before .before .before .before .before .before .before .before .pre .0 .ascending) _ _ (c .before .before .before .loop .inv .0 .own) (c .before .before .loop-test .taken)
 
 hop-of-requires : tie.Need-hop-of-requires Inv-loop μ-loop
 hop-of-requires c κs = search needs
@@ -109,21 +109,21 @@ is-answered-requires c κs =
       st .pre .0,
       (
         st .pre .1 .0,
-        (st .pre .1 .1 .0, (walk-in _ (st .pre .0 .ascending) _ _ _ _ w l, (rw t row, rw t (st .pre .0 .to-in (st .args .i) (st .pre .1 .1 .1))))),
+        (st .pre .1 .1 .0, (own-in _ (st .pre .0 .ascending) _ _ (w .own) l, (rw t row, rw t (st .pre .0 .to-in (st .args .i) (st .pre .1 .1 .1))))),
       ),
     )
 
 returns : tie.Need-returns Inv-loop μ-loop
 returns c =
-    tried-fails _ (c .before .before .before .before .before .before .before .before .before .before .before .before .before .before .before .before .before .before .before .pre .0 .ascending) _ _ _ _ _ (c .before .before .before .before .before .before .before .before .loop .inv .0) (c .before .before .before .before .before .before .before .loop-test .taken)
+    tried-fails _ (c .before .before .before .before .before .before .before .before .before .before .before .before .before .before .before .before .before .before .before .pre .0 .ascending) _ _ (c .before .before .before .before .before .before .before .before .loop .inv .0 .own) (c .before .before .before .before .before .before .before .loop-test .taken) _ _
     (c .before .before .before .before .before .before .before .before .before .before .before .before .before .before .to-at .ensures) (c .before .is-answered .ensures) (c .if1 .taken)
 
 add-j : tie.Need-add-j Inv-loop μ-loop
 add-j c =
     omega (
       arith,
-      walk-in _ (c .before .before .before .before .before .before .before .before .before .before .before .before .before .before .before .before .before .before .before .pre .0 .ascending) _ _ _ _
-          (c .before .before .before .before .before .before .before .before .loop .inv .0) (c .before .before .before .before .before .before .before .loop-test .taken),
+      own-in _ (c .before .before .before .before .before .before .before .before .before .before .before .before .before .before .before .before .before .before .before .pre .0 .ascending) _ _
+          (c .before .before .before .before .before .before .before .before .loop .inv .0 .own) (c .before .before .before .before .before .before .before .loop-test .taken),
     )
 
 loop-less : tie.Need-loop-less Inv-loop μ-loop
@@ -135,13 +135,13 @@ loop-again c =
     let (w, f) = c .before .before .before .before .before .before .before .before .loop .inv in
     let l = c .before .before .before .before .before .before .before .loop-test .taken in (
       walk-next _ up _ _ _ _ w l (skipped (c .before .before .before .before .before)),
-      tried-next _ up _ _ _ _ _ w l (c .before .before .before .before .before .before .before .before .before .before .before .before .before .before .to-at .ensures) (c .before .is-answered .ensures) (c .if1 .left) f,
+      tried-next _ up _ _ (w .own) l _ _ (c .before .before .before .before .before .before .before .before .before .before .before .before .before .before .to-at .ensures) (c .before .is-answered .ensures) (c .if1 .left) f,
     )
 
 returns-2 : tie.Need-returns-2 Inv-loop μ-loop
 returns-2 c =
     let (w, f) = c .before .loop .inv in
-    tried-done _ (c .before .before .before .before .before .before .before .before .before .before .before .before .pre .0 .ascending) _ _ _ _ _ w (c .loop-test .left) f
+    tried-done _ (c .before .before .before .before .before .before .before .before .before .before .before .before .pre .0 .ascending) _ _ (w .own) _ _ (c .loop-test .left) f
 
 pub closes-at-spec : {M : Type 1} → statement M
 closes-at-spec =

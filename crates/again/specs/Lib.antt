@@ -1,0 +1,1 @@
+pub mod Again  -- what need not be tried again
