@@ -25,8 +25,8 @@ use Rattle.confluence.proofs.Marks.{marks-at, marks-room, marks-beyond, marks-m
 use Rattle.due.specs.Due.{fell, standing, shaken, due, testsIn, testsUpTo, testsOf}
 use Rattle.due.proofs.Due.{survives-closes, survives-yes, fell-yes, fell-place, standing-yes, standing-silent, standing-survives, standing-falls, shaken-yes, shaken-says, due-standing, not-due-stands, Idle, idle-marked, due-early, tests-end}
 use Rattle.retests.specs.Queue.{Among, Leaving, Queue, Wanted, Noted, ClosedBy, ClosedByAny, Listed, Unset}
-use Rattle.retests.proofs.Queueing.{flag-yes, flag-no, flag-says, flag-there, queue-none}
-use Rattle.falling.specs.Falling.{Lists, Tested, Taken, Falls, After}
+use Rattle.retests.proofs.Queueing.{flag-yes, flag-no, flag-here, flag-there}
+use Rattle.falling.specs.Falling.{Lists, Shed, Tested, Taken, Falls}
 
 -- a list of places that grows by one
 module _ (xs : List ℕ) (n v : ℕ) where
@@ -80,6 +80,15 @@ module _ (c : ℕ) (p : ℕ → Bool) where
 
     pub lists-done : i ≡ c → Lists c p qs n
     lists-done e = record { counted = rw e at (s .counted); each = rw e at (s .each); all = rw e at (s .all) }
+
+-- the states that hops fell from
+pub shed-more : (hs fl : List ℕ) (k : ℕ) {s : ℕ} (sh : List ℕ) → Shed hs fl k sh → s ≡ from hs (getD fl k 0) → s < length sh → Shed hs fl (k + 1) (set sh s 1)
+unfolding Shed
+shed-more hs fl k {s} sh f e l j m = go (eq-or-not (from hs (getD fl j 0)) s) where
+  go : (from hs (getD fl j 0) ≡ s) ⊎ (from hs (getD fl j 0) ≡ s → ⊥) → isMarked (set sh s 1) (from hs (getD fl j 0)) ≡ true
+  go (inl d) = rw d (flag-here sh l)
+  go (inr d) =
+      flag-there sh s 1 (from hs (getD fl j 0)) d ∙ f j (⊎-elim (λ h. h) (λ h. absurd (d (let x : j ≡ k = omega arith in rw x (sym e)))) (lt-or-le j k))
 
 -- testing
 module _ (hs ms qs old : List ℕ) where
@@ -172,7 +181,7 @@ module _ (hs : List ℕ) where
       go true d = flag-yes ms i d
       go false d = flag-no ms i (λ q. absurd (omega arith))
 
-    held-survives : heldBy hs ms ≡ survives hs k
+    pub held-survives : heldBy hs ms ≡ survives hs k
     held-survives = held-set hs (survives hs k) ms out e (survives-silent hs k)
 
     -- what is due and does not close falls

@@ -19,16 +19,18 @@ use Rattle.graph.specs.Hops.{count, from, label, to, has}
 use Rattle.graph.specs.Answers.{most-hops}
 use Rattle.graph.proofs.Places.{has-at}
 use Rattle.shrinking.specs.Pairs.{Pairs, In}
-use Rattle.confluence.specs.Rounds.{survives, marked}
+use Rattle.confluence.specs.Rounds.{answered, closes, survives, marked}
 use Rattle.confluence.specs.Held.{isMarked, markOf, marksOf, everyPair}
 use Rattle.confluence.proofs.Rounds.{survives-none}
+use Rattle.confluence.proofs.Closing.{Answered, answers-yes, closes-says}
+use Rattle.again.specs.Again.{Unshaken}
 use Rattle.confluence.proofs.Marks.{mark-one, mark-visible, marks-at, marks-room, marks-beyond, marks-made}
 use Rattle.due.specs.Due.{fell, standing, shaken, due, testsIn, testsUpTo, testsOf}
-use Rattle.due.proofs.Due.{Shaken, fell-yes, fell-place, standing-yes, standing-silent, standing-survives, standing-falls, shaken-yes, shaken-says, not-due-stands, Idle, none-idle, idle-marked, due-early, tests-end}
+use Rattle.due.proofs.Due.{survives-closes, due-standing, Shaken, fell-yes, fell-place, standing-yes, standing-silent, standing-survives, standing-falls, shaken-yes, shaken-says, not-due-stands, Idle, none-idle, idle-marked, due-early, tests-end}
 use Rattle.retests.specs.Queue.{Among, Leaving, Queue, Wanted, Noted, ClosedBy, ClosedByAny, Listed, Unset}
 use Rattle.retests.proofs.Queueing.{flag-no, queue-none}
-use Rattle.falling.specs.Falling.{Lists, Tested, Taken, Falls, After}
-use Rattle.falling.proofs.Parts.{mark-test, falls-all, marks-next, taken-none}
+use Rattle.falling.specs.Falling.{Lists, Spared, Shed, Tested, Taken, Falls, After}
+use Rattle.falling.proofs.Parts.{held-survives, mark-test, falls-all, marks-next, taken-none}
 
 module _ (hs : List ℕ) where
   -- what fell is the set of the hops whose places are listed
@@ -103,6 +105,28 @@ module _ (hs : List ℕ) where
 
       pub noted-most : r ≤ count hs
       noted-most = omega (arith, g .queue .counted, tally-within (isMarked fs) (count hs))
+
+      -- what leads to a state that nothing fell from is answered as it was in the round before
+      pub noted-spared : (sh : List ℕ) → Shed hs fl n sh → Spared hs ms sh false qs r
+      unfolding Spared Shed Unshaken answered
+      noted-spared sh f b m l j v e o = rw (held-survives hs (suc k) ms out (a .marks)) (answers-yes hs (survives hs (suc k)) (to hs i) (label hs j) (to hs j) (still (closes-says hs (survives hs k) (from hs i) (to hs i) closed (label hs j) (to hs j) (rw e at (has-at hs v))))) where
+        i : ℕ
+        i = getD qs m 0
+
+        closed : closes hs (survives hs k) (from hs i) (to hs i) ≡ true
+        closed =
+            survives-closes hs k (from hs i) (to hs i)
+            (standing-survives hs (suc k) i (due-standing hs (suc k) i (noted-lists .each m l .0) (noted-lists .each m l .1)))
+
+        still : Answered hs (In (survives hs k)) (to hs i) (label hs j) (to hs j) → Answered hs (In (survives hs (suc k))) (to hs i) (label hs j) (to hs j)
+        still (s4, x, inl y) = (s4, x, inl y)
+        still (s4, x, inr y) = (s4, x, inr (⊎-elim (λ z. z) (λ z. fallen z) (decided (survives hs (suc k) (to hs j) s4)))) where
+          fallen : survives hs (suc k) (to hs j) s4 ≡ false → survives hs (suc k) (to hs j) s4 ≡ true
+          fallen z =
+              let p = fell-place hs k (to hs j) s4 (fell-yes hs k (to hs j) s4 y z) in
+              let (q, w, d) = a .falls .all (p .at) (p .within) (p .stood) (p .falls) in
+              let u : isMarked sh (to hs j) ≡ true = rw (d, p .from-is) at (f q w) in
+              clash u o
 
       -- and its tests make the next round
       module _ {new fl' : List ℕ} {n' : ℕ} (d : Tested hs ms qs r fs new fl' n') where

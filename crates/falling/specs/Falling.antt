@@ -6,10 +6,11 @@ use mathlib.Core.List.{List}
 use lib.ListN.{length, getD, drop}
 use Rattle.below.specs.Tests.{tally}
 use Rattle.outputs.specs.Output.{onFront}
-use Rattle.graph.specs.Hops.{count}
+use Rattle.graph.specs.Hops.{count, from}
 use Rattle.graph.specs.Answers.{most-hops}
 use Rattle.confluence.specs.Rounds.{closesAt, survives}
 use Rattle.confluence.specs.Held.{isMarked, heldBy, marksOf}
+use Rattle.again.specs.Again.{Unshaken}
 use Rattle.due.specs.Due.{standing, testsUpTo}
 use Rattle.retests.specs.Queue.{Among}
 
@@ -18,6 +19,14 @@ pub record Lists (c : ℕ) (p : ℕ → Bool) (qs : List ℕ) (n : ℕ) : Type 0
   pub counted : n ≡ tally c p
   pub each : (k : ℕ) → k < n → (getD qs k 0 < c) × (p (getD qs k 0) ≡ true)
   pub all : (i : ℕ) → i < c → p i ≡ true → Among qs n i
+
+-- a test that is not of the first round may leave out what leads to a state that is not shed: for the first n of qs that is answered still
+unfoldable pub Spared : List ℕ → List ℕ → List ℕ → Bool → List ℕ → ℕ → Type 0
+Spared hs ms sh first qs n = first ≡ false → (k : ℕ) → k < n → Unshaken hs ms sh (getD qs k 0)
+
+-- the states that the first n of fl leave have their byte
+unfoldable pub Shed : List ℕ → List ℕ → ℕ → List ℕ → Type 0
+Shed hs fl n sh = (k : ℕ) → k < n → isMarked sh (from hs (getD fl k 0)) ≡ true
 
 -- what testing the first n of qs leaves: the first r of fl are those of them that do not close with the set that the marks are, and their flags are taken
 pub record Tested (hs ms qs : List ℕ) (n : ℕ) (old new fl : List ℕ) (r : ℕ) : Type 0 where

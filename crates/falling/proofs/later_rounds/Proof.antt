@@ -11,13 +11,14 @@ use Rattle.graph.specs.Hops.{count}
 use Rattle.confluence.specs.Held.{isMarked}
 use Rattle.retests.specs.Queue.{Tables, Leaving, Queue, Listed}
 use Rattle.falling.specs.Falling.{AfterSome}
-use Rattle.falling.proofs.Rounds.{noted-lists, noted-most, lists-listed, tested-queue, next-falls, after-next, leaving-next, after-less, after-early, after-tests, after-marks, tests-most}
+use Rattle.falling.proofs.Rounds.{noted-lists, noted-most, noted-spared, lists-listed, tested-queue, next-falls, after-next, leaving-next, after-less, after-early, after-tests, after-marks, tests-most}
 use Rattle.falling.proofs.later_rounds.Statement.{statement}
 use Rattle.falling.proofs.later_rounds.Tie as tie
 use Rattle.falling.proofs.later_rounds.Reads as reads
 use Rattle.falling.proofs.later_rounds.Lts as lts
 use Rattle.ends.proofs.begins_of.Reads as begins-of-reads
 use Rattle.ends.proofs.places_of.Reads as places-of-reads
+use Rattle.falling.proofs.shed_of.Reads as shed-of-reads
 use Rattle.falling.proofs.take_fallen.Reads as take-fallen-reads
 use Rattle.falling.proofs.test_due.Reads as test-due-reads
 use Rattle.retests.proofs.leaving_of.Reads as leaving-of-reads
@@ -64,12 +65,19 @@ add-sum c =
     let l = after-early hs a (c .before .before .before .before .before .before .before .before .loop-test .taken) in
     omega (arith, noted-most hs a (v .3) (c .next-due .ensures), a .tests, tests-most hs (suc (v .4 .0)) (st .pre .0 .hops-most), st .pre .0 .hops-most)
 
+shed-of-requires : tie.Need-shed-of-requires Inv-loop μ-loop
+unfolding Listed
+shed-of-requires c κs =
+    let st = c .before .before .before .before .before .before .before .before .before .before .before .before .before .before .before .before .before .before in
+    let a = c .before .before .before .before .before .before .before .before .before .before .loop .inv .4 .1 in
+    (st .pre .0, (a .most, λ q l. a .falls .each q l .0))
+
 test-due-requires : tie.Need-test-due-requires Inv-loop μ-loop
 test-due-requires c κs =
-    let st = c .before .before .before .before .before .before .before .before .before .before .before .before .before .before .before .before .before .before .before .before .before in
-    let v = c .before .before .before .before .before .before .before .before .before .before .before .before .before .loop .inv in
+    let st = c .before .before .before .before .before .before .before .before .before .before .before .before .before .before .before .before .before .before .before .before .before .before .before .before in
+    let v = c .before .before .before .before .before .before .before .before .before .before .before .before .before .before .before .before .loop .inv in
     let a = v .4 .1 in
-    let g = c .before .before .before .before .next-due .ensures in
+    let g = c .before .before .before .before .before .before .before .next-due .ensures in
     let hs = st .args .hops .now in (
       st .pre .0,
       (
@@ -77,8 +85,11 @@ test-due-requires c κs =
         (
           omega (arith, v .0, st .pre .1 .1 .0),
           (
-            g .queue .flags,
-            (a .room, (omega (arith, noted-most hs a (v .3) g, st .pre .0 .hops-most), lists-listed hs (noted-lists hs a (v .3) g))),
+            noted-spared hs a (v .3) g _ (c .before .before .before .before .before .shed-of .ensures),
+            (
+              g .queue .flags,
+              (a .room, (omega (arith, noted-most hs a (v .3) g, st .pre .0 .hops-most), lists-listed hs (noted-lists hs a (v .3) g))),
+            ),
           ),
         ),
       ),
@@ -86,31 +97,31 @@ test-due-requires c κs =
 
 take-fallen-requires : tie.Need-take-fallen-requires Inv-loop μ-loop
 take-fallen-requires c κs =
-    let st = c .before .before .before .before .before .before .before .before .before .before .before .before .before .before .before .before .before .before .before .before .before .before .before .before in
-    let v = c .before .before .before .before .before .before .before .before .before .before .before .before .before .before .before .before .loop .inv in
+    let st = c .before .before .before .before .before .before .before .before .before .before .before .before .before .before .before .before .before .before .before .before .before .before .before .before .before .before .before in
+    let v = c .before .before .before .before .before .before .before .before .before .before .before .before .before .before .before .before .before .before .before .loop .inv in
     let a = v .4 .1 in
-    let g = c .before .before .before .before .before .before .before .next-due .ensures in
+    let g = c .before .before .before .before .before .before .before .before .before .before .next-due .ensures in
     let d = c .before .before .test-due .ensures in
     let hs = st .args .hops .now in
     (omega (arith, d .most, noted-most hs a (v .3) g, st .pre .0 .hops-most), λ q l. let h = next-falls hs a (v .3) g d .each q l .0 in omega (arith, v .0, st .pre .1 .1 .0))
 
 loop-less : tie.Need-loop-less Inv-loop μ-loop
 loop-less c =
-    let st = c .before .before .before .before .before .before .before .before .before .before .before .before .before .before .before .before .before .before .before .before .before .before .before .before .before .before .before in
-    let v = c .before .before .before .before .before .before .before .before .before .before .before .before .before .before .before .before .before .before .before .loop .inv in
+    let st = c .before .before .before .before .before .before .before .before .before .before .before .before .before .before .before .before .before .before .before .before .before .before .before .before .before .before .before .before .before .before in
+    let v = c .before .before .before .before .before .before .before .before .before .before .before .before .before .before .before .before .before .before .before .before .before .before .loop .inv in
     let a = v .4 .1 in
-    let g = c .before .before .before .before .before .before .before .before .before .before .next-due .ensures in
+    let g = c .before .before .before .before .before .before .before .before .before .before .before .before .before .next-due .ensures in
     let d = c .before .before .before .before .before .test-due .ensures in
     let w = c .before .before .take-fallen .ensures in
     let hs = st .args .hops .now in
-    after-less hs a (v .3) g d (omega (arith, v .0, st .pre .1 .1 .0, c .before .before .take-fallen .kept)) w (c .before .before .before .before .before .before .before .before .before .before .before .before .before .before .before .before .before .before .loop-test .taken)
+    after-less hs a (v .3) g d (omega (arith, v .0, st .pre .1 .1 .0, c .before .before .take-fallen .kept)) w (c .before .before .before .before .before .before .before .before .before .before .before .before .before .before .before .before .before .before .before .before .before .loop-test .taken)
 
 loop-again : tie.Need-loop-again Inv-loop μ-loop
 loop-again c =
-    let st = c .before .before .before .before .before .before .before .before .before .before .before .before .before .before .before .before .before .before .before .before .before .before .before .before .before .before .before in
-    let v = c .before .before .before .before .before .before .before .before .before .before .before .before .before .before .before .before .before .before .before .loop .inv in
+    let st = c .before .before .before .before .before .before .before .before .before .before .before .before .before .before .before .before .before .before .before .before .before .before .before .before .before .before .before .before .before .before in
+    let v = c .before .before .before .before .before .before .before .before .before .before .before .before .before .before .before .before .before .before .before .before .before .before .loop .inv in
     let a = v .4 .1 in
-    let g = c .before .before .before .before .before .before .before .before .before .before .next-due .ensures in
+    let g = c .before .before .before .before .before .before .before .before .before .before .before .before .before .next-due .ensures in
     let d = c .before .before .before .before .before .test-due .ensures in
     let w = c .before .before .take-fallen .ensures in
     let hs = st .args .hops .now in (
@@ -143,6 +154,7 @@ later-rounds-spec =
     loop-holds
     next-due-requires
     add-sum
+    shed-of-requires
     test-due-requires
     take-fallen-requires
     loop-less
