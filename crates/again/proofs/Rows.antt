@@ -16,7 +16,7 @@ use Rattle.graph.proofs.Lookup.{lower-law, first-within, range-holds, range-onl
 use Rattle.starts.proofs.Rows.{first-labelled}
 use Rattle.confluence.specs.Rounds.{answered}
 use Rattle.confluence.specs.Held.{heldBy, isMarked}
-use Rattle.answering.specs.Row.{Row}
+use Rattle.merging.specs.Row.{Row}
 use Rattle.again.specs.Again.{Unshaken}
 
 -- the hops of s labelled a or more

@@ -1,8 +1,7 @@
 // Whether a silent hop that closed before still closes with the set that a list of marks is: the test of a later round of marking. Of the hops from its start
 // only those to shaken states, which lost a silent hop in the round before, are tried again; the others are answered as they were.
 // It stands on `confluence` (what closing is, and the set that marks are), `graph` (hops and their order), `starts` (where a state's hops begin, and the
-// search among them), `answering` (the hops of a state from a label on) and `closes` (one trial).
-use answering::Rest;
+// search among them), `merging` (the hops of a state from a label on) and `closes` (one trial).
 use closes::is_answered;
 use graph::Found;
 use graph::Hop;
@@ -12,6 +11,7 @@ use graph::hops::from_at;
 use graph::hops::hop_of;
 use graph::hops::label_at;
 use graph::hops::to_at;
+use merging::Rest;
 use starts::STARTS;
 use starts::find_row;
 use starts::labelled_from;

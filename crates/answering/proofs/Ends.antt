@@ -17,7 +17,7 @@ use Rattle.confluence.specs.Rounds.{closing, hopAnswers}
 use Rattle.confluence.specs.Held.{isMarked, heldBy}
 use Rattle.confluence.proofs.Closing.{closing-yes, closing-says, hop-answers, none-answers}
 use Rattle.confluence.proofs.Held.{held-yes, held-says}
-use Rattle.answering.proofs.Rows.{ascending-label}
+use Rattle.merging.proofs.Rows.{ascending-label}
 
 -- a hop of s2 leads to an s4 that closes s3
 pub end-answers : (hs : List ℕ) (u : Pairs) (s2 a s3 s4 : ℕ) → has hs s2 a s4 ≡ true → (s3 ≡ s4) ⊎ In u s3 s4 → hopAnswers hs (closing u) s2 a s3 ≡ true

@@ -1,12 +1,17 @@
-// Whether a hop labelled a to s3 is answered by a hop of s2, with the set that a list of marks is: what one trial of document 01's condition asks. Two ways
-// lead to it, over s2's hops of that label and over s3's silent hops, and the shorter one is taken. `closes` asks it of each hop that is tried.
-// It stands on `confluence` (what closing is, and the set that marks are), `graph` (hops and the search) and `starts` (where a state's hops begin).
+// Whether a hop labelled a to s3 is answered by a hop of s2, with the set that a list of marks is: what one trial of document 01's condition asks. Three ways
+// lead to it: where s2's hops of that label are far fewer than s3's silent hops, or far more, each of the few is searched for among the many, and else
+// `merging` walks both side by side. `closes` asks it of each hop that is tried.
+// It stands on `confluence` (what closing is, and the set that marks are), `graph` (hops and the search), `starts` (where a state's hops begin) and
+// `merging` (a state's hops from a place on, which of two such rows is far shorter, and the walk side by side).
 use graph::Found;
 use graph::Label;
 use graph::OldState;
 use graph::hops::hop_of;
 use graph::hops::label_at;
 use graph::hops::to_at;
+use merging::Rest;
+use merging::is_fewer;
+use merging::row_answers;
 use starts::STARTS;
 use starts::find_row;
 use starts::start_of;
@@ -19,14 +24,7 @@ ghost use Rattle.graph.specs.Answers.{most-states};
 ghost use Rattle.confluence.specs.Rounds.{closing, hopAnswers};
 ghost use Rattle.confluence.specs.Held.{heldBy};
 ghost use Rattle.starts.specs.Starts.{Table, Ready};
-ghost use Rattle.answering.specs.Row.{Row};
-
-// The hops of a state from place `at` on; `past` is the place past its last.
-pub struct Rest {
-    pub state: OldState,
-    pub at: usize,
-    pub past: usize,
-}
+ghost use Rattle.merging.specs.Row.{Row};
 
 // Whether the silent hop from x to y is marked.
 fn holds(hops: &[u16], starts: &[u16; STARTS], marks: &[u8], x: OldState, y: OldState) -> bool
@@ -62,33 +60,8 @@ pub fn is_closed(
     holds(hops, starts, marks, s3, s4)
 }
 
-// Whether s3's silent hops, which begin at `at`, are fewer than the hops labelled a that `rest` begins with: the two are counted side by side. Either
-// way of asking gives the same answer; this one chooses the shorter.
-fn is_fewer(hops: &[u16], at: usize, past: usize, rest: Rest, a: Label) -> bool
-    requires silent { ⌜ past ≤ count (now hops) ⌝ }
-    requires row { ⌜ rest .past ≤ count (now hops) ⌝ }
-{
-    let mut m = at;
-    let end = rest.past;
-    let mut k = rest.at;
-    while k < end {
-        if label_at(hops, k).0 != a.0 {
-            return false;
-        }
-        if m >= past {
-            return true;
-        }
-        if label_at(hops, m).0 != 0 {
-            return true;
-        }
-        m += 1;
-        k += 1;
-    }
-    false
-}
-
 // Whether a hop labelled a of `rest` leads to an s4 that closes s3, each of these hops asked.
-fn row_answers(
+fn few_answer(
     hops: &[u16],
     starts: &[u16; STARTS],
     marks: &[u8],
@@ -166,7 +139,7 @@ fn ends_answer(
     false
 }
 
-// Whether a hop labelled a of `rest` leads to an s4 that closes s3: the shorter of s2's hops labelled a and s3's silent hops is gone over.
+// Whether a hop labelled a of `rest` leads to an s4 that closes s3: if s2's hops labelled a or s3's silent hops are far fewer, these are gone over, else both.
 pub fn hop_answers(
     hops: &[u16],
     starts: &[u16; STARTS],
@@ -186,8 +159,16 @@ pub fn hop_answers(
     let t3 = wide(s3.0);
     let at = start_of(starts, t3);
     let past = start_of(starts, t3 + 1);
-    if is_fewer(hops, at, past, rest, a) {
+    let ends = Rest {
+        state: s3,
+        at,
+        past,
+    };
+    if is_fewer(hops, ends, Label(0), rest, a) {
         return ends_answer(hops, starts, marks, rest.state, a, s3);
+    }
+    if is_fewer(hops, rest, a, ends, Label(0)) {
+        return few_answer(hops, starts, marks, rest, a, s3);
     }
     row_answers(hops, starts, marks, rest, a, s3)
 }

@@ -19,8 +19,8 @@ use Rattle.graph.proofs.Lookup.{first-within, range-holds, range-only}
 use Rattle.shrinking.specs.Pairs.{Pairs}
 use Rattle.confluence.specs.Rounds.{closing, hopAnswers, answers, answered, tried, closes}
 use Rattle.starts.proofs.Firsts.{first-below, first-next}
-use Rattle.answering.specs.Row.{Row}
-use Rattle.answering.proofs.Rows.{ascending-label}
+use Rattle.merging.specs.Row.{Row}
+use Rattle.merging.proofs.Rows.{ascending-label}
 use Rattle.closes.specs.Walk.{Skipped}
 use Rattle.confluence.proofs.Closing.{answers-still, answers-else, answers-yes, answered-at, tried-own, tried-other}
 

@@ -2,9 +2,8 @@
 // `again` asks one trial, where only some of the hops need be tried.
 // Each hop of the one end is tried once. The hops of both ends are walked side by side, in the order of the list: where the other end has the like hop
 // there is no more to ask, and else `answering` is asked for one that closes.
-// It stands on `confluence` (what closing is, and the set that marks are), `graph` (hops and their order), `starts` (where a state's hops begin) and
-// `answering` (what one trial asks).
-use answering::Rest;
+// It stands on `confluence` (what closing is, and the set that marks are), `graph` (hops and their order), `starts` (where a state's hops begin),
+// `merging` (a state's hops from a place on) and `answering` (what one trial asks).
 use answering::hop_answers;
 use answering::is_closed;
 use graph::Hop;
@@ -16,6 +15,7 @@ use graph::hops::is_hop_at;
 use graph::hops::label_at;
 use graph::hops::to_at;
 use graph::order::is_before;
+use merging::Rest;
 use starts::STARTS;
 use starts::start_of;
 use starts::wide;
@@ -28,7 +28,7 @@ ghost use Rattle.graph.specs.Answers.{most-states};
 ghost use Rattle.confluence.specs.Rounds.{answered, closesAt};
 ghost use Rattle.confluence.specs.Held.{heldBy};
 ghost use Rattle.starts.specs.Starts.{Table, Ready};
-ghost use Rattle.answering.specs.Row.{Row};
+ghost use Rattle.merging.specs.Row.{Row};
 ghost use Rattle.closes.specs.Walk.{Skipped};
 
 // The first place from `at` on whose label is not below a, or `past`.

@@ -1,4 +1,4 @@
--- `answering::row_answers` meets its contract: no hop passed closes s3. Assumes nothing.
+-- `answering::few_answer` meets its contract: no hop passed closes s3. Assumes nothing.
 use Prim.Native.Nat.{ℕ, _-_, _<_, _≤_}
 use mathlib.Core.Path.{_≡_, _∙_}
 use mathlib.Core.Bool.{false}
@@ -9,9 +9,9 @@ use Rattle.confluence.specs.Rounds.{closing}
 use Rattle.confluence.specs.Held.{heldBy}
 use Rattle.starts.proofs.Firsts.{range-more}
 use Rattle.confluence.proofs.Closing.{closing-is}
-use Rattle.answering.proofs.Rows.{row-answers, row-ends}
-use Rattle.answering.proofs.row_answers.Statement.{statement}
-use Rattle.answering.proofs.row_answers.Tie as tie
+use Rattle.merging.proofs.Rows.{row-answers, row-ends}
+use Rattle.answering.proofs.few_answer.Statement.{statement}
+use Rattle.answering.proofs.few_answer.Tie as tie
 
 abbrev Inv-loop : tie.InvT-loop
 Inv-loop hops starts marks a s3 past k₀ k =
@@ -64,8 +64,8 @@ returns-3 c =
     let lp = c .before .loop in
     row-ends (st .args .hops .now) (st .pre .0 .ascending) _ _ _ _ (st .pre .1 .1 .1 .0) (lp .k) (lp .inv .0) (lp .inv .1) (λ m q. absurd (omega arith))
 
-pub row-answers-spec : {M : Type 1} → statement M
-row-answers-spec =
+pub few-answer-spec : {M : Type 1} → statement M
+few-answer-spec =
     tie.close
     (tie.spec
     Inv-loop

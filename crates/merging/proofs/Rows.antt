@@ -15,7 +15,7 @@ use Rattle.graph.proofs.Ordered.{Below, before-below, ascending-lt}
 use Rattle.shrinking.specs.Pairs.{Pairs}
 use Rattle.confluence.specs.Rounds.{closing, hopAnswers}
 use Rattle.confluence.proofs.Closing.{closing-is, hop-answers, none-answers}
-use Rattle.answering.specs.Row.{Row}
+use Rattle.merging.specs.Row.{Row}
 
 module _ (hs : List ℕ) (up : Ascending hs) where
   pub ascending-label : {i j : ℕ} → i ≤ j → j < count hs → from hs i ≡ from hs j → label hs i ≤ label hs j

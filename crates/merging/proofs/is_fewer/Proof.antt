@@ -1,15 +1,15 @@
--- `answering::is_fewer` reads only places of the list. Assumes nothing.
+-- `merging::is_fewer` reads only places of the list. Assumes nothing.
 use Prim.Native.Nat.{_-_, _≤_}
 use native.Mathlib.Omega.{arith}
 use borrow.Author.Needs.{needs}
-use Rattle.answering.proofs.is_fewer.Statement.{statement}
-use Rattle.answering.proofs.is_fewer.Tie as tie
+use Rattle.merging.proofs.is_fewer.Statement.{statement}
+use Rattle.merging.proofs.is_fewer.Tie as tie
 
 abbrev Inv-loop : tie.InvT-loop
-Inv-loop hops at past a m₀ end k₀ m k = k₀ ≤ k
+Inv-loop hops a b past end m₀ k₀ m k = k₀ ≤ k
 
 abbrev μ-loop : tie.MeasureT-loop
-μ-loop hops at past a m₀ end k₀ m k = end - k
+μ-loop hops a b past end m₀ k₀ m k = end - k
 
 loop-holds : tie.Need-loop-holds Inv-loop μ-loop
 loop-holds c = omega arith

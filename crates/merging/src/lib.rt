@@ -1,0 +1,133 @@
+// Whether a hop labelled a to s3 is answered by a hop of s2, with the set that a list of marks is, by a walk along both rows: s2's hops of that label and
+// s3's silent hops both ascend by their ends, so the two are walked side by side, and none is searched for. `answering` takes this way where neither is
+// far shorter than the other.
+// It stands on `confluence` (what closing is, and the set that marks are), `graph` (hops and their order) and `starts` (where a state's hops begin).
+use graph::Hop;
+use graph::Label;
+use graph::OldState;
+use graph::hops::hop_at;
+use graph::hops::hop_count;
+use graph::hops::hop_of;
+use graph::hops::is_hop_at;
+use graph::hops::label_at;
+use graph::hops::to_at;
+use graph::order::is_before;
+use starts::STARTS;
+use starts::start_of;
+use starts::wide;
+ghost use mathlib.Core.Path.{_≡_};
+ghost use Prim.Native.Nat.{_<_, _≤_};
+ghost use lib.ListN.{length};
+ghost use Rattle.graph.specs.Hops.{count};
+ghost use Rattle.graph.specs.Order.{Ascending};
+ghost use Rattle.graph.specs.Search.{lower, Bracket};
+ghost use Rattle.graph.specs.Answers.{most-states};
+ghost use Rattle.confluence.specs.Rounds.{closing, hopAnswers};
+ghost use Rattle.confluence.specs.Held.{heldBy};
+ghost use Rattle.starts.specs.Starts.{Table, Ready};
+ghost use Rattle.merging.specs.Row.{Row};
+
+// The hops of a state from place `at` on; `past` is the place past its last.
+pub struct Rest {
+    pub state: OldState,
+    pub at: usize,
+    pub past: usize,
+}
+
+// Whether the hops labelled a that `few` begins with are far fewer than those labelled b that `many` begins with: the two are counted side by side, one for
+// each eight. Each way of asking gives the same answer; `answering` chooses by this.
+pub fn is_fewer(hops: &[u16], few: Rest, a: Label, many: Rest, b: Label) -> bool
+    requires ready { ⌜ Ready (now hops) ⌝ }
+    requires row { ⌜ few .past ≤ count (now hops) ⌝ }
+    requires other { ⌜ many .past ≤ count (now hops) ⌝ }
+{
+    let past = few.past;
+    let end = many.past;
+    let mut m = few.at;
+    let mut k = many.at;
+    while k < end {
+        if label_at(hops, k).0 != b.0 {
+            return false;
+        }
+        if m >= past {
+            return true;
+        }
+        if label_at(hops, m).0 != a.0 {
+            return true;
+        }
+        m += 1;
+        k += 8;
+    }
+    false
+}
+
+// The first place whose hop is not before h, walked to from `first`.
+fn ahead(hops: &[u16], h: Hop, first: usize, past: usize) -> usize
+    requires ascending { ⌜ Ascending (now hops) ⌝ }
+    requires bracket { ⌜ Bracket (now hops) h first past ⌝ }
+    ensures { λ r. ⌜ r ≡ lower (now (hops .entry)) h ⌝ }
+{
+    let mut m = first;
+    while m < past {
+        if !is_before(hop_at(hops, m), h) {
+            return m;
+        }
+        m += 1;
+    }
+    m
+}
+
+// Whether the silent hop h is marked, `m` being the place where it would stand.
+fn is_held(hops: &[u16], marks: &[u8], h: Hop, m: usize) -> bool
+    requires ascending { ⌜ Ascending (now hops) ⌝ }
+    requires room { ⌜ count (now hops) ≤ length (now marks) ⌝ }
+    requires silent { ⌜ h .label ≡ 0 ⌝ }
+    requires place { ⌜ m ≡ lower (now hops) h ⌝ }
+    ensures { λ r. ⌜ r ≡ heldBy (now (hops .entry)) (now (marks .entry)) (h .from) (h .to) ⌝ }
+{
+    if m < hop_count(hops) {
+        if is_hop_at(hops, m, h) {
+            return marks[m] == 1;
+        }
+    }
+    false
+}
+
+// Whether a hop labelled a of `rest` leads to an s4 that closes s3. `m` goes along s3's hops with the ends of those of `rest`: it never goes back.
+pub fn row_answers(
+    hops: &[u16],
+    starts: &[u16; STARTS],
+    marks: &[u8],
+    rest: Rest,
+    a: Label,
+    s3: OldState,
+) -> bool
+    requires ready { ⌜ Ready (now hops) ⌝ }
+    requires table { ⌜ Table (now hops) (now starts) ⌝ }
+    requires room { ⌜ count (now hops) ≤ length (now marks) ⌝ }
+    requires row { ⌜ Row (now hops) (rest .state .0) (a .0) (rest .at) (rest .past) ⌝ }
+    requires state { ⌜ s3 .0 < most-states ⌝ }
+    ensures { λ r. ⌜ r ≡ hopAnswers (now (hops .entry)) (closing (heldBy (now (hops .entry)) (now (marks .entry)))) (rest .state .0) (a .0) (s3 .0) ⌝ }
+{
+    let past = rest.past;
+    let t3 = wide(s3.0);
+    let end = start_of(starts, t3 + 1);
+    let mut m = start_of(starts, t3);
+    let mut k = rest.at;
+    while k < past {
+        if label_at(hops, k).0 != a.0 {
+            return false;
+        }
+        let s4 = to_at(hops, k);
+        if s3.0 == s4.0 {
+            return true;
+        }
+        let h = hop_of(s3.0, 0, s4.0);
+        m = ahead(hops, h, m, end);
+        if is_held(hops, marks, h, m) {
+            return true;
+        }
+        k += 1;
+    }
+    false
+}
