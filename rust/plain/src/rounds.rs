@@ -1,5 +1,5 @@
 use crate::mark::{admitted, joined};
-use crate::{find_row, first_places, from_at, hop_count, label_at, places, to_at, Answer, Shape};
+use crate::{find_row, first_places, from_at, hop_count, label_at, lower_row, places, to_at, Answer, Shape};
 use std::ops::Range;
 
 /// The entry mark_fast, with the number of tests.
@@ -84,6 +84,8 @@ struct Later<'a> {
     due: Vec<u16>,
     /// Whether a hop is among them: it is tested once, however many closings fell.
     is_due: Vec<bool>,
+    /// Whether a silent hop of the state fell in the round before. Of the hops tried only those to such a state can have lost their closing.
+    shaken: Vec<bool>,
 }
 
 /// A state's row is gone over unless it is longer than the hops into s4 by more than this: it stands in one place, and those are strewn.
@@ -96,13 +98,15 @@ impl<'a> Later<'a> {
             left[usize::from(from_at(hops, place))] |= mark == 1;
         }
         let count = hop_count(hops);
-        Later { hops, first, entering: entering(states, hops), left, due: Vec::with_capacity(count), is_due: vec![false; count] }
+        let entering = entering(states, hops);
+        Later { hops, first, entering, left, due: Vec::with_capacity(count), is_due: vec![false; count], shaken: vec![false; states] }
     }
 
     /// Notes the hops s1 to s2 for which the hop at `fallen`, s3 to s4, was a closing. Over the hops s1, a, s3 it looks for s2 where there is less to look at: among
     /// the silent hops of s1, or among the hops labelled a into s4.
     fn note_fallen(&mut self, marks: &[u8], fallen: usize) {
         let (s3, s4) = (from_at(self.hops, fallen), to_at(self.hops, fallen));
+        self.shaken[usize::from(s3)] = true;
         let into_s4 = places(&self.entering.first, s4);
         for entry in places(&self.entering.first, s3) {
             let tried = usize::from(self.entering.places[entry]);
@@ -160,20 +164,40 @@ impl<'a> Later<'a> {
         self.due.push(place as u16);
     }
 
-    /// Tests what is due, which then is nothing; `fallen` takes what fell.
+    /// Tests what is due, which then is nothing; `fallen` gives up what fell before and takes what fell now.
     fn test(&mut self, marks: &[u8], fallen: &mut Vec<u16>) {
-        fallen.clear();
+        let before = fallen.len();
         for &place in &self.due {
             self.is_due[usize::from(place)] = false;
-            if !closes(self.hops, self.first, marks, place.into()) {
+            if !closes_again(self.hops, self.first, marks, &self.shaken, place.into()) {
                 fallen.push(place);
             }
+        }
+        for place in fallen.drain(..before) {
+            self.shaken[usize::from(from_at(self.hops, place.into()))] = false;
         }
         self.due.clear();
     }
 }
 
-/// One test: every hop of the state that the hop at `place` leaves is closed. The hops tried and those that answer are both passed once, label by label (`at`) and
+/// One test after the first round: every hop tried that leads to a shaken state is closed. The others are, as they were.
+fn closes_again(hops: &[u16], first: &[u16], marks: &[u8], shaken: &[bool], place: usize) -> bool {
+    let s2 = to_at(hops, place);
+    let past = places(first, s2).end;
+    for tried in places(first, from_at(hops, place)) {
+        let (label, s3) = (label_at(hops, tried), to_at(hops, tried));
+        if !shaken[usize::from(s3)] || find_row(hops, first, (s2, label, s3)).is_some() {
+            continue;
+        }
+        let at = lower_row(hops, first, (s2, label, 0));
+        if !((label == 0 && joined(hops, first, marks, s3, s2)) || answered(hops, first, marks, at..past, label, s2, s3)) {
+            return false;
+        }
+    }
+    true
+}
+
+/// One test of the first round: every hop of the state that the hop at `place` leaves is closed. The hops tried and those that answer are both passed once, label by label (`at`) and
 /// hop by hop (`same`): where s2 has the hop tried itself, s4 is s3 and nothing is looked up.
 fn closes(hops: &[u16], first: &[u16], marks: &[u8], place: usize) -> bool {
     let s2 = to_at(hops, place);
