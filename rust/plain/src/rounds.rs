@@ -1,5 +1,6 @@
 use crate::mark::{admitted, joined};
 use crate::{find_row, first_places, from_at, hop_count, label_at, lower_row, places, to_at, Answer, Shape};
+use std::cmp::Ordering;
 use std::ops::Range;
 
 /// The entry mark_fast, with the number of tests.
@@ -190,7 +191,7 @@ fn closes_again(hops: &[u16], first: &[u16], marks: &[u8], shaken: &[bool], plac
             continue;
         }
         let at = lower_row(hops, first, (s2, label, 0));
-        if !((label == 0 && joined(hops, first, marks, s3, s2)) || answered(hops, first, marks, at..past, label, s2, s3)) {
+        if !((label == 0 && joined(hops, first, marks, s3, s2)) || answered(hops, first, marks, at..past, label, s3)) {
             return false;
         }
     }
@@ -214,55 +215,26 @@ fn closes(hops: &[u16], first: &[u16], marks: &[u8], place: usize) -> bool {
         while at < answers.end && label_at(hops, at) < label {
             at += 1;
         }
-        if !((label == 0 && joined(hops, first, marks, s3, s2)) || answered(hops, first, marks, at..answers.end, label, s2, s3)) {
+        if !((label == 0 && joined(hops, first, marks, s3, s2)) || answered(hops, first, marks, at..answers.end, label, s3)) {
             return false;
         }
     }
     true
 }
 
-/// So few hops that can answer are tried without a look at which side is shorter.
-const FEW: usize = 4;
-
-/// A hop labelled `label` at the front of `range`, which are hops of `s2`, answers the one to `s3`. The shorter side is gone over: these hops, or the silent hops
-/// of `s3`.
-fn answered(hops: &[u16], first: &[u16], marks: &[u8], range: Range<usize>, label: u16, s2: u16, s3: u16) -> bool {
+/// A hop labelled `label` at the front of `range` answers the one to `s3`: a marked hop of `s3` leads where it leads. Both sides ascend there, and are passed once.
+fn answered(hops: &[u16], first: &[u16], marks: &[u8], range: Range<usize>, label: u16, s3: u16) -> bool {
     let row = places(first, s3);
-    if range.len() > FEW && no_more_silent(hops, row.clone(), range.clone(), label) {
-        return reached(hops, first, marks, row, label, s2);
-    }
-    for place in range {
-        if label_at(hops, place) != label {
-            return false;
-        }
-        if joined(hops, first, marks, s3, to_at(hops, place)) {
-            return true;
-        }
-    }
-    false
-}
-
-/// There are no more silent hops at the front of `row` than hops labelled `label` at that of `range`. Both are passed until one side ends.
-fn no_more_silent(hops: &[u16], row: Range<usize>, range: Range<usize>, label: u16) -> bool {
-    let (mut silent, mut answer) = (row.start, range.start);
-    while silent < row.end && label_at(hops, silent) == 0 {
-        if answer == range.end || label_at(hops, answer) != label {
-            return false;
-        }
-        silent += 1;
-        answer += 1;
-    }
-    true
-}
-
-/// A marked hop of a row leads to where `s2` has a hop labelled `label`.
-fn reached(hops: &[u16], first: &[u16], marks: &[u8], row: Range<usize>, label: u16, s2: u16) -> bool {
-    for place in row {
-        if label_at(hops, place) != 0 {
-            return false;
-        }
-        if marks[place] == 1 && find_row(hops, first, (s2, label, to_at(hops, place))).is_some() {
-            return true;
+    let (mut closing, mut answer) = (row.start, range.start);
+    while closing < row.end && label_at(hops, closing) == 0 && answer < range.end && label_at(hops, answer) == label {
+        match to_at(hops, closing).cmp(&to_at(hops, answer)) {
+            Ordering::Less => closing += 1,
+            Ordering::Greater => answer += 1,
+            Ordering::Equal if marks[closing] == 1 => return true,
+            Ordering::Equal => {
+                closing += 1;
+                answer += 1;
+            }
         }
     }
     false
