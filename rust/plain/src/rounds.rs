@@ -1,5 +1,6 @@
 use crate::mark::{admitted, joined};
-use crate::{find_row, first_places, from_at, hop_count, label_at, places, to_at, Answer, Shape};
+use crate::{find_row, first_places, from_at, hop_count, label_at, lower_row, places, to_at, Answer, Shape};
+use std::cmp::Ordering;
 use std::ops::Range;
 
 /// The entry mark_fast, with the number of tests.
@@ -84,6 +85,8 @@ struct Later<'a> {
     due: Vec<u16>,
     /// Whether a hop is among them: it is tested once, however many closings fell.
     is_due: Vec<bool>,
+    /// Whether a silent hop of the state fell in the round before. Of the hops tried only those to such a state can have lost their closing.
+    shaken: Vec<bool>,
 }
 
 /// A state's row is gone over unless it is longer than the hops into s4 by more than this: it stands in one place, and those are strewn.
@@ -96,13 +99,15 @@ impl<'a> Later<'a> {
             left[usize::from(from_at(hops, place))] |= mark == 1;
         }
         let count = hop_count(hops);
-        Later { hops, first, entering: entering(states, hops), left, due: Vec::with_capacity(count), is_due: vec![false; count] }
+        let entering = entering(states, hops);
+        Later { hops, first, entering, left, due: Vec::with_capacity(count), is_due: vec![false; count], shaken: vec![false; states] }
     }
 
     /// Notes the hops s1 to s2 for which the hop at `fallen`, s3 to s4, was a closing. Over the hops s1, a, s3 it looks for s2 where there is less to look at: among
     /// the silent hops of s1, or among the hops labelled a into s4.
     fn note_fallen(&mut self, marks: &[u8], fallen: usize) {
         let (s3, s4) = (from_at(self.hops, fallen), to_at(self.hops, fallen));
+        self.shaken[usize::from(s3)] = true;
         let into_s4 = places(&self.entering.first, s4);
         for entry in places(&self.entering.first, s3) {
             let tried = usize::from(self.entering.places[entry]);
@@ -160,20 +165,40 @@ impl<'a> Later<'a> {
         self.due.push(place as u16);
     }
 
-    /// Tests what is due, which then is nothing; `fallen` takes what fell.
+    /// Tests what is due, which then is nothing; `fallen` gives up what fell before and takes what fell now.
     fn test(&mut self, marks: &[u8], fallen: &mut Vec<u16>) {
-        fallen.clear();
+        let before = fallen.len();
         for &place in &self.due {
             self.is_due[usize::from(place)] = false;
-            if !closes(self.hops, self.first, marks, place.into()) {
+            if !closes_again(self.hops, self.first, marks, &self.shaken, place.into()) {
                 fallen.push(place);
             }
+        }
+        for place in fallen.drain(..before) {
+            self.shaken[usize::from(from_at(self.hops, place.into()))] = false;
         }
         self.due.clear();
     }
 }
 
-/// One test: every hop of the state that the hop at `place` leaves is closed. The hops tried and those that answer are both passed once, label by label (`at`) and
+/// One test after the first round: every hop tried that leads to a shaken state is closed. The others are, as they were.
+fn closes_again(hops: &[u16], first: &[u16], marks: &[u8], shaken: &[bool], place: usize) -> bool {
+    let s2 = to_at(hops, place);
+    let past = places(first, s2).end;
+    for tried in places(first, from_at(hops, place)) {
+        let (label, s3) = (label_at(hops, tried), to_at(hops, tried));
+        if !shaken[usize::from(s3)] || find_row(hops, first, (s2, label, s3)).is_some() {
+            continue;
+        }
+        let at = lower_row(hops, first, (s2, label, 0));
+        if !((label == 0 && joined(hops, first, marks, s3, s2)) || answered(hops, first, marks, at..past, label, s3)) {
+            return false;
+        }
+    }
+    true
+}
+
+/// One test of the first round: every hop of the state that the hop at `place` leaves is closed. The hops tried and those that answer are both passed once, label by label (`at`) and
 /// hop by hop (`same`): where s2 has the hop tried itself, s4 is s3 and nothing is looked up.
 fn closes(hops: &[u16], first: &[u16], marks: &[u8], place: usize) -> bool {
     let s2 = to_at(hops, place);
@@ -190,55 +215,26 @@ fn closes(hops: &[u16], first: &[u16], marks: &[u8], place: usize) -> bool {
         while at < answers.end && label_at(hops, at) < label {
             at += 1;
         }
-        if !((label == 0 && joined(hops, first, marks, s3, s2)) || answered(hops, first, marks, at..answers.end, label, s2, s3)) {
+        if !((label == 0 && joined(hops, first, marks, s3, s2)) || answered(hops, first, marks, at..answers.end, label, s3)) {
             return false;
         }
     }
     true
 }
 
-/// So few hops that can answer are tried without a look at which side is shorter.
-const FEW: usize = 4;
-
-/// A hop labelled `label` at the front of `range`, which are hops of `s2`, answers the one to `s3`. The shorter side is gone over: these hops, or the silent hops
-/// of `s3`.
-fn answered(hops: &[u16], first: &[u16], marks: &[u8], range: Range<usize>, label: u16, s2: u16, s3: u16) -> bool {
+/// A hop labelled `label` at the front of `range` answers the one to `s3`: a marked hop of `s3` leads where it leads. Both sides ascend there, and are passed once.
+fn answered(hops: &[u16], first: &[u16], marks: &[u8], range: Range<usize>, label: u16, s3: u16) -> bool {
     let row = places(first, s3);
-    if range.len() > FEW && no_more_silent(hops, row.clone(), range.clone(), label) {
-        return reached(hops, first, marks, row, label, s2);
-    }
-    for place in range {
-        if label_at(hops, place) != label {
-            return false;
-        }
-        if joined(hops, first, marks, s3, to_at(hops, place)) {
-            return true;
-        }
-    }
-    false
-}
-
-/// There are no more silent hops at the front of `row` than hops labelled `label` at that of `range`. Both are passed until one side ends.
-fn no_more_silent(hops: &[u16], row: Range<usize>, range: Range<usize>, label: u16) -> bool {
-    let (mut silent, mut answer) = (row.start, range.start);
-    while silent < row.end && label_at(hops, silent) == 0 {
-        if answer == range.end || label_at(hops, answer) != label {
-            return false;
-        }
-        silent += 1;
-        answer += 1;
-    }
-    true
-}
-
-/// A marked hop of a row leads to where `s2` has a hop labelled `label`.
-fn reached(hops: &[u16], first: &[u16], marks: &[u8], row: Range<usize>, label: u16, s2: u16) -> bool {
-    for place in row {
-        if label_at(hops, place) != 0 {
-            return false;
-        }
-        if marks[place] == 1 && find_row(hops, first, (s2, label, to_at(hops, place))).is_some() {
-            return true;
+    let (mut closing, mut answer) = (row.start, range.start);
+    while closing < row.end && label_at(hops, closing) == 0 && answer < range.end && label_at(hops, answer) == label {
+        match to_at(hops, closing).cmp(&to_at(hops, answer)) {
+            Ordering::Less => closing += 1,
+            Ordering::Greater => answer += 1,
+            Ordering::Equal if marks[closing] == 1 => return true,
+            Ordering::Equal => {
+                closing += 1;
+                answer += 1;
+            }
         }
     }
     false
