@@ -140,7 +140,7 @@ fn ends_answer(
 }
 
 // Whether a hop labelled a of `rest` leads to an s4 that closes s3: if s2's hops labelled a or s3's silent hops are far fewer, these are gone over, else both.
-pub fn hop_answers(
+fn long_answer(
     hops: &[u16],
     starts: &[u16; STARTS],
     marks: &[u8],
@@ -171,4 +171,42 @@ pub fn hop_answers(
         return few_answer(hops, starts, marks, rest, a, s3);
     }
     row_answers(hops, starts, marks, rest, a, s3)
+}
+
+// Whether at most one hop of `rest` is labelled a: it needs no count of the others.
+fn is_single(hops: &[u16], rest: Rest, a: Label) -> bool
+    requires { ⌜ rest .past ≤ count (now hops) ⌝ }
+{
+    let past = rest.past;
+    let at = rest.at;
+    if at >= past {
+        return true;
+    }
+    if at + 1 >= past {
+        return true;
+    }
+    label_at(hops, at + 1).0 != a.0
+}
+
+// Whether a hop labelled a of `rest` leads to an s4 that closes s3.
+pub fn hop_answers(
+    hops: &[u16],
+    starts: &[u16; STARTS],
+    marks: &[u8],
+    rest: Rest,
+    a: Label,
+    s3: OldState,
+) -> bool
+    requires ready { ⌜ Ready (now hops) ⌝ }
+    requires table { ⌜ Table (now hops) (now starts) ⌝ }
+    requires room { ⌜ count (now hops) ≤ length (now marks) ⌝ }
+    requires row { ⌜ Row (now hops) (rest .state .0) (a .0) (rest .at) (rest .past) ⌝ }
+    requires asked { ⌜ rest .state .0 < most-states ⌝ }
+    requires state { ⌜ s3 .0 < most-states ⌝ }
+    ensures { λ r. ⌜ r ≡ hopAnswers (now (hops .entry)) (closing (heldBy (now (hops .entry)) (now (marks .entry)))) (rest .state .0) (a .0) (s3 .0) ⌝ }
+{
+    if is_single(hops, rest, a) {
+        return few_answer(hops, starts, marks, rest, a, s3);
+    }
+    long_answer(hops, starts, marks, rest, a, s3)
 }

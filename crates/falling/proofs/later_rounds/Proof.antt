@@ -14,15 +14,6 @@ use Rattle.falling.specs.Falling.{AfterSome}
 use Rattle.falling.proofs.Rounds.{noted-lists, noted-most, noted-spared, lists-listed, tested-queue, next-falls, after-next, leaving-next, after-less, after-early, after-tests, after-marks, tests-most}
 use Rattle.falling.proofs.later_rounds.Statement.{statement}
 use Rattle.falling.proofs.later_rounds.Tie as tie
-use Rattle.falling.proofs.later_rounds.Reads as reads
-use Rattle.falling.proofs.later_rounds.Lts as lts
-use Rattle.ends.proofs.begins_of.Reads as begins-of-reads
-use Rattle.ends.proofs.places_of.Reads as places-of-reads
-use Rattle.falling.proofs.shed_of.Reads as shed-of-reads
-use Rattle.falling.proofs.take_fallen.Reads as take-fallen-reads
-use Rattle.falling.proofs.test_due.Reads as test-due-reads
-use Rattle.retests.proofs.leaving_of.Reads as leaving-of-reads
-use Rattle.retests.proofs.next_due.Reads as next-due-reads
 
 abbrev Inv-loop : tie.InvT-loop
 Inv-loop hops starts marks₀ queue₀ flags₀ fallen₀ lost tests begins places leaving left₀ sum₀ marks queue flags fallen left sum =

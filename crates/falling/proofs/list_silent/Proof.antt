@@ -12,10 +12,6 @@ use Rattle.falling.proofs.Parts.{ListsUpTo, lists-none, lists-more, lis
 use Rattle.falling.proofs.Rounds.{first-yes, first-no}
 use Rattle.falling.proofs.list_silent.Statement.{statement}
 use Rattle.falling.proofs.list_silent.Tie as tie
-use Rattle.falling.proofs.list_silent.Reads as reads
-use Rattle.falling.proofs.list_silent.Lts as lts
-use Rattle.graph.proofs.hops.hop_count.Reads as hop-count-reads
-use Rattle.graph.proofs.hops.label_at.Reads as label-at-reads
 
 abbrev Inv-loop : tie.InvT-loop
 Inv-loop hops queue₀ past n₀ i₀ queue n i =

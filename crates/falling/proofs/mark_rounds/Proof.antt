@@ -12,14 +12,6 @@ use Rattle.falling.proofs.Rounds.{after-first, after-still, after-itsel
 use borrow.Author.Needs.{needs}
 use Rattle.falling.proofs.mark_rounds.Statement.{statement}
 use Rattle.falling.proofs.mark_rounds.Tie as tie
-use Rattle.falling.proofs.mark_rounds.Reads as reads
-use Rattle.falling.proofs.mark_rounds.Lts as lts
-use Rattle.confluence.proofs.start_marks.Reads as start-marks-reads
-use Rattle.falling.proofs.later_rounds.Reads as later-rounds-reads
-use Rattle.falling.proofs.list_silent.Reads as list-silent-reads
-use Rattle.falling.proofs.take_fallen.Reads as take-fallen-reads
-use Rattle.falling.proofs.test_due.Reads as test-due-reads
-use Rattle.starts.proofs.starts_of.Reads as starts-of-reads
 
 starts-of-requires : tie.Need-starts-of-requires
 starts-of-requires c κs = search needs

@@ -11,11 +11,6 @@ use Rattle.falling.specs.Falling.{Shed}
 use Rattle.falling.proofs.Parts.{shed-more}
 use Rattle.falling.proofs.shed_of.Statement.{statement}
 use Rattle.falling.proofs.shed_of.Tie as tie
-use Rattle.falling.proofs.shed_of.Reads as reads
-use Rattle.falling.proofs.shed_of.Lts as lts
-use Rattle.ends.proofs.place_at.Reads as place-at-reads
-use Rattle.graph.proofs.hops.from_at.Reads as from-at-reads
-use Rattle.starts.proofs.wide.Reads as wide-reads
 
 abbrev Inv-loop : tie.InvT-loop
 Inv-loop hops fallen n shed₀ k₀ shed k =

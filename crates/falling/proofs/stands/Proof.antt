@@ -2,10 +2,6 @@
 use borrow.Author.Needs.{needs}
 use Rattle.falling.proofs.stands.Statement.{statement}
 use Rattle.falling.proofs.stands.Tie as tie
-use Rattle.falling.proofs.stands.Reads as reads
-use Rattle.falling.proofs.stands.Lts as lts
-use Rattle.again.proofs.closes_again.Reads as closes-again-reads
-use Rattle.closes.proofs.closes_at.Reads as closes-at-reads
 
 closes-at-requires : tie.Need-closes-at-requires
 closes-at-requires c κs = search needs

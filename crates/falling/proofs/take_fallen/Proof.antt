@@ -8,9 +8,6 @@ use Rattle.falling.specs.Falling.{Taken}
 use Rattle.falling.proofs.Parts.{taken-none, taken-more}
 use Rattle.falling.proofs.take_fallen.Statement.{statement}
 use Rattle.falling.proofs.take_fallen.Tie as tie
-use Rattle.falling.proofs.take_fallen.Reads as reads
-use Rattle.falling.proofs.take_fallen.Lts as lts
-use Rattle.ends.proofs.place_at.Reads as place-at-reads
 
 abbrev Inv-loop : tie.InvT-loop
 Inv-loop marks₀ fallen n k₀ marks k =

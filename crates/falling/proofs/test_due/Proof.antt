@@ -12,10 +12,6 @@ use Rattle.falling.specs.Falling.{Spared, Tested}
 use Rattle.falling.proofs.Parts.{tested-none, tested-closes, tested-falls}
 use Rattle.falling.proofs.test_due.Statement.{statement}
 use Rattle.falling.proofs.test_due.Tie as tie
-use Rattle.falling.proofs.test_due.Reads as reads
-use Rattle.falling.proofs.test_due.Lts as lts
-use Rattle.ends.proofs.place_at.Reads as place-at-reads
-use Rattle.falling.proofs.stands.Reads as stands-reads
 
 abbrev Inv-loop : tie.InvT-loop
 Inv-loop hops starts marks shed first queue n flags₀ fallen₀ lost₀ k₀ flags fallen lost k =

@@ -6,10 +6,6 @@ use Rattle.retests.proofs.Walks.{point-itself, point-found, point-missi
 use borrow.Author.Needs.{needs}
 use Rattle.retests.proofs.is_point.Statement.{statement}
 use Rattle.retests.proofs.is_point.Tie as tie
-use Rattle.retests.proofs.is_point.Reads as reads
-use Rattle.retests.proofs.is_point.Lts as lts
-use Rattle.graph.proofs.hops.hop_of.Reads as hop-of-reads
-use Rattle.starts.proofs.find_row.Reads as find-row-reads
 
 returns : tie.Need-returns
 returns c = point-itself _ _ _ _ (c .before .before .before .if1 .taken) (c .if2 .taken)

@@ -13,11 +13,6 @@ use Rattle.retests.specs.Queue.{Leaving}
 use Rattle.retests.proofs.Queueing.{leaving-more, leaving-skip}
 use Rattle.retests.proofs.leaving_of.Statement.{statement}
 use Rattle.retests.proofs.leaving_of.Tie as tie
-use Rattle.retests.proofs.leaving_of.Reads as reads
-use Rattle.retests.proofs.leaving_of.Lts as lts
-use Rattle.graph.proofs.hops.from_at.Reads as from-at-reads
-use Rattle.graph.proofs.hops.hop_count.Reads as hop-count-reads
-use Rattle.starts.proofs.wide.Reads as wide-reads
 
 abbrev Inv-loop : tie.InvT-loop
 Inv-loop hops marks leaving₀ n i₀ leaving i =

@@ -8,10 +8,6 @@ use Rattle.retests.specs.Queue.{Listed, Noted}
 use Rattle.retests.proofs.Walks.{Walked, walk-none, walk-more, Falls, falls-at, falls-all}
 use Rattle.retests.proofs.next_due.Statement.{statement}
 use Rattle.retests.proofs.next_due.Tie as tie
-use Rattle.retests.proofs.next_due.Reads as reads
-use Rattle.retests.proofs.next_due.Lts as lts
-use Rattle.ends.proofs.place_at.Reads as place-at-reads
-use Rattle.retests.proofs.note_fallen.Reads as note-fallen-reads
 
 abbrev Inv-loop : tie.InvT-loop
 Inv-loop hops starts begins places leaving marks fallen lost flags₀ queue₀ length₀ q₀ flags queue length q =

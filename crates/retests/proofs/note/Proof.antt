@@ -6,8 +6,6 @@ use Rattle.retests.proofs.Queueing.{flag-yes, flag-no, flag-says, queue
 use borrow.Author.Needs.{needs}
 use Rattle.retests.proofs.note.Statement.{statement}
 use Rattle.retests.proofs.note.Tie as tie
-use Rattle.retests.proofs.note.Reads as reads
-use Rattle.retests.proofs.note.Lts as lts
 
 shared-slice-read-if1 : tie.Need-shared-slice-read-if1
 shared-slice-read-if1 c = search needs

@@ -3,12 +3,6 @@ use Rattle.retests.proofs.Walks.{asked-yes, asked-no, asked-off, asked-
 use borrow.Author.Needs.{needs}
 use Rattle.retests.proofs.note_answered.Statement.{statement}
 use Rattle.retests.proofs.note_answered.Tie as tie
-use Rattle.retests.proofs.note_answered.Reads as reads
-use Rattle.retests.proofs.note_answered.Lts as lts
-use Rattle.graph.proofs.hops.label_at.Reads as label-at-reads
-use Rattle.graph.proofs.hops.to_at.Reads as to-at-reads
-use Rattle.retests.proofs.is_point.Reads as is-point-reads
-use Rattle.retests.proofs.note.Reads as note-reads
 
 shared-slice-read-if1 : tie.Need-shared-slice-read-if1
 shared-slice-read-if1 c = search needs

@@ -12,15 +12,6 @@ use Rattle.retests.specs.Queue.{Noted}
 use Rattle.retests.proofs.Walks.{Walked, walk-none, walk-more, walk-skip, Into, into-yes, into-no, into-all, pair-to, begin-is}
 use Rattle.retests.proofs.note_answers.Statement.{statement}
 use Rattle.retests.proofs.note_answers.Tie as tie
-use Rattle.retests.proofs.note_answers.Reads as reads
-use Rattle.retests.proofs.note_answers.Lts as lts
-use Rattle.ends.proofs.place_at.Reads as place-at-reads
-use Rattle.graph.proofs.hops.from_at.Reads as from-at-reads
-use Rattle.graph.proofs.hops.label_at.Reads as label-at-reads
-use Rattle.graph.proofs.hops.to_at.Reads as to-at-reads
-use Rattle.retests.proofs.note_pair.Reads as note-pair-reads
-use Rattle.starts.proofs.start_of.Reads as start-of-reads
-use Rattle.starts.proofs.wide.Reads as wide-reads
 
 abbrev Inv-loop : tie.InvT-loop
 Inv-loop hops starts begins places marks flags₀ queue₀ n j p s1 a s4 past length₀ k₀ flags queue length k =

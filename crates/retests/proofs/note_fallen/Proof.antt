@@ -10,13 +10,6 @@ use Rattle.retests.specs.Queue.{Noted}
 use Rattle.retests.proofs.Walks.{Walked, walk-none, walk-more, Tries, tries-at, tries-all, begin-is}
 use Rattle.retests.proofs.note_fallen.Statement.{statement}
 use Rattle.retests.proofs.note_fallen.Tie as tie
-use Rattle.retests.proofs.note_fallen.Reads as reads
-use Rattle.retests.proofs.note_fallen.Lts as lts
-use Rattle.ends.proofs.place_at.Reads as place-at-reads
-use Rattle.graph.proofs.hops.from_at.Reads as from-at-reads
-use Rattle.retests.proofs.note_hop.Reads as note-hop-reads
-use Rattle.starts.proofs.start_of.Reads as start-of-reads
-use Rattle.starts.proofs.wide.Reads as wide-reads
 
 abbrev Inv-loop : tie.InvT-loop
 Inv-loop hops starts begins places leaving marks flags₀ queue₀ n p s3 past length₀ k₀ flags queue length k =

@@ -5,14 +5,6 @@ use Rattle.retests.proofs.Walks.{trying-none, start-most, begin-most}
 use borrow.Author.Needs.{needs}
 use Rattle.retests.proofs.note_hop.Statement.{statement}
 use Rattle.retests.proofs.note_hop.Tie as tie
-use Rattle.retests.proofs.note_hop.Reads as reads
-use Rattle.retests.proofs.note_hop.Lts as lts
-use Rattle.graph.proofs.hops.from_at.Reads as from-at-reads
-use Rattle.graph.proofs.hops.to_at.Reads as to-at-reads
-use Rattle.retests.proofs.note_into.Reads as note-into-reads
-use Rattle.retests.proofs.note_out.Reads as note-out-reads
-use Rattle.starts.proofs.start_of.Reads as start-of-reads
-use Rattle.starts.proofs.wide.Reads as wide-reads
 
 from-at-requires : tie.Need-from-at-requires
 from-at-requires c κs = search needs

@@ -4,13 +4,6 @@ use Rattle.retests.proofs.Walks.{trying-silent, trying-visible}
 use borrow.Author.Needs.{needs}
 use Rattle.retests.proofs.note_into.Statement.{statement}
 use Rattle.retests.proofs.note_into.Tie as tie
-use Rattle.retests.proofs.note_into.Reads as reads
-use Rattle.retests.proofs.note_into.Lts as lts
-use Rattle.graph.proofs.hops.from_at.Reads as from-at-reads
-use Rattle.graph.proofs.hops.label_at.Reads as label-at-reads
-use Rattle.graph.proofs.hops.to_at.Reads as to-at-reads
-use Rattle.retests.proofs.note_answers.Reads as note-answers-reads
-use Rattle.retests.proofs.note_pair.Reads as note-pair-reads
 
 note-answers-requires : tie.Need-note-answers-requires
 note-answers-requires c κs = search needs

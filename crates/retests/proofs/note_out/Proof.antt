@@ -12,13 +12,6 @@ use Rattle.retests.specs.Queue.{Noted, Asked}
 use Rattle.retests.proofs.Walks.{Walked, walk-none, walk-more, out-all}
 use Rattle.retests.proofs.note_out.Statement.{statement}
 use Rattle.retests.proofs.note_out.Tie as tie
-use Rattle.retests.proofs.note_out.Reads as reads
-use Rattle.retests.proofs.note_out.Lts as lts
-use Rattle.graph.proofs.hops.from_at.Reads as from-at-reads
-use Rattle.retests.proofs.note_answered.Reads as note-answered-reads
-use Rattle.starts.proofs.labelled_past.Reads as labelled-past-reads
-use Rattle.starts.proofs.start_of.Reads as start-of-reads
-use Rattle.starts.proofs.wide.Reads as wide-reads
 
 abbrev Inv-loop : tie.InvT-loop
 Inv-loop hops starts marks flags₀ queue₀ n j p past length₀ i₀ flags queue length i =

@@ -3,11 +3,6 @@ use Rattle.retests.proofs.Walks.{pair-gap, pair-within, pair-silent, pa
 use borrow.Author.Needs.{needs}
 use Rattle.retests.proofs.note_pair.Statement.{statement}
 use Rattle.retests.proofs.note_pair.Tie as tie
-use Rattle.retests.proofs.note_pair.Reads as reads
-use Rattle.retests.proofs.note_pair.Lts as lts
-use Rattle.graph.proofs.hops.hop_of.Reads as hop-of-reads
-use Rattle.retests.proofs.note.Reads as note-reads
-use Rattle.starts.proofs.find_row.Reads as find-row-reads
 
 hop-of-requires : tie.Need-hop-of-requires
 hop-of-requires c κs = search needs

@@ -8,12 +8,6 @@ use Rattle.answers.proofs.Told.{told-of, short-told, short-kept, left-long}
 use borrow.Author.Needs.{needs}
 use Rattle.tells_marking.proofs.tell_mark_fast.Statement.{statement}
 use Rattle.tells_marking.proofs.tell_mark_fast.Tie as tie
-use Rattle.tells_marking.proofs.tell_mark_fast.Reads as reads
-use Rattle.tells_marking.proofs.tell_mark_fast.Lts as lts
-use Rattle.answers.proofs.short_number.Reads as short-number-reads
-use Rattle.answers.proofs.tell_figure.Reads as tell-figure-reads
-use Rattle.fast.proofs.mark_fast.Reads as mark-fast-reads
-use Rattle.marks.proofs.mark.mark_answer.Reads as mark-answer-reads
 
 mark-answer-requires : tie.Need-mark-answer-requires
 mark-answer-requires c κs = search needs
