@@ -57,9 +57,10 @@ module _ (c : ℕ) (p : ℕ → Bool) where
   pub lists-none : {qs : List ℕ} → ListsUpTo 0 qs 0
   lists-none = record { counted = sym (tally-none p); most = omega arith; each = λ k l. absurd (not-suc-le-zero l); all = λ j l e. absurd (not-suc-le-zero l) }
 
-  module _ {i n : ℕ} {qs : List ℕ} (s : ListsUpTo i qs n) where
-    pub lists-more : n < length qs → p i ≡ true → ListsUpTo (i + 1) (set qs n i) (n + 1)
-    lists-more l e = record { counted = tally-more p i (s .counted) e; most = omega (arith, s .most); each = each; all = all } where
+  -- a place is put behind the list, and stays in it if it passes
+  module _ {i n : ℕ} {qs : List ℕ} (s : ListsUpTo i qs n) (l : n < length qs) where
+    pub lists-more : p i ≡ true → ListsUpTo (i + 1) (set qs n i) (n + 1)
+    lists-more e = record { counted = tally-more p i (s .counted) e; most = omega (arith, s .most); each = each; all = all } where
       each : (k : ℕ) → k < n + 1 → (getD (set qs n i) k 0 < i + 1) × (p (getD (set qs n i) k 0) ≡ true)
       each k m = go (eq-or-not k n) where
         go : (k ≡ n) ⊎ (k ≡ n → ⊥) → (getD (set qs n i) k 0 < i + 1) × (p (getD (set qs n i) k 0) ≡ true)
@@ -70,14 +71,17 @@ module _ (c : ℕ) (p : ℕ → Bool) where
       all j m q =
           ⊎-elim (λ h. among-more qs n i j l (s .all j h q)) (λ h. let d : j ≡ i = omega arith in rw d (among-last qs n i l)) (lt-or-le j i)
 
-    pub lists-skip : p i ≡ false → ListsUpTo (i + 1) qs n
-    lists-skip e = record {
-      counted = tally-skip p i (s .counted) e;
-      most = omega (arith, s .most);
-      each = λ k m. let h = s .each k m in (omega (arith, h .0), h .1);
-      all = λ j m q. ⊎-elim (λ h. s .all j h q) (λ h. let d : j ≡ i = omega arith in clash (rw d at q) e) (lt-or-le j i);
-    }
+    pub lists-skip : p i ≡ false → ListsUpTo (i + 1) (set qs n i) n
+    lists-skip e = record { counted = tally-skip p i (s .counted) e; most = omega (arith, s .most); each = each; all = all } where
+      each : (k : ℕ) → k < n → (getD (set qs n i) k 0 < i + 1) × (p (getD (set qs n i) k 0) ≡ true)
+      each k m = let h = s .each k m in rw (getD-set-other qs n k i 0 (λ d. absurd (omega arith))) (omega (arith, h .0), h .1)
 
+      all : (j : ℕ) → j < i + 1 → p j ≡ true → Among (set qs n i) n j
+      all j m q =
+          ⊎-elim (λ h. let (k, w, x) = s .all j h q in (k, w, getD-set-other qs n k i 0 (λ d. absurd (omega arith)) ∙ x))
+          (λ h. let d : j ≡ i = omega arith in clash (rw d at q) e) (lt-or-le j i)
+
+  module _ {i n : ℕ} {qs : List ℕ} (s : ListsUpTo i qs n) where
     pub lists-done : i ≡ c → Lists c p qs n
     lists-done e = record { counted = rw e at (s .counted); each = rw e at (s .each); all = rw e at (s .all) }
 

@@ -34,7 +34,8 @@ ghost use Rattle.due.specs.Due.{due, testsOf};
 ghost use Rattle.retests.specs.Queue.{Queue, Listed};
 ghost use Rattle.falling.specs.Falling.{Lists, Spared, Shed, Tested, Taken, AfterSome};
 
-// Lists the silent hops: the first round tests them all. Returns how many there are.
+// Lists the silent hops: the first round tests them all. Returns how many there are. Each place is put behind the list, and stays in it if it is silent, so
+// that nothing hangs on a branch that cannot be foreseen.
 fn list_silent(hops: &[u16], queue: &mut [u16; MOST_HOPS]) -> usize
     requires ready { ⌜ Ready (now hops) ⌝ }
     requires room { ⌜ most-hops ≤ length (now queue) ⌝ }
@@ -45,8 +46,8 @@ fn list_silent(hops: &[u16], queue: &mut [u16; MOST_HOPS]) -> usize
     let mut n = 0;
     let mut i = 0;
     while i < past {
+        queue[n] = i as u16;
         if label_at(hops, i).0 == 0 {
-            queue[n] = i as u16;
             n += 1;
         }
         i += 1;

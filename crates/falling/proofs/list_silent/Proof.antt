@@ -28,23 +28,23 @@ loop-holds c =
     let st = c .before .before in
     (c .hop-count .ensures, omega arith, st .pre .1, lists-none _ _)
 
-label-at-requires : tie.Need-label-at-requires Inv-loop μ-loop
-label-at-requires c κs = omega arith
-
 cast-queue : tie.Need-cast-queue Inv-loop μ-loop
 cast-queue c =
-    let st = c .before .before .before .before .before .before .before in
+    let st = c .before .before .before .before in
     omega (arith, st .pre .0 .hops-most)
 
 mul-queue : tie.Need-mul-queue Inv-loop μ-loop
 mul-queue c =
-    let st = c .before .before .before .before .before .before .before in
-    omega (arith, st .pre .0 .hops-most, c .before .before .before .before .loop .inv .3 .most)
+    let st = c .before .before .before .before in
+    omega (arith, st .pre .0 .hops-most, c .before .loop .inv .3 .most)
 
 element-write-queue : tie.Need-element-write-queue Inv-loop μ-loop
 element-write-queue c =
-    let st = c .before .before .before .before .before .before .before in
-    omega (arith, st .pre .0 .hops-most, c .before .before .before .before .loop .inv .3 .most)
+    let st = c .before .before .before .before in
+    omega (arith, st .pre .0 .hops-most, c .before .loop .inv .3 .most)
+
+label-at-requires : tie.Need-label-at-requires Inv-loop μ-loop
+label-at-requires c κs = omega arith
 
 add-n : tie.Need-add-n Inv-loop μ-loop
 add-n c =
@@ -64,10 +64,10 @@ loop-again c =
     let e = c .before .before .label-at .ensures in (
       v .0,
       omega arith,
-      ⊎-elim (λ w. rw (w .1) (simp length-set (v .2))) (λ w. rw (w .1) (v .2)) (c .if1 .came),
+      simp length-set (v .2),
       ⊎-elim
-          (λ w. rw (w .1, w .2) (lists-more _ _ (v .3) (omega (arith, st .pre .0 .hops-most, v .3 .most)) (first-yes (st .args .hops .now) _ e (w .0 .taken))))
-          (λ w. rw (w .1, w .2) (lists-skip _ _ (v .3) (first-no (st .args .hops .now) _ e (w .0 .left)))) (c .if1 .came),
+          (λ w. rw (w .1) (lists-more _ _ (v .3) (omega (arith, st .pre .0 .hops-most, v .3 .most)) (first-yes (st .args .hops .now) _ e (w .0 .taken))))
+          (λ w. rw (w .1) (lists-skip _ _ (v .3) (omega (arith, st .pre .0 .hops-most, v .3 .most)) (first-no (st .args .hops .now) _ e (w .0 .left)))) (c .if1 .came),
     )
 
 returns : tie.Need-returns Inv-loop μ-loop
@@ -83,10 +83,10 @@ list-silent-spec =
     μ-loop
     hop-count-requires
     loop-holds
-    label-at-requires
     cast-queue
     mul-queue
     element-write-queue
+    label-at-requires
     add-n
     add-i
     loop-less
