@@ -1,5 +1,5 @@
-// Whether a silent hop closes with the set that a list of marks is: document 01's condition, decided. `sweeps` asks it of each marked hop, and
-// `again` asks one trial, where only some of the hops need be tried.
+// Whether a silent hop closes with the set that a list of marks is: document 01's condition, decided. `sweeps` asks it of each marked hop and `falling` in its
+// first round; `again` asks one trial, where only some of the hops need be tried.
 // Each hop of the one end is tried once. The hops of both ends are walked side by side, in the order of the list: where the other end has the like hop
 // there is no more to ask, and else `answering` is asked for one that closes.
 // It stands on `confluence` (what closing is, and the set that marks are), `graph` (hops and their order), `starts` (where a state's hops begin),

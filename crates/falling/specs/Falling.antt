@@ -1,4 +1,4 @@
--- The parts of a round, place by place, and what holds between two rounds. Private functions alone cite this. Assumes nothing: these are definitions.
+-- The parts of a round, place by place, and what holds between two rounds. No contract of an entry cites this. Assumes nothing: these are definitions.
 use Prim.Native.Nat.{ℕ, suc, _<_, _≤_}
 use mathlib.Core.Path.{_≡_}
 use mathlib.Core.Bool.{Bool, true, false}

@@ -1,6 +1,7 @@
-// Marking by sweeps in place, behind the refusals: which silent hops belong to some strongly confluent set. The marks start at 1 for every silent hop; a
+// The first marking, by sweeps in place, behind the refusals: which silent hops belong to some strongly confluent set. The marks start at 1 for every silent hop; a
 // sweep goes over the places in list order, and a marked hop that no longer closes loses its mark at once; sweeps go on until one takes nothing. The
-// marks hold the marked set throughout, and are a confluent set when they rest. Whoever has refused already calls `mark_all`: `mark`, `reduce`, the program.
+// marks hold the marked set throughout, and are a confluent set when they rest. The entries mark in rounds now (`falling`), which leave the same marks
+// (`fast: joined`); this one stays as the plain way to them, with a proof that knows of no rounds.
 // It stands on `confluence` (the marked set and its theorems) and `closes` (whether a hop closes with the marks).
 use closes::closes_at;
 use confluence::start_marks;
