@@ -2,7 +2,7 @@
 -- as many rounds as hops have all the tests. Assumes nothing.
 use Prim.Native.Nat.{ℕ, zero, suc, _+_, _<_, _≤_}
 use mathlib.Core.Path.{_≡_, refl, sym, _∙_}
-use mathlib.Core.Bool.{Bool, true, false, not, _&&_, _||_}
+use mathlib.Core.Bool.{true, false, not, _&&_, _||_}
 use mathlib.Core.List.{List}
 use mathlib.Core.Logic.{_⊎_, inl, inr, ⊎-elim}
 use native.Mathlib.Omega.{arith}
@@ -10,9 +10,9 @@ use lib.Dec.{eqb}
 use borrow.Author.Tests.{eq-eqb, eqb-true, not-true}
 use Rattle.below.specs.Tests.{any, tally, total}
 use Rattle.graph.specs.Hops.{count, from, label, to, has}
-use Rattle.below.proofs.Bools.{clash, decided, and-yes, and-left, and-right, and-no-right, or-left, or-right, or-yes, same-test, no-test, not-no}
+use Rattle.below.proofs.Bools.{clash, decided, and-yes, and-left, and-right, and-no-right, or-right, or-yes, same-test, no-test, not-no}
 use Rattle.below.proofs.Tests.{any-at, any-found, tally-within, tally-less, tally-zero}
-use Rattle.graph.proofs.Places.{has-at, has-place, place-has}
+use Rattle.graph.proofs.Places.{has-at, has-place}
 use Rattle.shrinking.specs.Pairs.{Pairs, In}
 use Rattle.shrinking.proofs.Rounds.{left-meets, left-yes, left-falls, left-rests}
 use Rattle.confluence.specs.Rounds.{FirstPoint, answers, closes, silentHops, survives, marked}

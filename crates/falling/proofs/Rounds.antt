@@ -1,7 +1,7 @@
 -- From one round to the next: what is noted from the hops that fell is what is due, and its tests, with the marks taken, make the next round. The first round,
 -- and the end: where nothing falls the marks are those of the marked set and all tests are made. Assumes nothing.
 use Prim.Native.Nat.{ℕ, zero, suc, _+_, _*_, _<_, _≤_}
-use mathlib.Core.Path.{_≡_, refl, sym, ap, _∙_}
+use mathlib.Core.Path.{_≡_, refl, sym, _∙_}
 use mathlib.Core.Bool.{Bool, true, false, cond, _&&_}
 use mathlib.Core.List.{List}
 use mathlib.Core.Logic.{_⊎_, inl, inr, ⊎-elim}
@@ -9,16 +9,16 @@ use native.Mathlib.Nat.{not-suc-le-zero}
 use native.Mathlib.Numerals.{add-one}
 use native.Mathlib.Omega.{arith}
 use lib.ListN.{length, getD, replicate, getD-replicate}
-use lib.Dec.{eqb, ltb}
-use borrow.Author.Tests.{eq-eqb, ne-eqb, lt-ltb, le-ltb}
+use lib.Dec.{ltb}
+use borrow.Author.Tests.{lt-ltb, le-ltb}
 use Rattle.below.specs.Tests.{tally, total}
 use Rattle.below.proofs.Bools.{clash, decided, eq-or-not, lt-or-le, and-yes, and-left, and-right, same-test, no-test}
-use Rattle.below.proofs.Tests.{tally-same, tally-mono, tally-within, tally-less, total-none, total-more, total-most}
+use Rattle.below.proofs.Tests.{tally-same, tally-mono, tally-within, tally-less, total-more, total-most}
 use Rattle.outputs.specs.Output.{onFront}
 use Rattle.graph.specs.Hops.{count, from, label, to, has}
 use Rattle.graph.specs.Answers.{most-hops}
 use Rattle.graph.proofs.Places.{has-at}
-use Rattle.shrinking.specs.Pairs.{Pairs, In}
+use Rattle.shrinking.specs.Pairs.{In}
 use Rattle.confluence.specs.Rounds.{answered, closes, survives, marked}
 use Rattle.confluence.specs.Held.{isMarked, markOf, marksOf, everyPair}
 use Rattle.confluence.proofs.Rounds.{survives-none}
@@ -26,11 +26,12 @@ use Rattle.confluence.proofs.Closing.{Answered, answers-yes, closes-says}
 use Rattle.again.specs.Again.{Unshaken}
 use Rattle.confluence.proofs.Marks.{mark-one, mark-visible, marks-at, marks-room, marks-beyond, marks-made}
 use Rattle.due.specs.Due.{fell, standing, shaken, due, testsIn, testsUpTo, testsOf}
-use Rattle.due.proofs.Due.{survives-closes, due-standing, Shaken, fell-yes, fell-place, standing-yes, standing-silent, standing-survives, standing-falls, shaken-yes, shaken-says, not-due-stands, Idle, none-idle, idle-marked, due-early, tests-end}
-use Rattle.retests.specs.Queue.{Among, Leaving, Queue, Wanted, Noted, ClosedBy, ClosedByAny, Listed, Unset}
-use Rattle.retests.proofs.Queueing.{flag-no, queue-none}
-use Rattle.falling.specs.Falling.{Lists, Spared, Shed, Tested, Taken, Falls, After}
-use Rattle.falling.proofs.Parts.{held-survives, mark-test, falls-all, marks-next, taken-none}
+use Rattle.due.proofs.Due.{survives-closes, due-standing, fell-yes, fell-place, standing-yes, standing-silent, standing-survives, standing-falls, shaken-yes, shaken-says, not-due-stands, Idle, none-idle, idle-marked, due-early, tests-end}
+use Rattle.noting.specs.Queue.{Among, Leaving, Queue, Noted, ClosedByAny, Listed, Unset}
+use Rattle.noting.proofs.Queueing.{flag-no, queue-none}
+use Rattle.testing.specs.Testing.{Lists, Spared, Shed, Tested, Taken, Falls}
+use Rattle.falling.specs.Falling.{After}
+use Rattle.testing.proofs.Parts.{held-survives, mark-test, falls-all, marks-next, taken-none}
 
 module _ (hs : List ℕ) where
   -- what fell is the set of the hops whose places are listed
@@ -232,15 +233,6 @@ module _ (hs : List ℕ) where
   pub first-queue : {ms qs old new fl : List ℕ} {n r : ℕ} → Tested hs ms qs n old new fl r → count hs ≤ length qs → Unset hs old → Queue hs new qs 0
   unfolding Unset
   first-queue {ms} {new = new} x l u = queue-none hs ms (x .flags) l (λ i m. no-test (isMarked new i) (λ h. clash (x .kept i h) (u i m)))
-
-  -- the first round tests the silent hops
-  pub first-yes : (i : ℕ) {a : ℕ} → a ≡ label hs i → a ≡ 0 → due hs 0 i ≡ true
-  unfolding due
-  first-yes i e z = eq-eqb (label hs i) 0 (sym e ∙ z)
-
-  pub first-no : (i : ℕ) {a : ℕ} → a ≡ label hs i → (a ≡ 0 → ⊥) → due hs 0 i ≡ false
-  unfolding due
-  first-no i e n = ne-eqb (label hs i) 0 (λ z. n (e ∙ z))
 
   -- what is listed as fallen was listed to be tested
   pub tested-inside : {p : ℕ → Bool} {ms qs old new fl : List ℕ} {n r : ℕ} → Lists (count hs) p qs n → Tested hs ms qs n old new fl r →

@@ -1,1 +1,1 @@
-pub mod Falling  -- what the parts of a round ask and leave, and what holds between two rounds
+pub mod Falling  -- what holds between two rounds

@@ -1,22 +1,21 @@
 -- What a sweep does to the set that marks are: a mark that goes takes no hop of the marked set, since those close with any set that
 -- holds the marked set. When every marked hop closes, the set is the marked set. Assumes nothing.
 use Prim.Native.Nat.{ℕ, _+_, _<_, _≤_}
-use mathlib.Core.Path.{_≡_, refl, sym, ap, _∙_}
+use mathlib.Core.Path.{_≡_, refl, sym, _∙_}
 use mathlib.Core.Bool.{Bool, true, false}
-use mathlib.Core.List.{List, _++_}
+use mathlib.Core.List.{List}
 use mathlib.Core.Logic.{_⊎_, inl, inr, ⊎-elim}
 use native.Mathlib.Omega.{arith}
-use lib.ListN.{length, getD, set, take, drop, length-set, take-append-drop}
-use lib.Seq.{getD-set-same, getD-set-other, drop-set-lt, getD-take, length-take-le, ext-getD}
+use lib.ListN.{length, getD, set, drop, length-set}
+use lib.Seq.{getD-set-same, getD-set-other, drop-set-lt}
 use borrow.Author.Tests.{eqb-true, eq-eqb}
 use borrow.Author.Count.{below-more}
 use Rattle.below.proofs.Bools.{clash, and-yes, eq-or-not}
-use Rattle.below.proofs.Tests.{any-found, tally-within, tally-less, getD-listed}
+use Rattle.below.proofs.Tests.{any-found, tally-within, tally-less}
 use Rattle.outputs.specs.Output.{onFront}
-use Rattle.graph.specs.Hops.{count, from, label, to, is, has}
+use Rattle.graph.specs.Hops.{count, from, to, is, has}
 use Rattle.graph.specs.Order.{Ascending}
 use Rattle.graph.proofs.Places.{is-yes, is-from, is-to}
-use Rattle.shrinking.specs.Pairs.{Pairs}
 use Rattle.confluence.specs.Rounds.{closes, closesAt, marked}
 use Rattle.confluence.specs.Held.{isMarked, heldBy, markOf, marksOf, everyPair}
 use Rattle.confluence.proofs.Marked.{marked-confluent, marked-kept, marked-same}

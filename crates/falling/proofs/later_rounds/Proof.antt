@@ -1,15 +1,14 @@
 -- `falling::later_rounds` meets its contract: after each round the marks are those of the hops that survive it, and where nothing fell they are done. Assumes nothing.
-use Prim.Native.Nat.{ℕ, suc, _+_, _<_, _≤_}
-use mathlib.Core.Path.{_≡_, refl, _∙_}
+use Prim.Native.Nat.{suc, _+_}
+use mathlib.Core.Path.{_≡_, refl}
 use mathlib.Core.Bool.{cond}
 use native.Mathlib.Omega.{arith}
-use borrow.Author.Needs.{needs}
-use lib.ListN.{length, getD}
+use lib.ListN.{length}
 use lib.Dec.{ltb}
 use Rattle.below.specs.Tests.{tally}
 use Rattle.graph.specs.Hops.{count}
 use Rattle.confluence.specs.Held.{isMarked}
-use Rattle.retests.specs.Queue.{Tables, Leaving, Queue, Listed}
+use Rattle.noting.specs.Queue.{Tables, Leaving, Queue, Listed}
 use Rattle.falling.specs.Falling.{AfterSome}
 use Rattle.falling.proofs.Rounds.{noted-lists, noted-most, noted-spared, lists-listed, tested-queue, next-falls, after-next, leaving-next, after-less, after-early, after-tests, after-marks, tests-most}
 use Rattle.falling.proofs.later_rounds.Statement.{statement}

@@ -1,13 +1,13 @@
 -- `falling::mark_rounds` meets its contract: the first round tests every silent hop, and the later ones go on from there. Assumes nothing.
-use Prim.Native.Nat.{ℕ, _<_}
-use mathlib.Core.Path.{_≡_, refl, _∙_}
+use Prim.Native.Nat.{ℕ}
+use mathlib.Core.Path.{refl}
 use native.Mathlib.Omega.{arith}
 use lib.ListN.{length-replicate}
 use Rattle.below.proofs.Bools.{clash}
 use Rattle.confluence.specs.Rounds.{survives, marked}
 use Rattle.confluence.proofs.Marks.{marks-over}
 use Rattle.graph.specs.Answers.{most-hops}
-use Rattle.falling.specs.Falling.{Spared}
+use Rattle.testing.specs.Testing.{Spared}
 use Rattle.falling.proofs.Rounds.{after-first, after-still, after-itself, after-tests, after-marks, first-queue, lists-listed, lists-most, tested-inside, zeros-unset}
 use borrow.Author.Needs.{needs}
 use Rattle.falling.proofs.mark_rounds.Statement.{statement}

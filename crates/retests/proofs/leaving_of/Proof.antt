@@ -9,8 +9,8 @@ use lib.ListN.{length, length-set, length-replicate}
 use Rattle.graph.specs.Hops.{count, from}
 use Rattle.graph.specs.Answers.{most-states}
 use Rattle.confluence.specs.Held.{isMarked}
-use Rattle.retests.specs.Queue.{Leaving}
-use Rattle.retests.proofs.Queueing.{leaving-more, leaving-skip}
+use Rattle.noting.specs.Queue.{Leaving}
+use Rattle.noting.proofs.Queueing.{leaving-more, leaving-skip}
 use Rattle.retests.proofs.leaving_of.Statement.{statement}
 use Rattle.retests.proofs.leaving_of.Tie as tie
 

@@ -1,11 +1,11 @@
 -- `retests::next_due` meets its contract: what each fallen hop brings. Assumes nothing.
-use Prim.Native.Nat.{ℕ, _-_, _<_, _≤_}
-use mathlib.Core.Path.{_≡_, refl}
+use Prim.Native.Nat.{_-_, _<_, _≤_}
+use mathlib.Core.Path.{refl}
 use native.Mathlib.Omega.{arith}
 use lib.ListN.{getD}
 use Rattle.graph.specs.Hops.{count}
-use Rattle.retests.specs.Queue.{Listed, Noted}
-use Rattle.retests.proofs.Walks.{Walked, walk-none, walk-more, Falls, falls-at, falls-all}
+use Rattle.noting.specs.Queue.{Listed, Noted}
+use Rattle.noting.proofs.Walks.{Walked, walk-none, walk-more, Falls, falls-at, falls-all}
 use Rattle.retests.proofs.next_due.Statement.{statement}
 use Rattle.retests.proofs.next_due.Tie as tie
 

@@ -1,13 +1,13 @@
 -- `retests::note_fallen` meets its contract: the walk over the hops into s3. Assumes nothing.
-use Prim.Native.Nat.{ℕ, _+_, _-_, _<_, _≤_}
+use Prim.Native.Nat.{_+_, _-_, _<_, _≤_}
 use mathlib.Core.Path.{_≡_, refl, _∙_}
 use native.Mathlib.Omega.{arith}
 use borrow.Author.Needs.{needs}
-use Rattle.graph.specs.Hops.{count, from}
+use Rattle.graph.specs.Hops.{from}
 use Rattle.ends.specs.Ends.{beginOf}
 use Rattle.ends.proofs.Ends.{begin-next, begin-within, place-in}
-use Rattle.retests.specs.Queue.{Noted}
-use Rattle.retests.proofs.Walks.{Walked, walk-none, walk-more, Tries, tries-at, tries-all, begin-is}
+use Rattle.noting.specs.Queue.{Noted}
+use Rattle.noting.proofs.Walks.{Walked, walk-none, walk-more, Tries, tries-at, tries-all, begin-is}
 use Rattle.retests.proofs.note_fallen.Statement.{statement}
 use Rattle.retests.proofs.note_fallen.Tie as tie
 

@@ -1,7 +1,7 @@
 -- `retests::note_hop` meets its contract: either way queues the same. Assumes nothing.
 use mathlib.Core.Path.{_∙_}
 use native.Mathlib.Omega.{arith}
-use Rattle.retests.proofs.Walks.{trying-none, start-most, begin-most}
+use Rattle.noting.proofs.Walks.{trying-none, start-most, begin-most}
 use borrow.Author.Needs.{needs}
 use Rattle.retests.proofs.note_hop.Statement.{statement}
 use Rattle.retests.proofs.note_hop.Tie as tie
