@@ -23,7 +23,7 @@ use Rattle.ends.specs.Ends.{beginOf, slot, Begins, Filled}
 use Rattle.ends.proofs.Ends.{begin-within, slot-in, place-in}
 use Rattle.confluence.specs.Rounds.{FirstPoint}
 use Rattle.confluence.specs.Held.{isMarked}
-use Rattle.noting.specs.Queue.{Tables, Leaving, Queue, Wanted, Noted, Only, Joining, Answering, Trying, Asked, Point, ClosedBy, ClosedByAny}
+use Rattle.noting.specs.Queue.{Tables, Leaving, Queue, Wanted, Noted, Only, Joining, Like, Answering, Trying, Asked, Point, ClosedBy, ClosedByAny}
 use Rattle.noting.proofs.Queueing.{flag-yes, flag-says, noted-none, noted-then, noted-same}
 
 -- what the steps from lo on and before k bring, if step y brings X y
@@ -79,22 +79,24 @@ module _ (hs ms : List ℕ) where
           noted-same hs ms g (λ x w. rw w (is-from hs s1 0 s2 i (there .1), is-to hs s1 0 s2 i (there .1)))
           (λ x l w. one-place hs up s1 0 s2 l (there .0) (is-yes hs s1 0 s2 x (w .inside .0) (w .silent) (w .inside .1)) (there .1))
 
+  -- with one label, or without
+  module _ (j m : ℕ) {a b : ℕ} (e : a ≡ label hs m) (f : b ≡ label hs j) where
+    pub like-yes : {s t : ℕ} {fs new qs : List ℕ} {r : ℕ} → a ≡ b → s ≡ from hs j → t ≡ from hs m → Noted hs ms (Joining hs s t) fs new qs r → Noted hs ms (Like hs j m) fs new qs r
+    like-yes d p q g = noted-same hs ms g (λ x (u, v). (sym e ∙ (d ∙ f), (u ∙ p, v ∙ q))) (λ x l w. (w .inside .1 .0 ∙ sym p, w .inside .1 .1 ∙ sym q))
+
+    pub like-no : (a ≡ b → ⊥) → {fs qs : List ℕ} {n : ℕ} → Queue hs fs qs n → Noted hs ms (Like hs j m) fs fs qs n
+    like-no n c = noted-none hs ms c (λ x l w. absurd (n (e ∙ (w .inside .0 ∙ sym f))))
+
   pub pair-to : {s1 s2 t1 t2 : ℕ} {fs new qs : List ℕ} {r : ℕ} → s1 ≡ t1 → s2 ≡ t2 → Noted hs ms (Joining hs s1 s2) fs new qs r → Noted hs ms (Joining hs t1 t2) fs new qs r
   pair-to p q g = rw (p, q) at g
 
   -- over the hops into s4, the end of the hop at place p: those of the label of the hop at place j
   module _ (ps : List ℕ) (j p : ℕ) where
     abbrev pub Into : ℕ → ℕ → Type 0
-    Into y x = (label hs (getD ps y 0) ≡ label hs j) × Joining hs (from hs j) (from hs (getD ps y 0)) x
+    Into y x = Like hs j (getD ps y 0) x
 
-    pub into-yes : (y : ℕ) {m a b s : ℕ} {fs new qs : List ℕ} {r : ℕ} → m ≡ getD ps y 0 → a ≡ label hs m → b ≡ label hs j → a ≡ b → s ≡ from hs m →
-        Noted hs ms (Joining hs (from hs j) s) fs new qs r → Noted hs ms (Into y) fs new qs r
-    into-yes y d e f h q g =
-        noted-same hs ms g (λ x (u, v). (sym (rw d at e) ∙ (h ∙ f), (u, v ∙ (rw d at q))))
-        (λ x l w. (w .inside .1 .0, w .inside .1 .1 ∙ sym (rw d at q)))
-
-    pub into-no : (y : ℕ) {m a b : ℕ} → m ≡ getD ps y 0 → a ≡ label hs m → b ≡ label hs j → (a ≡ b → ⊥) → (x : ℕ) → Wanted hs ms (Into y) x → ⊥
-    into-no y d e f n x w = n (rw d at e ∙ (w .inside .0 ∙ sym f))
+    pub into-at : (y : ℕ) {m : ℕ} {fs new qs : List ℕ} {r : ℕ} → m ≡ getD ps y 0 → Noted hs ms (Like hs j m) fs new qs r → Noted hs ms (Into y) fs new qs r
+    into-at y e g = rw e at g
 
     pub into-all : Filled hs (count hs) ps → p < count hs → {lo hi k : ℕ} → lo ≡ beginOf hs (to hs p) → hi ≡ beginOf hs (to hs p + 1) → hi ≤ k → k ≤ hi →
         {fs new qs : List ℕ} {r : ℕ} → Noted hs ms (Walked Into lo k) fs new qs r → Noted hs ms (Answering hs j p) fs new qs r

@@ -57,6 +57,10 @@ Only i x = x ≡ i
 abbrev pub Joining : List ℕ → ℕ → ℕ → ℕ → Type 0
 Joining hs s1 s2 x = (from hs x ≡ s1) × (to hs x ≡ s2)
 
+-- the same from where the hop at place j begins to where the one at place m does, if the two have one label
+abbrev pub Like : List ℕ → ℕ → ℕ → ℕ → Type 0
+Like hs j m x = (label hs m ≡ label hs j) × Joining hs (from hs j) (from hs m) x
+
 -- of hops that leave s1, as the hop to try at place j does, and end in a state with a hop of its label to s4, where the hop that fell, at place p, ends
 abbrev pub Answering : List ℕ → ℕ → ℕ → ℕ → Type 0
 Answering hs j p x = (from hs x ≡ from hs j) × (has hs (to hs x) (label hs j) (to hs p) ≡ true)

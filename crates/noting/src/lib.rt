@@ -22,7 +22,7 @@ ghost use lib.ListN.{length};
 ghost use Rattle.graph.specs.Hops.{count, label};
 ghost use Rattle.graph.specs.Answers.{most-states};
 ghost use Rattle.starts.specs.Starts.{Table, Ready};
-ghost use Rattle.noting.specs.Queue.{Tables, Queue, Noted, Only, Joining, Answering, Trying, Asked, Point};
+ghost use Rattle.noting.specs.Queue.{Tables, Queue, Noted, Only, Joining, Like, Answering, Trying, Asked, Point};
 
 // Queues the silent hop at place i if it is marked, and not queued yet; returns how long the queue is.
 fn note(
@@ -76,6 +76,42 @@ fn note_pair(
     note(hops, marks, flags, queue, n, i)
 }
 
+// Queues the silent hop from where the hop at place j begins to where the one at place m does, if the two have one label.
+fn note_like(
+    hops: &[u16],
+    starts: &[u16; STARTS],
+    marks: &[u8],
+    flags: &mut [u8; MOST_HOPS],
+    queue: &mut [u16; MOST_HOPS],
+    n: usize,
+    j: usize,
+    m: usize,
+) -> usize
+    requires ready { ⌜ Ready (now hops) ⌝ }
+    requires table { ⌜ Table (now hops) (now starts) ⌝ }
+    requires room { ⌜ count (now hops) ≤ length (now marks) ⌝ }
+    requires queue { ⌜ Queue (now hops) (now flags) (now queue) n ⌝ }
+    requires tried { ⌜ j < count (now hops) ⌝ }
+    requires answer { ⌜ m < count (now hops) ⌝ }
+    ensures { λ r. ⌜ Noted (now (hops .entry)) (now (marks .entry)) (Like (now (hops .entry)) j m)
+        (now (flags .entry)) (now (flags .exit)) (now (queue .exit)) r ⌝ }
+{
+    let a = label_at(hops, m);
+    if a.0 != label_at(hops, j).0 {
+        return n;
+    }
+    note_pair(
+        hops,
+        starts,
+        marks,
+        flags,
+        queue,
+        n,
+        from_at(hops, j),
+        from_at(hops, m),
+    )
+}
+
 // Queues s1's silent hops to states that have a hop to s4 of the label of the hop at place j, which leaves s1: each hop into s4 is asked.
 fn note_answers(
     hops: &[u16],
@@ -97,26 +133,13 @@ fn note_answers(
     ensures { λ r. ⌜ Noted (now (hops .entry)) (now (marks .entry)) (Answering (now (hops .entry)) j p)
         (now (flags .entry)) (now (flags .exit)) (now (queue .exit)) r ⌝ }
 {
-    let s1 = from_at(hops, j);
-    let a = label_at(hops, j);
     let s4 = wide(to_at(hops, p).0);
     let past = start_of(begins, s4 + 1);
     let mut length = n;
     let mut k = start_of(begins, s4);
     while k < past {
         let m = place_at(places, k);
-        if label_at(hops, m).0 == a.0 {
-            length = note_pair(
-                hops,
-                starts,
-                marks,
-                flags,
-                queue,
-                length,
-                s1,
-                from_at(hops, m),
-            );
-        }
+        length = note_like(hops, starts, marks, flags, queue, length, j, m);
         k += 1;
     }
     length
