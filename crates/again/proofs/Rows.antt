@@ -17,7 +17,7 @@ use Rattle.starts.proofs.Rows.{first-labelled}
 use Rattle.confluence.specs.Rounds.{answered}
 use Rattle.confluence.specs.Held.{heldBy, isMarked}
 use Rattle.merging.specs.Row.{Row}
-use Rattle.again.specs.Again.{Unshaken}
+use Rattle.again.specs.Again.{Unshed}
 
 -- the hops of s labelled a or more
 pub labelled-row : (hs : List ℕ) → Ascending hs → (s a : ℕ) → Row hs s a (labelledFrom hs s a) (firstOf hs (s + 1))
@@ -46,8 +46,8 @@ labelled-row hs up s a = record { within = first-within hs up (s + 1); own = own
 pub row-is : (hs : List ℕ) → Ascending hs → (s : ℕ) {a b at past : ℕ} → b ≡ a → at ≡ labelledFrom hs s b → past ≡ firstOf hs (s + 1) → Row hs s a at past
 row-is hs up s {a} q e p = rw (e, p, q) (labelled-row hs up s a)
 
--- a hop of the state that the one at place i leaves, tried against t, its end: where it leads to a state that is not shaken it is answered
-pub unshaken-at : (hs ms sh : List ℕ) (i : ℕ) → Unshaken hs ms sh i → {j t : ℕ} → j < count hs → from hs j ≡ from hs i → t ≡ to hs i →
+-- a hop of the state that the one at place i leaves, tried against t, its end: where it leads to a state that is not shed it is answered
+pub unshed-at : (hs ms sh : List ℕ) (i : ℕ) → Unshed hs ms sh i → {j t : ℕ} → j < count hs → from hs j ≡ from hs i → t ≡ to hs i →
     isMarked sh (to hs j) ≡ false → answered hs (heldBy hs ms) t j ≡ true
-unfolding Unshaken
-unshaken-at hs ms sh i u {j} l f q e = rw q (u j l f e)
+unfolding Unshed
+unshed-at hs ms sh i u {j} l f q e = rw q (u j l f e)

@@ -7,6 +7,6 @@ use Rattle.graph.specs.Hops.{count, from, to}
 use Rattle.confluence.specs.Rounds.{answered}
 use Rattle.confluence.specs.Held.{heldBy, isMarked}
 
--- the hops of the state that the hop at place i leaves, if they lead to a state that is not shaken, are answered from its end
-unfoldable pub Unshaken : List ℕ → List ℕ → List ℕ → ℕ → Type 0
-Unshaken hs ms sh i = (j : ℕ) → j < count hs → from hs j ≡ from hs i → isMarked sh (to hs j) ≡ false → answered hs (heldBy hs ms) (to hs i) j ≡ true
+-- the hops of the state that the hop at place i leaves, if they lead to a state that is not shed, are answered from its end
+unfoldable pub Unshed : List ℕ → List ℕ → List ℕ → ℕ → Type 0
+Unshed hs ms sh i = (j : ℕ) → j < count hs → from hs j ≡ from hs i → isMarked sh (to hs j) ≡ false → answered hs (heldBy hs ms) (to hs i) j ≡ true

@@ -1,5 +1,5 @@
 // Whether a silent hop that closed before still closes with the set that a list of marks is: the test of a later round of marking. Of the hops from its start
-// only those to shaken states, which lost a silent hop in the round before, are tried again; the others are answered as they were.
+// only those to shed states, which lost a silent hop in the round before, are tried again; the others are answered as they were.
 // It stands on `confluence` (what closing is, and the set that marks are), `graph` (hops and their order), `starts` (where a state's hops begin, and the
 // search among them), `merging` (the hops of a state from a label on) and `closes` (one trial).
 use closes::is_answered;
@@ -26,7 +26,7 @@ ghost use Rattle.graph.specs.Answers.{most-states};
 ghost use Rattle.confluence.specs.Rounds.{answered, closesAt};
 ghost use Rattle.confluence.specs.Held.{heldBy, isMarked};
 ghost use Rattle.starts.specs.Starts.{Table, Ready};
-ghost use Rattle.again.specs.Again.{Unshaken};
+ghost use Rattle.again.specs.Again.{Unshed};
 
 // Where h stands or would stand. Whether it does is then asked of the list, so that no answer rests on this place.
 fn place_of(hops: &[u16], starts: &[u16; STARTS], h: Hop) -> usize
@@ -40,13 +40,13 @@ fn place_of(hops: &[u16], starts: &[u16; STARTS], h: Hop) -> usize
     }
 }
 
-// Y of the hop at place j against a silent hop to s2: where its end is not shaken it is answered, and nothing is asked; else it is tried. The walk that
+// Y of the hop at place j against a silent hop to s2: where its end is not shed it is answered, and nothing is asked; else it is tried. The walk that
 // `closes` goes side by side would pass over most of s2's hops here, so the two places of a trial are found by halving.
 fn passes(
     hops: &[u16],
     starts: &[u16; STARTS],
     marks: &[u8],
-    shaken: &[u8; MOST_STATES],
+    shed: &[u8; MOST_STATES],
     s2: OldState,
     j: usize,
 ) -> bool
@@ -55,11 +55,11 @@ fn passes(
     requires room { ⌜ count (now hops) ≤ length (now marks) ⌝ }
     requires place { ⌜ j < count (now hops) ⌝ }
     requires asked { ⌜ s2 .0 < most-states ⌝ }
-    requires other { ⌜ (isMarked (now shaken) (to (now hops) j) ≡ false → answered (now hops) (heldBy (now hops) (now marks)) (s2 .0) j ≡ true) ⌝ }
+    requires other { ⌜ (isMarked (now shed) (to (now hops) j) ≡ false → answered (now hops) (heldBy (now hops) (now marks)) (s2 .0) j ≡ true) ⌝ }
     ensures { λ r. ⌜ r ≡ answered (now (hops .entry)) (heldBy (now (hops .entry)) (now (marks .entry))) (s2 .0) j ⌝ }
 {
     let s3 = to_at(hops, j);
-    if shaken[wide(s3.0)] != 1 {
+    if shed[wide(s3.0)] != 1 {
         return true;
     }
     let a = label_at(hops, j);
@@ -80,20 +80,20 @@ fn passes(
     )
 }
 
-// X of a silent hop, the one at place i, tested again: of the hops from its start only those to shaken states are tried, since the others are answered as
+// X of a silent hop, the one at place i, tested again: of the hops from its start only those to shed states are tried, since the others are answered as
 // before.
 pub fn closes_again(
     hops: &[u16],
     starts: &[u16; STARTS],
     marks: &[u8],
-    shaken: &[u8; MOST_STATES],
+    shed: &[u8; MOST_STATES],
     i: usize,
 ) -> bool
     requires ready { ⌜ Ready (now hops) ⌝ }
     requires table { ⌜ Table (now hops) (now starts) ⌝ }
     requires room { ⌜ count (now hops) ≤ length (now marks) ⌝ }
     requires place { ⌜ i < count (now hops) ⌝ }
-    requires others { ⌜ Unshaken (now hops) (now marks) (now shaken) i ⌝ }
+    requires others { ⌜ Unshed (now hops) (now marks) (now shed) i ⌝ }
     ensures { λ r. ⌜ r ≡ closesAt (now (hops .entry)) (heldBy (now (hops .entry)) (now (marks .entry))) i ⌝ }
 {
     let s1 = wide(from_at(hops, i).0);
@@ -101,7 +101,7 @@ pub fn closes_again(
     let end = start_of(starts, s1 + 1);
     let mut j = start_of(starts, s1);
     while j < end {
-        if !passes(hops, starts, marks, shaken, s2, j) {
+        if !passes(hops, starts, marks, shed, s2, j) {
             return false;
         }
         j += 1;

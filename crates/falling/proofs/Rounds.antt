@@ -23,7 +23,7 @@ use Rattle.confluence.specs.Rounds.{answered, closes, survives, marked}
 use Rattle.confluence.specs.Held.{isMarked, markOf, marksOf, everyPair}
 use Rattle.confluence.proofs.Rounds.{survives-none}
 use Rattle.confluence.proofs.Closing.{Answered, answers-yes, closes-says}
-use Rattle.again.specs.Again.{Unshaken}
+use Rattle.again.specs.Again.{Unshed}
 use Rattle.confluence.proofs.Marks.{mark-one, mark-visible, marks-at, marks-room, marks-beyond, marks-made}
 use Rattle.due.specs.Due.{fell, standing, shaken, due, testsIn, testsUpTo, testsOf}
 use Rattle.due.proofs.Due.{survives-closes, due-standing, fell-yes, fell-place, standing-yes, standing-silent, standing-survives, standing-falls, shaken-yes, shaken-says, not-due-stands, Idle, none-idle, idle-marked, due-early, tests-end}
@@ -109,7 +109,7 @@ module _ (hs : List ℕ) where
 
       -- what leads to a state that nothing fell from is answered as it was in the round before
       pub noted-spared : (sh : List ℕ) → Shed hs fl n sh → Spared hs ms sh false qs r
-      unfolding Spared Shed Unshaken answered
+      unfolding Spared Shed Unshed answered
       noted-spared sh f b m l j v e o = rw (held-survives hs (suc k) ms out (a .marks)) (answers-yes hs (survives hs (suc k)) (to hs i) (label hs j) (to hs j) (still (closes-says hs (survives hs k) (from hs i) (to hs i) closed (label hs j) (to hs j) (rw e at (has-at hs v))))) where
         i : ℕ
         i = getD qs m 0

@@ -86,12 +86,13 @@ pub fn mark_rounds(hops: &[u16], marks: &mut [u8]) -> usize
     let mut fallen = [0u16; MOST_HOPS];
     start_marks(hops, marks);
     let n = list_silent(hops, &mut queue);
-    let every = [0u8; MOST_STATES];
+    // the first round leaves nothing out, and does not look at this
+    let unasked = [0u8; MOST_STATES];
     let lost = test_due(
         hops,
         &starts,
         marks,
-        &every,
+        &unasked,
         true,
         &queue,
         n,

@@ -9,7 +9,7 @@ use Rattle.graph.specs.Hops.{count, from}
 use Rattle.graph.specs.Answers.{most-hops}
 use Rattle.confluence.specs.Rounds.{closesAt}
 use Rattle.confluence.specs.Held.{isMarked, heldBy}
-use Rattle.again.specs.Again.{Unshaken}
+use Rattle.again.specs.Again.{Unshed}
 use Rattle.due.specs.Due.{standing}
 use Rattle.noting.specs.Queue.{Among}
 
@@ -21,7 +21,7 @@ pub record Lists (c : ℕ) (p : ℕ → Bool) (qs : List ℕ) (n : ℕ) : Type 0
 
 -- a test that is not of the first round may leave out what leads to a state that is not shed: for the first n of qs that is answered still
 unfoldable pub Spared : List ℕ → List ℕ → List ℕ → Bool → List ℕ → ℕ → Type 0
-Spared hs ms sh first qs n = first ≡ false → (k : ℕ) → k < n → Unshaken hs ms sh (getD qs k 0)
+Spared hs ms sh first qs n = first ≡ false → (k : ℕ) → k < n → Unshed hs ms sh (getD qs k 0)
 
 -- the states that the first n of fl leave have their byte
 unfoldable pub Shed : List ℕ → List ℕ → ℕ → List ℕ → Type 0

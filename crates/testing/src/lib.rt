@@ -21,7 +21,7 @@ ghost use Rattle.graph.specs.Answers.{most-hops};
 ghost use Rattle.confluence.specs.Rounds.{closesAt};
 ghost use Rattle.confluence.specs.Held.{heldBy};
 ghost use Rattle.starts.specs.Starts.{Table, Ready};
-ghost use Rattle.again.specs.Again.{Unshaken};
+ghost use Rattle.again.specs.Again.{Unshed};
 ghost use Rattle.due.specs.Due.{due};
 ghost use Rattle.noting.specs.Queue.{Listed};
 ghost use Rattle.testing.specs.Testing.{Lists, Spared, Shed, Tested, Taken};
@@ -77,7 +77,7 @@ fn stands(
     requires table { ⌜ Table (now hops) (now starts) ⌝ }
     requires room { ⌜ count (now hops) ≤ length (now marks) ⌝ }
     requires place { ⌜ i < count (now hops) ⌝ }
-    requires others { ⌜ (first ≡ false → Unshaken (now hops) (now marks) (now shed) i) ⌝ }
+    requires others { ⌜ (first ≡ false → Unshed (now hops) (now marks) (now shed) i) ⌝ }
     ensures { λ r. ⌜ r ≡ closesAt (now (hops .entry)) (heldBy (now (hops .entry)) (now (marks .entry))) i ⌝ }
 {
     if first {

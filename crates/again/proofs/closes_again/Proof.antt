@@ -10,16 +10,16 @@ use Rattle.confluence.specs.Rounds.{closing, answers, tried}
 use Rattle.confluence.specs.Held.{heldBy}
 use Rattle.starts.proofs.Firsts.{start-is}
 use Rattle.closes.proofs.Rows.{Own, own-start, own-in, own-from, own-next, tried-before, tried-done, tried-fails, tried-next}
-use Rattle.again.proofs.Rows.{unshaken-at}
+use Rattle.again.proofs.Rows.{unshed-at}
 use Rattle.again.proofs.closes_again.Statement.{statement}
 use Rattle.again.proofs.closes_again.Tie as tie
 
 abbrev Inv-loop : tie.InvT-loop
-Inv-loop hops starts marks shaken i s1 s2 end j₀ j =
+Inv-loop hops starts marks shed i s1 s2 end j₀ j =
     Own hops (from hops i) end j × ((k : ℕ) → k < j → tried hops (answers hops (closing (heldBy hops marks))) (from hops i) (to hops i) k ≡ true)
 
 abbrev μ-loop : tie.MeasureT-loop
-μ-loop hops starts marks shaken i s1 s2 end j₀ j = end - j
+μ-loop hops starts marks shed i s1 s2 end j₀ j = end - j
 
 from-at-requires : tie.Need-from-at-requires Inv-loop μ-loop
 from-at-requires c κs = search needs
@@ -56,7 +56,7 @@ passes-requires c κs =
     let o = c .before .loop .inv .0 in
     let l = c .loop-test .taken in
     let t = c .before .before .before .before .to-at .ensures in
-    let other = unshaken-at _ _ _ (st .args .i) (st .pre .1 .1 .1 .1) (own-in _ up _ _ o l) (own-from _ up _ _ o l) t in
+    let other = unshed-at _ _ _ (st .args .i) (st .pre .1 .1 .1 .1) (own-in _ up _ _ o l) (own-from _ up _ _ o l) t in
     (st .pre .0, (st .pre .1 .0, (st .pre .1 .1 .0, (own-in _ up _ _ o l, (rw t (st .pre .0 .to-in (st .args .i) (st .pre .1 .1 .1 .0)), other)))))
 
 returns : tie.Need-returns Inv-loop μ-loop

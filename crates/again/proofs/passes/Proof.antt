@@ -1,4 +1,4 @@
--- `again::passes` meets its contract: an end that is not shaken is answered, and any other is tried from the two places that the search gives.
+-- `again::passes` meets its contract: an end that is not shed is answered, and any other is tried from the two places that the search gives.
 -- Assumes nothing.
 use Prim.Native.Nat.{ℕ, _+_}
 use mathlib.Core.Path.{sym, ap, _∙_}
