@@ -1,4 +1,4 @@
-//! The graphs and files that are timed.
+//! The graphs that are timed.
 
 use differential::entries::Graph;
 use std::collections::BTreeSet;
@@ -9,58 +9,104 @@ pub struct Named {
     pub graph: Graph,
 }
 
-type Hops = BTreeSet<[u16; 3]>;
-
-fn graph(name: &'static str, states: u16, labels: u16, hops: impl IntoIterator<Item = [u16; 3]>) -> Named {
-    let hops: Hops = hops.into_iter().collect();
-    assert!(hops.len() <= 4096, "{name} has {} hops", hops.len());
-    let hops = hops.into_iter().flatten().collect();
-    Named { name, graph: Graph { states: states.into(), labels: labels.into(), initial: 0, hops } }
+/// A kind of graph that is there in sizes from 128 to 1,024 states.
+pub struct Family {
+    pub name: &'static str,
+    pub of: fn(u16) -> Graph,
 }
 
-/// xorshift, always from the same seed.
-pub struct Random(pub u64);
+type Hops = BTreeSet<[u16; 3]>;
+
+fn graph_of(states: u16, labels: u16, hops: impl IntoIterator<Item = [u16; 3]>) -> Graph {
+    let hops: Hops = hops.into_iter().collect();
+    assert!(hops.len() <= 4096, "{} hops", hops.len());
+    Graph { states: states.into(), labels: labels.into(), initial: 0, hops: hops.into_iter().flatten().collect() }
+}
+
+fn graph(name: &'static str, states: u16, labels: u16, hops: impl IntoIterator<Item = [u16; 3]>) -> Named {
+    Named { name, graph: graph_of(states, labels, hops) }
+}
+
+/// xorshift.
+pub struct Random(u64);
 
 impl Random {
+    /// Always from the same seed.
+    pub fn new() -> Random {
+        Random(0x2545_f491_4f6c_dd1d)
+    }
+
     pub fn below(&mut self, bound: u16) -> u16 {
         self.0 ^= self.0 << 13;
         self.0 ^= self.0 >> 7;
         self.0 ^= self.0 << 17;
         ((self.0 >> 20) % u64::from(bound)) as u16
     }
+
+    /// The numbers below a bound, each once.
+    pub fn shuffled(&mut self, bound: u16) -> Vec<u16> {
+        let mut order: Vec<u16> = (0..bound).collect();
+        for i in (1..bound).rev() {
+            order.swap(i.into(), self.below(i + 1).into());
+        }
+        order
+    }
 }
 
-pub fn graphs() -> Vec<Named> {
-    vec![
-        graph("chain, numbered along", 1024, 1, (0..1023).map(|s| [s, 0, s + 1])),
-        graph("chain, numbered against", 1024, 1, (1..1024).map(|s| [s, 0, s - 1])),
-        grid("grid, silent down, visible across", 1),
-        grid("grid, all silent", 0),
-        random("random, no ring, 3 labels", 3, 40),
-        random("random, no ring, 1 label", 1, 100),
-        random("random, no ring, 1,024 labels", 1024, 30),
-        class(),
-        graph("order of 91 states, all silent", 91, 1, (0..91).flat_map(|s| (s + 1..91).map(move |t| [s, 0, t]))),
-        graph("visible hops only, one label", 1024, 2, (0..1024).flat_map(|s| (0..4).map(move |d| [s, 1, (s + 7 * d + 1) % 1024]))),
-        descending(),
-        falling(),
+pub fn families() -> [Family; 9] {
+    [
+        Family { name: "chain, numbered along", of: |n| chain((0..n).collect()) },
+        Family { name: "chain, numbered against", of: |n| chain((0..n).rev().collect()) },
+        Family { name: "chain, numbered at random", of: |n| chain(Random::new().shuffled(n)) },
+        Family { name: "grid, silent down, visible across", of: |n| grid(n, 1) },
+        Family { name: "grid, all silent", of: |n| grid(n, 0) },
+        Family { name: "random, no ring, 3 labels", of: |n| random(n, 3, 40) },
+        Family { name: "random, no ring, 1 label", of: |n| random(n, 1, 100) },
+        Family { name: "random, no ring, 1,024 labels", of: |n| random(n, 1024, 30) },
+        Family { name: "one class", of: class },
     ]
 }
 
-/// 32 by 32 states.
-fn grid(name: &'static str, across: u16) -> Named {
-    let at = |x: u16, y: u16| 32 * x + y;
-    let down = (0..32).flat_map(|x| (0..31).map(move |y| [at(x, y), 0, at(x, y + 1)]));
-    let over = (0..31).flat_map(|x| (0..32).map(move |y| [at(x, y), across, at(x + 1, y)]));
-    graph(name, 1024, 2, down.chain(over))
+pub fn graphs() -> Vec<Named> {
+    let mut graphs: Vec<Named> = families().into_iter().map(|Family { name, of }| Named { name, graph: of(1024) }).collect();
+    graphs.extend([
+        Named { name: "grid, all silent, numbered against", graph: numbered_against(grid(1024, 0)) },
+        graph("order of 91 states, all silent", 91, 1, (0..91).flat_map(|s| (s + 1..91).map(move |t| [s, 0, t]))),
+        graph("visible hops only, one label", 1024, 2, (0..1024).flat_map(|s| (0..4).map(move |d| [s, 1, (s + 7 * d + 1) % 1024]))),
+        images("3,500 images in descending order", (0..500).rev().collect()),
+        images("3,500 images strewn at random", Random::new().shuffled(500)),
+        falling(),
+    ]);
+    graphs
 }
 
-/// 1,024 states and 4,096 hops, so many of 100 of them silent and leading upward.
-fn random(name: &'static str, labels: u16, silent: u16) -> Named {
-    let mut random = Random(0x2545_f491_4f6c_dd1d);
+/// A silent hop from each state to the one behind it in the order.
+fn chain(order: Vec<u16>) -> Graph {
+    graph_of(order.len() as u16, 1, order.windows(2).map(|two| [two[0], 0, two[1]]))
+}
+
+/// 8 by 16, 16 by 16, 16 by 32 or 32 by 32 states.
+fn grid(states: u16, across: u16) -> Graph {
+    let height = 1 << states.ilog2().div_ceil(2);
+    let width = states / height;
+    let at = |x: u16, y: u16| height * x + y;
+    let down = (0..width).flat_map(|x| (0..height - 1).map(move |y| [at(x, y), 0, at(x, y + 1)]));
+    let over = (0..width - 1).flat_map(|x| (0..height).map(move |y| [at(x, y), across, at(x + 1, y)]));
+    graph_of(states, 2, down.chain(over))
+}
+
+/// The same graph, with the last state numbered first.
+fn numbered_against(graph: Graph) -> Graph {
+    let last = graph.states as u16 - 1;
+    graph_of(last + 1, graph.labels as u16, graph.hops.chunks(3).map(|hop| [last - hop[0], hop[1], last - hop[2]]))
+}
+
+/// Four hops a state, so many of 100 of them silent and leading upward.
+fn random(states: u16, labels: u16, silent: u16) -> Graph {
+    let mut random = Random::new();
     let mut hops = Hops::new();
-    while hops.len() < 4096 {
-        let (s, t) = (random.below(1024), random.below(1024));
+    while hops.len() < 4 * usize::from(states) {
+        let (s, t) = (random.below(states), random.below(states));
         if labels == 1 || random.below(100) < silent {
             if s < t {
                 hops.insert([s, 0, t]);
@@ -69,19 +115,19 @@ fn random(name: &'static str, labels: u16, silent: u16) -> Named {
             hops.insert([s, 1 + random.below(labels - 1), t]);
         }
     }
-    graph(name, 1024, labels, hops)
+    graph_of(states, labels, hops)
 }
 
 /// All states are one class: each has silent hops to the next four, and all of them are marked.
-fn class() -> Named {
-    graph("one class of 1,024 states", 1024, 1, (0..1024).flat_map(|s| (s + 1..(s + 5).min(1024)).map(move |t| [s, 0, t])))
+fn class(states: u16) -> Graph {
+    graph_of(states, 1, (0..states).flat_map(|s| (s + 1..(s + 5).min(states)).map(move |t| [s, 0, t])))
 }
 
-/// The images of one state's hops come in descending order, 500 to each of seven labels: each is put in front of those before it.
-fn descending() -> Named {
-    let joined = (0..500).map(|i| [1 + i, 0, 1000 - i]);
+/// State 0 has hops by each of seven labels to 500 states, whose representatives come in the given order; the new numbers of these ascend.
+fn images(name: &'static str, order: Vec<u16>) -> Named {
+    let joined = (1..).zip(order).map(|(s, end)| [s, 0, 501 + end]);
     let asked = (1..8).flat_map(|a| (0..500).map(move |i| [0, a, 1 + i]));
-    graph("3,500 images in descending order", 1001, 8, joined.chain(asked))
+    graph(name, 1001, 8, joined.chain(asked))
 }
 
 /// A ladder whose rungs fall one a sweep, from the far end, beside a block of 32 states whose 496 silent hops stay marked.
@@ -228,11 +274,8 @@ fn looked_up_again(first: u16, states: u16, ends: u16) -> (Hops, u16) {
 pub fn worst_audits() -> Vec<(Named, Graph, Vec<u16>)> {
     let two = || graph("", 1024, 4, (0..1024).flat_map(|q| (0..4).map(move |a| [0, a, q]))).graph;
     let ring = (0..1024).flat_map(|s| (1..5).map(move |d| [s, 0, (s + d) % 1024]));
-    let mut random = Random(0x2545_f491_4f6c_dd1d);
-    let mut order: Vec<u16> = (0..1024).collect();
-    for i in (1..1024).rev() {
-        order.swap(i, usize::from(random.below(i as u16 + 1)));
-    }
+    let mut random = Random::new();
+    let order = random.shuffled(1024);
     let mut strewn: Hops = (0..1024).map(|i| [order[i], 0, order[(i + 1) % 1024]]).collect();
     while strewn.len() < 4096 {
         strewn.insert([random.below(1024), 0, random.below(1024)]);
@@ -251,55 +294,6 @@ pub fn dense_rounds() -> Vec<Named> {
         graph("64 states, silent hops between most", 64, 65, most.chain((0..64).map(|s| [s, 1 + s, 0]))),
         graph("63 states, silent hops between all", 63, 64, all.chain((0..63).map(|s| [s, 1 + s, 0]))),
     ]
-}
-
-/// A file of as many different names of two bytes as fit.
-pub fn many_names() -> Vec<u8> {
-    let count = (58_344 - 5) / 3u16;
-    let mut file = vec![4, 1, 0];
-    file.extend((count + 1).to_le_bytes());
-    for i in 0..count {
-        file.push(2);
-        file.extend(i.to_le_bytes());
-    }
-    file
-}
-
-/// A file of different names of two and of three bytes, at random, that begin with one of forty bytes, those of three with one of eighty pairs: whether two of them
-/// have the same length and the same first bytes cannot be foreseen.
-pub fn alike_names() -> Vec<u8> {
-    let mut random = Random(0x2545_f491_4f6c_dd1d);
-    let (mut seen, mut names) = (BTreeSet::new(), vec![]);
-    loop {
-        let longer = random.below(2) == 1;
-        let mut name = vec![random.below(40) as u8];
-        if longer {
-            name.push(random.below(2) as u8);
-        }
-        name.push(random.below(256) as u8);
-        if 5 + names.len() + 1 + name.len() > 58_344 {
-            break;
-        }
-        if seen.insert(name.clone()) {
-            names.push(name.len() as u8);
-            names.extend(name);
-        }
-    }
-    let mut file = vec![4, 1, 0];
-    file.extend((seen.len() as u16 + 1).to_le_bytes());
-    file.extend(names);
-    file
-}
-
-/// The block of the longest legal file: 1,023 names of 32 bytes that differ at their ends.
-pub fn long_names() -> Vec<u8> {
-    let mut block = vec![];
-    for label in 1..1024u16 {
-        block.push(32);
-        block.extend([b'n'; 30]);
-        block.extend(label.to_be_bytes());
-    }
-    block
 }
 
 /// The graph of the longest legal file.

@@ -69,36 +69,30 @@ fn skip_names(bytes: &[u8], mut at: usize, labels: usize) -> Option<usize> {
     Some(at)
 }
 
-/// The first bad name of the names that fill `bytes[start..end]`.
+/// The first bad name of the names that fill `bytes[start..end]`. The places of those that passed are kept in the order of the names; there they fit 16 bits: a file
+/// is no longer, and in writing 1,023 names that passed are not.
 fn first_bad_name(bytes: &[u8], start: usize, end: usize) -> Option<usize> {
-    let mut earlier: Vec<u32> = vec![];
+    let mut passed: Vec<u16> = vec![];
     let mut at = start;
     while at < end {
         let len = bytes[at];
-        if len == 0 || len > 32 || earlier.iter().any(|&place| same_name(bytes, place as usize, at)) {
+        if len == 0 || len > 32 {
             return Some(at);
         }
-        earlier.push(at as u32);
-        at += 1 + usize::from(len);
+        let name = name_at(bytes, at);
+        match passed.binary_search_by(|&place| name_at(bytes, place.into()).cmp(name)) {
+            Ok(_) => return Some(at),
+            Err(gap) => passed.insert(gap, at as u16),
+        }
+        at += name.len();
     }
     None
 }
 
-/// The names at two places are the same. Lengths are compared before bytes.
-fn same_name(bytes: &[u8], one: usize, two: usize) -> bool {
-    let len = usize::from(bytes[two]);
-    bytes[one] == bytes[two] && same(&bytes[one + 1..one + 1 + len], &bytes[two + 1..two + 1 + len])
-}
-
-fn same(one: &[u8], two: &[u8]) -> bool {
-    let mut i = 0;
-    while i < two.len() {
-        if one[i] != two[i] {
-            return false;
-        }
-        i += 1;
-    }
-    true
+/// The name at a place with its length byte in front, so that names are ordered by length first.
+#[inline]
+fn name_at(bytes: &[u8], place: usize) -> &[u8] {
+    &bytes[place..=place + usize::from(bytes[place])]
 }
 
 /// Decodes numbers from `place` on until the list is full.

@@ -1,5 +1,6 @@
-//! The entries in plain Rust, by the library's algorithms: a table of first places for the hops of a state, one binary search for a hop among them, sweeps for
-//! rings, rounds for marks, searches by states for the audit, a table of what is known for the round question, lengths before bytes for names.
+//! The entries in plain Rust, by the library's algorithms: a table of first places for the hops of a state, one binary search for a hop among them; for rings a
+//! sweep and a search by depth, rounds for marks, counting passes for the order of short hops, searches by states for the audit, a table of what is known for the
+//! round question, a sorted table for names.
 //!
 //! `mark` alone goes another way, by repeated sweeps: that is what marking by rounds is compared with.
 //!
@@ -19,7 +20,6 @@ pub use check::{check, hops_of};
 pub use file::{read, write};
 pub use mark::mark;
 pub use reduce::reduce;
-pub use rings::lowest_on_ring;
 pub use round::round;
 pub use rounds::mark_fast;
 
@@ -96,7 +96,7 @@ pub(crate) fn hop_at(hops: &[u16], place: usize) -> (u16, u16, u16) {
 }
 
 /// The first place between `first` and `past` of an ascending list whose hop is not below `hop`.
-pub(crate) fn lower_between(hops: &[u16], hop: (u16, u16, u16), first: usize, past: usize) -> usize {
+fn lower_between(hops: &[u16], hop: (u16, u16, u16), first: usize, past: usize) -> usize {
     let (mut low, mut high) = (first, past);
     while low < high {
         let middle = low + (high - low) / 2;

@@ -1,32 +1,28 @@
-use crate::{check, find_row, first_places, from_at, hop_count, label_at, lowest_on_ring, places, refuse, to_at, Answer, Shape, ACCEPTED};
+use crate::rings::ringless;
+use crate::{find_row, from_at, hop_count, label_at, places, refuse, to_at, Answer, Shape, ACCEPTED};
 
 /// The entry mark, by repeated sweeps: what the rounds of `mark_fast` are compared with.
 pub fn mark(shape: Shape, hops: &[u16], marks: &mut [u8]) -> Answer {
-    let answer = admitted(shape, hops, marks.len());
-    if answer.number == 0 {
-        set_marks(shape.states as usize, hops, &mut marks[..hop_count(hops)]);
+    match admitted(shape, hops, marks.len()) {
+        Err(refusal) => refusal,
+        Ok(first) => {
+            set_marks(hops, &first, &mut marks[..hop_count(hops)]);
+            ACCEPTED
+        }
     }
-    answer
 }
 
-/// The answer of a marking, with room for so many marks.
-pub(crate) fn admitted(shape: Shape, hops: &[u16], room: usize) -> Answer {
-    let checked = check(shape, hops);
-    if checked.number != 0 {
-        return checked;
-    }
-    if let Some(state) = lowest_on_ring(shape.states as usize, hops) {
-        return refuse(5, state);
-    }
+/// The table of first places of a graph that a marking with room for so many marks takes; else the refusal.
+pub(crate) fn admitted(shape: Shape, hops: &[u16], room: usize) -> Result<Vec<u16>, Answer> {
+    let first = ringless(shape, hops)?;
     if room < hop_count(hops) {
-        return refuse(6, 0);
+        return Err(refuse(6, 0));
     }
-    ACCEPTED
+    Ok(first)
 }
 
 /// For an admitted graph and one element a hop: silent hops start marked; sweeps in list order, in place, until nothing changes.
-fn set_marks(states: usize, hops: &[u16], marks: &mut [u8]) {
-    let first = first_places(states, hops);
+fn set_marks(hops: &[u16], first: &[u16], marks: &mut [u8]) {
     for (place, mark) in marks.iter_mut().enumerate() {
         *mark = u8::from(label_at(hops, place) == 0);
     }
@@ -34,7 +30,7 @@ fn set_marks(states: usize, hops: &[u16], marks: &mut [u8]) {
     while changed {
         changed = false;
         for place in 0..marks.len() {
-            if marks[place] == 1 && !closes(hops, &first, marks, place) {
+            if marks[place] == 1 && !closes(hops, first, marks, place) {
                 marks[place] = 0;
                 changed = true;
             }

@@ -1,21 +1,19 @@
 use crate::mark::{admitted, joined};
-use crate::{find_row, first_places, from_at, hop_count, label_at, lower_row, places, to_at, Answer, Shape};
+use crate::{find_row, from_at, hop_count, label_at, lower_row, places, to_at, Answer, Shape, ACCEPTED};
 use std::cmp::Ordering;
 use std::ops::Range;
 
 /// The entry mark_fast, with the number of tests.
 pub fn mark_fast(shape: Shape, hops: &[u16], marks: &mut [u8]) -> (Answer, u32) {
-    let answer = admitted(shape, hops, marks.len());
-    if answer.number != 0 {
-        return (answer, 0);
+    match admitted(shape, hops, marks.len()) {
+        Err(refusal) => (refusal, 0),
+        Ok(first) => (ACCEPTED, set_marks(hops, &first, &mut marks[..hop_count(hops)])),
     }
-    (answer, set_marks(shape.states as usize, hops, &mut marks[..hop_count(hops)]))
 }
 
 /// For an admitted graph and one element a hop: silent hops start marked; the first round tests them all, each later one those for which a closing fell in the
 /// round before. What falls in a round keeps its mark until the round is over. Gives the number of tests.
-pub(crate) fn set_marks(states: usize, hops: &[u16], marks: &mut [u8]) -> u32 {
-    let first = first_places(states, hops);
+pub(crate) fn set_marks(hops: &[u16], first: &[u16], marks: &mut [u8]) -> u32 {
     let mut tests = 0;
     for (place, mark) in marks.iter_mut().enumerate() {
         *mark = u8::from(label_at(hops, place) == 0);
@@ -23,7 +21,7 @@ pub(crate) fn set_marks(states: usize, hops: &[u16], marks: &mut [u8]) -> u32 {
     }
     let mut fallen: Vec<u16> = vec![];
     for place in 0..marks.len() {
-        if marks[place] == 1 && !closes(hops, &first, marks, place) {
+        if marks[place] == 1 && !closes(hops, first, marks, place) {
             fallen.push(place as u16);
         }
     }
@@ -31,7 +29,7 @@ pub(crate) fn set_marks(states: usize, hops: &[u16], marks: &mut [u8]) -> u32 {
         return tests;
     }
     take_off(marks, &fallen);
-    let mut later = Later::new(states, hops, &first, marks);
+    let mut later = Later::new(hops, first, marks);
     while !fallen.is_empty() {
         for &place in &fallen {
             later.note_fallen(marks, place.into());
@@ -93,7 +91,8 @@ struct Later<'a> {
 const ROW_AHEAD: usize = 16;
 
 impl<'a> Later<'a> {
-    fn new(states: usize, hops: &'a [u16], first: &'a [u16], marks: &[u8]) -> Later<'a> {
+    fn new(hops: &'a [u16], first: &'a [u16], marks: &[u8]) -> Later<'a> {
+        let states = first.len() - 1;
         let mut left = vec![false; states];
         for (place, &mark) in marks.iter().enumerate() {
             left[usize::from(from_at(hops, place))] |= mark == 1;
