@@ -8,21 +8,21 @@ use mathlib.Core.Logic.{_⊎_, inl, inr, ⊎-elim}
 use native.Mathlib.Omega.{arith}
 use borrow.Author.Tests.{not-true}
 use lib.ListN.{length, set, replicate, getD-replicate}
-use Rattle.below.specs.Tests.{all}
-use Rattle.graph.specs.Hops.{count, to, labelled}
+use Rattle.graph.specs.Hops.{count, label, to, labelled}
 use Rattle.graph.specs.Order.{Ascending}
-use Rattle.graph.specs.Search.{labelledFrom, labelledPast}
+use Rattle.graph.specs.Search.{firstOf, pastOf, labelledPast}
 use Rattle.limits.specs.Check.{InRange}
 use Rattle.graph.specs.declared.Shape.{Shape}
-use Rattle.below.proofs.Bools.{clash, decided, or-left, or-right, or-no, or-yes, not-yes, not-no}
+use Rattle.below.proofs.Bools.{clash, decided, lt-or-le, or-left, or-right, or-no, or-yes, not-yes, not-no}
 use Rattle.below.proofs.Tests.{all-at, all-fails, tally-less, tally-within}
-use Rattle.graph.proofs.Lookup.{all-range}
+use Rattle.graph.proofs.Lookup.{first-within, range-only, all-range}
+use Rattle.graph.proofs.Places.{labelled-yes, labelled-parts}
 use Rattle.lts.specs.Star.{stay, go}
 use Rattle.lts.proofs.Star.{one, join}
 use Rattle.silent.specs.Silent.{SilentOf, OnRing, lowestOnRing}
 use Rattle.reaching.specs.Front.{noted}
-use Rattle.ranking.specs.Ranks.{endsNoted, Unringed, Ranked}
-use Rattle.starts.proofs.Rows.{labelled-holds, labelled-only}
+use Rattle.ranking.specs.Ranks.{endsNoted, Unringed, Ranks, Ranked}
+use Rattle.starts.proofs.Rows.{labelled-holds, labelled-only, labelled-past, silent-first}
 use Rattle.reaching.proofs.Front.{noted-no, noted-set, noted-set-same, noted-set-back}
 use Rattle.silent.proofs.Hops.{silent-place, silent-end}
 use Rattle.silent.proofs.Rings.{lowest-is}
@@ -43,25 +43,33 @@ module _ (hs ranked : List ℕ) (v : ℕ) where
       let (i, l, d, q) = silent-place hs v t r in
       ⊎-elim (λ f. clash d (not-true _ f)) (λ f. ap (noted ranked) (sym q) ∙ f) (or-yes (not (labelled hs v 0 i)) (noted ranked (to hs i)) (all-at fine (count hs) e l))
 
-  -- the silent hops of v stand from lo up to hi
-  module _ (up : Ascending hs) {lo hi : ℕ} (lo-is : lo ≡ labelledFrom hs v 0) (hi-is : hi ≡ labelledPast hs v 0) where
-    silent-only : (i : ℕ) → lo ≤ i → i < hi → (i < count hs) × (labelled hs v 0 i ≡ true)
-    silent-only i l m = labelled-only hs up v 0 (omega (arith, lo-is)) (omega (arith, hi-is))
+  -- the hops of v stand from lo up to hi, the silent ones first
+  module _ (up : Ascending hs) {lo hi : ℕ} (lo-is : lo ≡ firstOf hs v) (hi-is : hi ≡ firstOf hs (v + 1)) where
+    pub row-within : (i : ℕ) → i < hi → i < count hs
+    row-within i l = omega (arith, hi-is, first-within hs up (v + 1))
 
-    pub silent-within : (i : ℕ) → lo ≤ i → i < hi → i < count hs
-    silent-within i l m = silent-only i l m .0
+    pub ends-fails : (i : ℕ) → lo ≤ i → i < hi → label hs i ≡ 0 → noted ranked (to hs i) ≡ false → endsNoted hs ranked v ≡ false
+    unfolding endsNoted pastOf
+    ends-fails i l m q e =
+        let k : i < count hs = row-within i m in
+        all-fails fine (count hs) k (or-no (not-yes (labelled-yes hs v 0 i (range-only hs up v k (rw lo-is at l) (rw hi-is at m)) q)) e)
 
-    pub ends-fails : (i : ℕ) → lo ≤ i → i < hi → noted ranked (to hs i) ≡ false → endsNoted hs ranked v ≡ false
-    unfolding endsNoted
-    ends-fails i l m e = let (k, d) = silent-only i l m in all-fails fine (count hs) k (or-no (not-yes d) e)
+    -- where no silent one stands at i, none stands from there on
+    pub ends-all : (i : ℕ) → lo ≤ i → (i < hi → label hs i ≡ 0 → ⊥) → ((j : ℕ) → lo ≤ j → j < i → noted ranked (to hs j) ≡ true) → endsNoted hs ranked v ≡ true
+    unfolding endsNoted pastOf
+    ends-all i l g f = all-range fine (count hs) lo i (λ j k e. out j k e) (λ j a b. or-right (not (labelled hs v 0 j)) (f j a b)) where
+      before : (j : ℕ) → j < labelledPast hs v 0 → j < i
+      before j m = go (lt-or-le j i) where
+        go : (j < i) ⊎ (i ≤ j) → j < i
+        go (inl k) = k
+        go (inr k) =
+            let (w, d) = labelled-only hs up v 0 {i = i} (omega (arith, lo-is, silent-first hs v)) (omega arith) in
+            absurd (g (omega (arith, hi-is, labelled-past hs up v 0)) (labelled-parts hs v 0 i d .1))
 
-    pub ends-all : ((j : ℕ) → lo ≤ j → j < hi → noted ranked (to hs j) ≡ true) → endsNoted hs ranked v ≡ true
-    unfolding endsNoted
-    ends-all f = all-range fine (count hs) lo hi (λ j l e. out j l e) (λ j a b. or-right (not (labelled hs v 0 j)) (f j a b)) where
-      out : (j : ℕ) → j < count hs → fine j ≡ false → (lo ≤ j) × (j < hi)
-      out j l e = go (decided (labelled hs v 0 j)) where
-        go : (labelled hs v 0 j ≡ true) ⊎ (labelled hs v 0 j ≡ false) → (lo ≤ j) × (j < hi)
-        go (inl d) = let (a, b) = labelled-holds hs up v 0 l d in (omega (arith, lo-is), omega (arith, hi-is))
+      out : (j : ℕ) → j < count hs → fine j ≡ false → (lo ≤ j) × (j < i)
+      out j k e = go (decided (labelled hs v 0 j)) where
+        go : (labelled hs v 0 j ≡ true) ⊎ (labelled hs v 0 j ≡ false) → (lo ≤ j) × (j < i)
+        go (inl d) = let (a, b) = labelled-holds hs up v 0 k d in (omega (arith, lo-is, silent-first hs v), before j b)
         go (inr d) = clash (or-left (noted ranked (to hs j)) (not-no d)) e
 
 -- no state is ranked at first
@@ -72,6 +80,10 @@ unringed-none hs n k h t l e w =
 module _ {hs : List ℕ} {n : ℕ} where
   pub ranked-none : (ranked : List ℕ) → Unringed hs n ranked → Ranked hs n ranked ranked 0
   ranked-none ranked u = record { unringed = u; gained = omega arith }
+
+  -- what is ranked later is on no ring either
+  pub ranks-later : {a b : List ℕ} {r : ℕ} → Ranks hs n a → length b ≡ length a → Ranked hs n a b r → Ranks hs n b
+  ranks-later x e y = record { room = rw e (x .room); unringed = y .unringed }
 
   pub ranked-join : {a b c : List ℕ} {q r : ℕ} → Ranked hs n a b q → Ranked hs n b c r → Ranked hs n a c (q + r)
   ranked-join x y = record { unringed = y .unringed; gained = omega (arith, x .gained, y .gained) }

@@ -5,7 +5,7 @@ use native.Mathlib.Omega.{arith}
 use borrow.Author.Needs.{needs}
 use lib.ListN.{length}
 use Rattle.ranking.specs.Ranks.{Ranked}
-use Rattle.ranking.proofs.Ranks.{ranked-none, ranked-join, ranked-within}
+use Rattle.ranking.proofs.Ranks.{ranked-none, ranks-later, ranked-join, ranked-within}
 use Rattle.ranking.proofs.rank_once.Statement.{statement}
 use Rattle.ranking.proofs.rank_once.Tie as tie
 
@@ -32,7 +32,7 @@ rank-one-requires : tie.Need-rank-one-requires Inv-loop μ-loop
 rank-one-requires c κs =
     let s = c .before .before .before .before .before .before in
     let i = c .before .before .loop .inv in
-    (s .pre .0, (omega (arith, c .before .loop-test .taken), record { room = omega (arith, s .pre .1 .room, i .1); unringed = i .2 .unringed }))
+    (s .pre .0, (omega (arith, c .before .loop-test .taken), ranks-later (s .pre .1) (i .1) (i .2)))
 
 add-got : tie.Need-add-got Inv-loop μ-loop
 add-got c = omega (arith, ranked-within (ranked-join (c .before .before .before .before .before .loop .inv .2) (c .before .before .rank-one .ensures)), c .before .before .before .before .before .before .before .before .before .pre .0 .admitted .states-most)

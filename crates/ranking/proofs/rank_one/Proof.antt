@@ -1,36 +1,45 @@
 -- `ranking::rank_one` meets its contract: v is ranked only where all its silent hops lead to ranked states. Assumes nothing.
-use mathlib.Core.Path.{sym, _∙_}
+use Prim.Native.Nat.{_<_}
+use mathlib.Core.Path.{refl, sym, _∙_}
+use native.Mathlib.Nat.{lt-of-lt-of-le}
 use borrow.Author.Needs.{needs}
 use borrow.Author.Tests.{not-false}
+use lib.ListN.{length, length-set}
 use Rattle.reaching.proofs.Front.{noted-no}
 use Rattle.ranking.specs.Ranks.{endsNoted}
-use Rattle.ranking.proofs.Ranks.{ranked-one}
+use Rattle.ranking.proofs.Ranks.{ranked-none, ranked-one}
 use Rattle.ranking.proofs.rank_one.Statement.{statement}
 use Rattle.ranking.proofs.rank_one.Tie as tie
+
+-- v has a byte
+within : (s : tie.Start) → s .args .v .0 < length (s .args .ranked .now)
+within s = lt-of-lt-of-le (s .pre .1 .0) (s .pre .1 .1 .room)
 
 cast-at : tie.Need-cast-at
 cast-at c = search needs
 
 slice-read-if1 : tie.Need-slice-read-if1
-slice-read-if1 c = search needs
+slice-read-if1 c = within (c .before .before .before .before)
 
 returns : tie.Need-returns
-returns c = search needs
+returns c = ranked-none _ (c .before .before .before .before .before .pre .1 .1 .unringed)
 
 ends-ranked-requires : tie.Need-ends-ranked-requires
-ends-ranked-requires c κs = search needs
+ends-ranked-requires c κs =
+    let s = c .before .before .before .before .before .before in
+    (s .pre .0, (s .pre .1 .1 .room, s .pre .1 .0))
 
 same-length : tie.Need-same-length
-same-length c = search needs
+same-length c = refl
 
 returns-2 : tie.Need-returns-2
-returns-2 c = search needs
+returns-2 c = ranked-none _ (c .before .before .before .before .before .before .before .before .pre .1 .1 .unringed)
 
 slice-write-ranked : tie.Need-slice-write-ranked
-slice-write-ranked c = search needs
+slice-write-ranked c = within (c .before .before .before .before .before .before .before .before)
 
 same-length-2 : tie.Need-same-length-2
-same-length-2 c = search needs
+same-length-2 c = simp length-set
 
 returns-3 : tie.Need-returns-3
 returns-3 c =
