@@ -7,7 +7,9 @@ use mathlib.Core.List.{List}
 use mathlib.Core.Logic.{_⊎_, inl, inr, ⊎-elim}
 use native.Mathlib.Omega.{arith}
 use lib.ListN.{getD}
+use Rattle.below.specs.Slots.{slot}
 use Rattle.below.proofs.Bools.{clash, lt-or-le}
+use Rattle.below.proofs.Slots.{beginning-within, slot-in}
 use Rattle.graph.specs.Hops.{count, from, label, to, hopOf, is, has}
 use Rattle.graph.specs.Order.{Ascending}
 use Rattle.graph.specs.Search.{placed, firstOf, labelledFrom, labelledPast}
@@ -19,8 +21,8 @@ use Rattle.graph.proofs.Lookup.{at-place, gap-has, one-place, first-within}
 use Rattle.starts.proofs.Firsts.{start-is}
 use Rattle.starts.proofs.Rows.{labelled-holds, labelled-only, silent-first}
 use Rattle.graph.specs.Answers.{most-states, most-hops}
-use Rattle.ends.specs.Ends.{beginOf, slot, Begins, Filled}
-use Rattle.ends.proofs.Ends.{begin-within, slot-in, place-in}
+use Rattle.ends.specs.Ends.{beginOf, Begins, Filled}
+use Rattle.ends.proofs.Ends.{place-in}
 use Rattle.confluence.specs.Rounds.{FirstPoint}
 use Rattle.confluence.specs.Held.{isMarked}
 use Rattle.noting.specs.Queue.{Tables, Leaving, Queue, Wanted, Noted, Only, Joining, Like, Answering, Trying, Asked, Point, ClosedBy, ClosedByAny}
@@ -110,9 +112,9 @@ module _ (hs ms : List ℕ) where
       back : (x : ℕ) → Answering hs j p x → Walked Into lo k x
       back x (f, h) =
           let q = has-place hs (to hs x) (label hs j) (to hs p) h in
-          let (c, d) = slot-in hs (q .within) in
-          let e : getD ps (slot hs (q .at)) 0 ≡ q .at = fl (q .at) (q .within) in
-          (slot hs (q .at), omega (arith, rw (q .to-is) at c), omega (arith, rw (q .to-is) at d), rw e (q .label-is, (f, sym (q .from-is))))
+          let (c, d) = slot-in (to hs) (count hs) (q .within) in
+          let e : getD ps (slot (to hs) (count hs) (q .at)) 0 ≡ q .at = fl (q .at) (q .within) in
+          (slot (to hs) (count hs) (q .at), omega (arith, rw (q .to-is) at c), omega (arith, rw (q .to-is) at d), rw e (q .label-is, (f, sym (q .from-is))))
 
   -- for the hop to try at place j, with s4 itself where it is silent
   module _ (j p : ℕ) where
@@ -182,9 +184,9 @@ module _ (hs ms : List ℕ) where
       back : (x : ℕ) → ClosedBy hs p x → Walked Tries lo k x
       back x (t, h, f) =
           let q = has-place hs (from hs x) t (from hs p) h in
-          let (c, d) = slot-in hs (q .within) in
-          let e : getD ps (slot hs (q .at)) 0 ≡ q .at = fl (q .at) (q .within) in
-          (slot hs (q .at), omega (arith, rw (q .to-is) at c), omega (arith, rw (q .to-is) at d), rw (e, q .label-is) (sym (q .from-is), f))
+          let (c, d) = slot-in (to hs) (count hs) (q .within) in
+          let e : getD ps (slot (to hs) (count hs) (q .at)) 0 ≡ q .at = fl (q .at) (q .within) in
+          (slot (to hs) (count hs) (q .at), omega (arith, rw (q .to-is) at c), omega (arith, rw (q .to-is) at d), rw (e, q .label-is) (sym (q .from-is), f))
 
     pub tries-at : (y : ℕ) {j : ℕ} {fs new qs : List ℕ} {r : ℕ} → j ≡ getD ps y 0 → Noted hs ms (Trying hs j p) fs new qs r → Noted hs ms (Tries y) fs new qs r
     tries-at y e g = rw e at g
@@ -233,4 +235,4 @@ pub start-most : {hs st bs ps : List ℕ} → Tables hs st bs ps → {x r : ℕ}
 start-most {hs} {st} t {x} e l = omega (arith, start-is hs st (t .table) x refl l e, first-within hs (t .ready .ascending) x, t .ready .hops-most)
 
 pub begin-most : {hs st bs ps : List ℕ} → Tables hs st bs ps → {x r : ℕ} → r ≡ getD bs x 0 → x ≤ most-states → r ≤ most-hops
-begin-most {hs} {bs = bs} t {x} e l = omega (arith, begin-is hs bs (t .begins) x refl l e, begin-within hs x, t .ready .hops-most)
+begin-most {hs} {bs = bs} t {x} e l = omega (arith, begin-is hs bs (t .begins) x refl l e, beginning-within (to hs) (count hs) x, t .ready .hops-most)

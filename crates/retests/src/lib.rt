@@ -1,6 +1,6 @@
 // Which hops the next round tests, found from those that fell: from each fallen hop s3 to s4 over the hops into s3, which are hops to try of the states
-// that they leave, and for each of them, s1, a, s3, over the shorter of two: the silent hops of s1, and the hops into s4, of which those labelled a answer.
-// So a pair of hops into s3 and s4 is met for one fallen hop at most.
+// that they leave, and for each of them, s1, a, s3, over the silent hops of s1 where its whole row is at most a few hops longer than what leads to s4, else over the
+// hops into s4, of which those labelled a answer. So a pair costs at most the hops into s4 and those few, and is met for one fallen hop at most.
 // It stands on `noting` (what one such pair brings to the queue), `ends` (the hops into a state) and `starts` (those out of it).
 use ends::place_at;
 use graph::MOST_HOPS;
@@ -42,7 +42,7 @@ pub fn leaving_of(hops: &[u16], marks: &[u8]) -> [u8; MOST_STATES]
     leaving
 }
 
-// Queues the silent hops that have the hop to try at place j and the end of the hop at place p for an s4, by the shorter way.
+// Queues the silent hops that have the hop to try at place j and the end of the hop at place p for an s4, by the way that costs less.
 fn note_hop(
     hops: &[u16],
     starts: &[u16; STARTS],

@@ -1,20 +1,28 @@
 -- `ends::fill` meets its contract: the first j places are in their slots, and `next` has the slot of the next hop into each state. Assumes nothing.
 use Prim.Native.Nat.{ℕ, _+_, _-_, _<_, _≤_}
 use mathlib.Core.Path.{_≡_, refl, _∙_}
+use mathlib.Core.List.{List}
 use native.Mathlib.Omega.{arith}
 use borrow.Author.Needs.{needs}
 use lib.ListN.{length, getD, length-set, length-replicate}
+use Rattle.below.specs.Slots.{keyed, slot}
+use Rattle.below.proofs.Slots.{keyed-none, keyed-turn, slot-next, slot-turn}
 use Rattle.graph.specs.Hops.{count, to}
 use Rattle.graph.specs.Answers.{most-states, most-hops}
-use Rattle.ends.specs.Ends.{endingIn, beginOf, slot, Begins, Filled}
-use Rattle.ends.proofs.Ends.{ending-none, slot-within, next-slot, next-within, ending-turn, filled-turn}
+use Rattle.starts.specs.Starts.{Ready}
+use Rattle.ends.specs.Ends.{beginOf, Begins, Filled}
 use Rattle.ends.proofs.fill.Statement.{statement}
 use Rattle.ends.proofs.fill.Tie as tie
+
+-- what the table has for the next hop into the end of the hop at place j is its slot
+next-slot : (hs xs : List ℕ) → Ready hs → {j s k : ℕ} → j < count hs → s ≡ to hs j → k ≡ getD xs s 0 →
+    ((t : ℕ) → t ≤ most-states → getD xs t 0 ≡ beginOf hs t + keyed (to hs) j t) → (k ≡ slot (to hs) (count hs) j) × (k < most-hops)
+next-slot hs xs r {j} {s} l q e f = slot-next (to hs) (count hs) l (r .hops-most) q (e ∙ f s (omega (arith, r .to-in j l)))
 
 abbrev Inv-loop : tie.InvT-loop
 Inv-loop hops next₀ n places₀ j₀ next places j =
     (n ≡ count hops) × (j ≤ n) × (length next ≡ most-states + 1) × (length places ≡ most-hops) ×
-    ((s : ℕ) → s ≤ most-states → getD next s 0 ≡ beginOf hops s + endingIn hops j s) × Filled hops j places
+    ((s : ℕ) → s ≤ most-states → getD next s 0 ≡ beginOf hops s + keyed (to hops) j s) × Filled hops j places
 
 abbrev μ-loop : tie.MeasureT-loop
 μ-loop hops next₀ n places₀ j₀ next places j = n - j
@@ -30,7 +38,7 @@ loop-holds c =
       omega arith,
       search needs,
       length-replicate {A = ℕ} most-hops 0,
-      (λ s l. omega (arith, st .pre .1 s l, ending-none (st .args .hops .now) s)),
+      (λ s l. omega (arith, st .pre .1 s l, keyed-none (to (st .args .hops .now)) s)),
       λ j l. absurd (omega arith),
     )
 
@@ -61,14 +69,14 @@ mul-places c =
     let st = c .before .before .before .before .before .before .before in
     let v = c .before .before .before .before .loop in
     let q = c .before .wide .ensures ∙ c .before .before .to-at .ensures in
-    omega (arith, next-within (st .args .hops .now) (v .next) (st .pre .0) {j = v .j} (omega arith) q (c .wide2 .ensures) (v .inv .4))
+    omega (arith, next-slot (st .args .hops .now) (v .next) (st .pre .0) {j = v .j} (omega arith) q (c .wide2 .ensures) (v .inv .4) .1)
 
 array-write-places : tie.Need-array-write-places Inv-loop μ-loop
 array-write-places c =
     let st = c .before .before .before .before .before .before .before in
     let v = c .before .before .before .before .loop in
     let q = c .before .wide .ensures ∙ c .before .before .to-at .ensures in
-    next-within (st .args .hops .now) (v .next) (st .pre .0) {j = v .j} (omega arith) q (c .wide2 .ensures) (v .inv .4)
+    next-slot (st .args .hops .now) (v .next) (st .pre .0) {j = v .j} (omega arith) q (c .wide2 .ensures) (v .inv .4) .1
 
 mul-next : tie.Need-mul-next Inv-loop μ-loop
 mul-next c =
@@ -85,7 +93,7 @@ add-next c =
     let st = c .before .before .before .before .before .before .before in
     let v = c .before .before .before .before .loop in
     let q = c .before .wide .ensures ∙ c .before .before .to-at .ensures in
-    omega (arith, next-within (st .args .hops .now) (v .next) (st .pre .0) {j = v .j} (omega arith) q refl (v .inv .4))
+    omega (arith, next-slot (st .args .hops .now) (v .next) (st .pre .0) {j = v .j} (omega arith) q refl (v .inv .4) .1)
 
 array-write-next : tie.Need-array-write-next Inv-loop μ-loop
 array-write-next c =
@@ -99,19 +107,20 @@ loop-less : tie.Need-loop-less Inv-loop μ-loop
 loop-less c = omega arith
 
 loop-again : tie.Need-loop-again Inv-loop μ-loop
+unfolding Filled
 loop-again c =
     let st = c .before .before .before .before .before .before .before in
     let v = c .before .before .before .before .loop in
     let hs = st .args .hops .now in
     let l : v .j < count hs = omega arith in
     let q : c .before .wide .result ≡ to hs (v .j) = c .before .wide .ensures ∙ c .before .before .to-at .ensures in
-    let k : c .wide2 .result ≡ slot hs (v .j) = next-slot hs (v .next) (st .pre .0) l q (c .wide2 .ensures) (v .inv .4) in (
+    let (k, w) = next-slot hs (v .next) (st .pre .0) l q (c .wide2 .ensures) (v .inv .4) in (
       v .inv .0,
       omega arith,
       simp length-set (v .inv .2),
       simp length-set (v .inv .3),
-      ending-turn hs (beginOf hs) (v .next) (v .j) (omega (arith, st .pre .0 .to-in (v .j) l)) q refl (v .inv .4),
-      filled-turn hs (v .places) l k (omega (arith, slot-within hs l, st .pre .0 .hops-most)) (v .inv .5),
+      (λ s m. keyed-turn (to hs) (beginOf hs) (v .next) (v .j) (omega (arith, st .pre .0 .to-in (v .j) l)) q refl s (v .inv .4 s m)),
+      slot-turn (to hs) (count hs) (λ (i : ℕ). i) (v .places) l k (omega arith) refl (v .inv .5),
     )
 
 returns : tie.Need-returns Inv-loop μ-loop

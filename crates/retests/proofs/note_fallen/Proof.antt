@@ -3,9 +3,10 @@ use Prim.Native.Nat.{_+_, _-_, _<_, _≤_}
 use mathlib.Core.Path.{_≡_, refl, _∙_}
 use native.Mathlib.Omega.{arith}
 use borrow.Author.Needs.{needs}
-use Rattle.graph.specs.Hops.{from}
+use Rattle.below.proofs.Slots.{beginning-step, beginning-within}
+use Rattle.graph.specs.Hops.{count, from, to}
 use Rattle.ends.specs.Ends.{beginOf}
-use Rattle.ends.proofs.Ends.{begin-next, begin-within, place-in}
+use Rattle.ends.proofs.Ends.{place-in}
 use Rattle.noting.specs.Queue.{Noted}
 use Rattle.noting.proofs.Walks.{Walked, walk-none, walk-more, Tries, tries-at, tries-all, begin-is}
 use Rattle.retests.proofs.note_fallen.Statement.{statement}
@@ -49,12 +50,13 @@ loop-holds c =
     let q : c .before .before .wide .result ≡ t = c .before .before .wide .ensures ∙ c .before .before .before .from-at .ensures in
     let a = begin-is hs _ (st .pre .0 .begins) t q (omega arith) (c .start-of2 .ensures) in
     let b = begin-is hs _ (st .pre .0 .begins) (t + 1) (rw q refl) (omega arith) (c .before .start-of .ensures) in
-    (a, b, omega arith, omega (arith, begin-next hs t), walk-none _ _ _ refl (st .pre .1 .1 .1 .0))
+    (a, b, omega arith, omega (arith, beginning-step (to hs) (count hs) t), walk-none _ _ _ refl (st .pre .1 .1 .1 .0))
 
 place-at-requires : tie.Need-place-at-requires Inv-loop μ-loop
 place-at-requires c κs =
     let st = c .before .before .before .before .before .before .before .before in
-    omega (arith, c .before .loop .inv .1, begin-within (st .args .hops .now) (from (st .args .hops .now) (st .args .p) + 1), st .pre .0 .ready .hops-most)
+    let hs = st .args .hops .now in
+    omega (arith, c .before .loop .inv .1, beginning-within (to hs) (count hs) (from hs (st .args .p) + 1), st .pre .0 .ready .hops-most)
 
 note-hop-requires : tie.Need-note-hop-requires Inv-loop μ-loop
 note-hop-requires c κs =

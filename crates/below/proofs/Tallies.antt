@@ -18,6 +18,12 @@ module _ (p : ℕ → Bool) where
   tally-up (suc n) {i} l =
       ⊎-elim (λ q. rw q (le-refl (cond (p n) 1 0 + tally n p))) (λ m. omega (arith, tally-up n {i = i} (le-of-suc-le-suc m)))
       (eq-or-lt-of-le l)
+
+  -- all of them, where each passes
+  pub tally-full : (n : ℕ) → ((j : ℕ) → j < n → p j ≡ true) → tally n p ≡ n
+  unfolding tally
+  tally-full zero f = refl
+  tally-full (suc n) f = let h : tally n p ≡ n = tally-full n (λ j l. f j (omega arith)) in rw (f n (omega arith)) (omega arith)
 
   -- behind a number that passes there is one more
   pub tally-past : (n : ℕ) {i : ℕ} → i < n → p i ≡ true → tally i p < tally n p
