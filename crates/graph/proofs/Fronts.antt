@@ -8,10 +8,10 @@ use native.Mathlib.Nat.{eq-or-lt-of-le, le-of-suc-le-suc, not-suc-le-zero}
 use native.Mathlib.Numerals.{add-one}
 use native.Mathlib.Omega.{arith}
 use lib.ListN.{length, getD, set, drop, length-append, length-drop, length-set, List·getD-append}
-use lib.Seq.{drop-cons, drop-drop, drop-append-add, getD-at, take-at, ext-getD}
-use Rattle.graph.specs.Hops.{count, from, label, to, hopOf, hopAt, noHop, flat, put, front, over, between, numberPlace}
+use lib.Seq.{drop-cons, drop-drop, drop-append-add, getD-at, getD-set-same, getD-set-other, take-at, ext-getD}
+use Rattle.graph.specs.Hops.{count, from, label, to, hopOf, hopAt, noHop, Alike, flat, put, front, over, between, numberPlace}
 use Rattle.graph.specs.declared.Hop.{Hop}
-use Rattle.graph.proofs.Places.{length-flat}
+use Rattle.graph.proofs.Places.{length-flat, count-flat, flat-at}
 
 -- a place of a list with three numbers more in front
 module _ (a b c : ℕ) (l : List ℕ) (j : ℕ) {i : ℕ} (e : i ≡ suc (suc (suc j))) where
@@ -128,3 +128,47 @@ module _ (hs : List ℕ) where
 
     past : drop (length (flat ys)) (flat xs ++ drop (length (flat xs)) hs) ≡ drop (length (flat ys)) hs
     past = rw (← split) (drop-append-add (flat xs) (drop (length (flat xs)) hs) gap ∙ drop-drop gap (length (flat xs)) hs)
+
+-- the first hops of a list, as a part of it
+module _ (hs : List ℕ) {n : ℕ} (l : n ≤ count hs) where
+  between-front : between hs 0 n ≡ flat (front n hs)
+  unfolding over
+  between-front = ap (λ (m : List ℕ). between m 0 n) (sym (over-front hs n l)) ∙ flat-front (front n hs) _ (sym (length-front hs n))
+
+  pub between-count : count (between hs 0 n) ≡ n
+  between-count = ap count between-front ∙ count-flat (front n hs) ∙ length-front hs n
+
+  pub between-at : {i : ℕ} → i < n → hopAt (between hs 0 n) i ≡ hopAt hs i
+  between-at {i} k = ap (λ (m : List ℕ). hopAt m i) between-front ∙ flat-at (front n hs) i ∙ getD-front hs n k
+
+-- a hop put at a place stands there, and the others stand as they stood
+module _ (hs : List ℕ) (h : Hop) {n : ℕ} (l : n < count hs) where
+  put-is : put hs n h ≡ over (set (front (count hs) hs) n h) hs
+  put-is =
+      ap (λ (m : List ℕ). put m n h) (sym (over-front hs (count hs) (omega arith))) ∙
+      put-over hs h (front (count hs) hs) (omega (arith, length-front hs (count hs)))
+
+  reads : {i : ℕ} → i < count hs → hopAt (put hs n h) i ≡ getD (set (front (count hs) hs) n h) i noHop
+  reads {i} k =
+      ap (λ (m : List ℕ). hopAt m i) put-is ∙
+      hop-over hs (set (front (count hs) hs) n h) (omega (arith, length-set (front (count hs) hs) n h, length-front hs (count hs)))
+
+  pub put-same : hopAt (put hs n h) n ≡ h
+  put-same = reads l ∙ getD-set-same (front (count hs) hs) n h noHop (omega (arith, length-front hs (count hs)))
+
+  pub put-other : {i : ℕ} → i < count hs → (i ≡ n → ⊥) → hopAt (put hs n h) i ≡ hopAt hs i
+  put-other {i} k q = reads k ∙ getD-set-other (front (count hs) hs) n i h noHop q ∙ getD-front hs (count hs) k
+
+-- lists whose first hops are alike, and whose other hops have one flat list, have one flat list
+pub flat-alike : {x y : Hop} (xs ys : List Hop) → Alike x y → flat xs ≡ flat ys → flat (x ∷ xs) ≡ flat (y ∷ ys)
+unfolding flat
+flat-alike xs ys e r = rw (e .same-from, e .same-label, e .same-to, r)
+
+-- lists of hops that have one flat list are as long, and leave the same where they are written
+module _ (xs ys : List Hop) (e : flat xs ≡ flat ys) where
+  pub flat-length : length xs ≡ length ys
+  flat-length = sym (count-flat xs) ∙ ap count e ∙ count-flat ys
+
+  pub flat-over : (hs : List ℕ) → over xs hs ≡ over ys hs
+  unfolding over
+  flat-over hs = rw e

@@ -6,17 +6,20 @@ use native.Mathlib.Omega.{arith}
 use lib.ListN.{length, getD, drop, List·getD-append}
 use Rattle.below.specs.Tests.{listed}
 use Rattle.outputs.specs.Output.{onFront}
-use Rattle.graph.specs.Hops.{count, flat, over}
+use Rattle.graph.specs.Hops.{count, from, to, flat, over}
+use Rattle.graph.specs.Map.{mapped}
+use Rattle.graph.specs.Answers.{most-states}
 use Rattle.graph.specs.declared.Hop.{Hop}
 use Rattle.graph.specs.declared.Shape.{Shape}
-use Rattle.below.proofs.Tests.{length-listed, getD-listed}
+use Rattle.below.proofs.Tests.{tally-within, length-listed, getD-listed}
 use Rattle.limits.specs.Check.{Admitted}
 use Rattle.shrinking.specs.Pairs.{Pairs}
-use Rattle.representatives.specs.Representative.{Settles, mapOf}
+use Rattle.representatives.specs.Representative.{Settles, resting, mapOf}
 use Rattle.representatives.specs.Tables.{Onward, Numbers, numbered}
+use Rattle.representatives.proofs.Mapped.{map-in}
 use Rattle.representatives.proofs.Tabled.{tabled-new}
 use Rattle.short.specs.Short.{shortHops, shortShape, mapList}
-use Rattle.short.specs.Tables.{allShort}
+use Rattle.short.specs.Tables.{allShort, AllImaged}
 use Rattle.short.proofs.Tabled.{tabled-list, tabled-short}
 use Rattle.reducing.specs.Reducing.{shortGraph, shapeBy}
 use Rattle.reducing.specs.declared.ShortGraph.{ShortGraph}
@@ -33,6 +36,24 @@ module _ {sh : Shape} {hs : List ℕ} {u : Pairs} (adm : Admitted sh hs) (sett :
     map-holds s l =
         rw reduced-map
         (List·getD-append (listed (sh .states) (mapOf sh hs u)) (drop (length (listed (sh .states) (mapOf sh hs u))) old) 0 s (rw (length-listed (mapOf sh hs u) (sh .states)) l) ∙ getD-listed (mapOf sh hs u) (sh .states) l)
+
+    -- the map's numbers and the labels are numbers of states and labels that can be
+    map-small : (s : ℕ) → s < sh .states → mapped map s < most-states
+    map-small s l =
+        omega (arith, map-holds s l, map-in sett (adm .range) s l, tally-within (resting hs u) (sh .states), adm .states-most)
+
+    -- and so every hop has an image, where the map has an entry for each state
+    pub reduced-images : sh .states ≤ length map → AllImaged hs map
+    unfolding AllImaged
+    reduced-images room i l =
+        record {
+          inside = l;
+          from-map = omega (arith, adm .range .from-in i l);
+          to-map = omega (arith, adm .range .to-in i l);
+          from-key = map-small (from hs i) (adm .range .from-in i l);
+          label-key = omega (arith, adm .range .label-in i l, adm .labels-most);
+          to-key = map-small (to hs i) (adm .range .to-in i l);
+        }
 
     hops-are : allShort hs next map ≡ shortHops sh hs u
     unfolding shortHops

@@ -68,7 +68,7 @@ pub fn reduce_marked(
     let states = shape.states as usize;
     let next = next_states(hops, marks);
     let news = new_numbers(&next);
-    fill_map(states, &next, &news, map);
+    fill_map(states, next, &news, map);
     let n = shorten(hops, &next, map, short);
     let made = short_shape(shape, &news, map);
     ShortGraph {

@@ -3,6 +3,7 @@
 use Prim.Native.Nat.{ℕ, zero, suc, _<_, _≤_}
 use mathlib.Core.Path.{_≡_, refl, sym, _∙_}
 use mathlib.Core.List.{List}
+use mathlib.Core.Logic.{inl, inr, ⊎-elim}
 use native.Mathlib.Omega.{arith}
 use lib.ListN.{getD}
 use Rattle.below.specs.Tests.{tally}
@@ -10,10 +11,11 @@ use Rattle.graph.specs.Answers.{most-states}
 use Rattle.limits.specs.Check.{Admitted}
 use Rattle.graph.specs.declared.Shape.{Shape}
 use Rattle.shrinking.specs.Pairs.{Pairs}
+use Rattle.below.proofs.Bools.{decided}
 use Rattle.below.proofs.Tests.{tally-same}
 use Rattle.representatives.specs.Representative.{Settles, resting, onward, followed, newOf, repOf, mapOf}
-use Rattle.representatives.specs.Tables.{Onward, Closed, Numbers, stays, stepped, numbered}
-use Rattle.representatives.proofs.Resting.{onward-in, followed-in, resting-stays}
+use Rattle.representatives.specs.Tables.{Onward, Closed, Falls, Sinks, Numbers, stays, stepped, numbered}
+use Rattle.representatives.proofs.Resting.{rests-onward, onward-in, onward-falls, followed-in, resting-stays}
 
 module _ {sh : Shape} {hs : List ℕ} {u : Pairs} (adm : Admitted sh hs) (sett : Settles sh hs u) (next : List ℕ) (on : Onward hs u next) where
   pub states-fit : sh .states ≤ most-states
@@ -30,6 +32,14 @@ module _ {sh : Shape} {hs : List ℕ} {u : Pairs} (adm : Admitted sh hs) (sett :
   pub tabled-stays : (s : ℕ) → s < most-states → stays next s ≡ resting hs u s
   unfolding stays Onward
   tabled-stays s l = rw (on s l) (sym (resting-stays sett s))
+
+  -- a walk by the table comes to rest, as one along the hops does
+  pub tabled-sinks : Sinks (sh .states) next
+  unfolding Falls
+  tabled-sinks = record { rank = sett .rank; bound = λ s l. sett .bound s; falls = falling } where
+    falling : Falls (sh .states) (sett .rank) next
+    falling s l =
+        ⊎-elim (λ e. inl (at-next s l ∙ rests-onward hs u s e)) (λ e. inr (rw (at-next s l) (onward-falls sett s e))) (decided (resting hs u s))
 
   tabled-steps : (k s : ℕ) → s < sh .states → stepped next k s ≡ followed hs u k s
   unfolding stepped followed

@@ -3,6 +3,7 @@ use Prim.Native.Nat.{ℕ, zero, suc, _<_, _≤_}
 use mathlib.Core.Path.{_≡_}
 use mathlib.Core.Bool.{Bool, true, cond, _&&_}
 use mathlib.Core.List.{List}
+use mathlib.Core.Logic.{_⊎_}
 use lib.ListN.{length, getD, set}
 use lib.Dec.{eqb}
 use Rattle.below.specs.Tests.{tally}
@@ -66,3 +67,21 @@ numbered next news k s = getD news (stepped next k s) 0
 -- the table leads from the first n states to these only
 unfoldable pub Closed : ℕ → List ℕ → Type 0
 Closed n next = (s : ℕ) → s < n → getD next s 0 < n
+
+-- along the table a rank falls, but at states where it stays
+unfoldable pub Falls : ℕ → (ℕ → ℕ) → List ℕ → Type 0
+Falls n rank next = (s : ℕ) → s < n → (getD next s 0 ≡ s) ⊎ (rank (getD next s 0) < rank s)
+
+-- walks by the table come to rest: some rank of at most n falls along it
+pub record Sinks (n : ℕ) (next : List ℕ) : Type 0 where
+  pub rank : ℕ → ℕ
+  pub bound : (s : ℕ) → s < n → rank s ≤ n
+  pub falls : Falls n rank next
+
+-- the second table leads each of n states to where the first does, and whatever falls along the first falls along it: of some states the
+-- representative has been noted
+pub record Noted (n : ℕ) (next known : List ℕ) : Type 0 where
+  pub long : length known ≡ length next
+  pub closed : Closed n known
+  pub same : (s : ℕ) → s < n → stepped known n s ≡ stepped next n s
+  pub falls : (rank : ℕ → ℕ) → Falls n rank next → Falls n rank known

@@ -1,4 +1,5 @@
-// Where the first marked hop of each state leads, and the representative that these hops lead to.
+// Where the first marked hop of each state leads, and the representative that these hops lead to. A walk notes the representative with every state that it
+// passed, in the table itself, so that no later walk passes them again.
 use graph::MOST_STATES;
 use graph::OldState;
 use graph::hops::from_at;
@@ -10,7 +11,7 @@ ghost use lib.ListN.{length};
 ghost use Rattle.graph.specs.Hops.{count, from};
 ghost use Rattle.graph.specs.Answers.{most-states};
 ghost use Rattle.confluence.specs.Held.{heldBy};
-ghost use Rattle.representatives.specs.Tables.{Marks, Own, FromIn, Onward, Closed, entered, stays, stepped};
+ghost use Rattle.representatives.specs.Tables.{Marks, Own, FromIn, Onward, Closed, Sinks, Noted, entered, stays, stepped};
 
 // A table that leads from each state to itself.
 fn own_states() -> [u16; MOST_STATES]
@@ -81,4 +82,28 @@ pub fn follow(next: &[u16; MOST_STATES], states: usize, s: OldState) -> OldState
         k += 1;
     }
     OldState(at)
+}
+
+// Walks from s to its representative, and notes it with every state on the way.
+pub fn note_way(next: &mut [u16; MOST_STATES], states: usize, s: OldState, rep: OldState)
+    requires inside { ⌜ s .0 < states ⌝ }
+    requires few { ⌜ states ≤ most-states ⌝ }
+    requires room { ⌜ most-states ≤ length (now next) ⌝ }
+    requires closed { ⌜ Closed states (now next) ⌝ }
+    requires sinks { ⌜ Sinks states (now next) ⌝ }
+    requires rep { ⌜ rep .0 ≡ stepped (now next) states (s .0) ⌝ }
+    ensures { λ r. ⌜ Noted states (now (next .entry)) (now (next .exit)) ⌝ }
+{
+    let mut at = s.0;
+    let mut passed = 0;
+    while passed < states {
+        let i = at as usize;
+        let to = next[i];
+        if to == rep.0 {
+            return;
+        }
+        next[i] = rep.0;
+        at = to;
+        passed += 1;
+    }
 }

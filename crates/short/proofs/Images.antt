@@ -10,7 +10,7 @@ use Rattle.graph.specs.Order.{Ascending}
 use Rattle.graph.specs.declared.Shape.{Shape}
 use Rattle.graph.proofs.Places.{has-at, has-place}
 use Rattle.shrinking.specs.Pairs.{Pairs}
-use Rattle.insertion.proofs.Sought.{rising-ascending}
+use Rattle.insertion.proofs.Insertion.{rising-ascending}
 use Rattle.insertion.proofs.Collected.{collected-rising, collected-within, collected-iff}
 use Rattle.representatives.specs.Representative.{resting, newOf, mapOf}
 use Rattle.short.specs.Short.{image, gathered, shortHops}

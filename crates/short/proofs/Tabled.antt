@@ -1,23 +1,23 @@
 -- What the map and the short hops by the tables are, in the words of the definitions. Assumes nothing.
 use Prim.Native.Nat.{ℕ, zero, suc, _<_, _≤_}
-use mathlib.Core.Path.{_≡_, refl, ap, _∙_}
-use mathlib.Core.Bool.{Bool, true, false, cond}
+use mathlib.Core.Path.{_≡_, refl, sym, _∙_}
+use mathlib.Core.Bool.{true}
 use mathlib.Core.List.{List}
 use native.Mathlib.Omega.{arith}
 use lib.ListN.{getD}
 use Rattle.below.specs.Tests.{listed}
 use Rattle.graph.specs.Hops.{count, from, label, to, hopOf}
 use Rattle.limits.specs.Check.{Admitted}
-use Rattle.graph.specs.declared.Hop.{Hop}
 use Rattle.graph.specs.declared.Shape.{Shape}
 use Rattle.shrinking.specs.Pairs.{Pairs}
-use Rattle.insertion.specs.Insertion.{insert, collected}
+use Rattle.insertion.proofs.Same.{collected-below}
 use Rattle.representatives.specs.Representative.{Settles, resting, mapOf}
 use Rattle.representatives.specs.Tables.{Onward, Numbers, stays, numbered}
 use Rattle.representatives.proofs.Mapped.{map-own}
 use Rattle.representatives.proofs.Tabled.{states-fit, tabled-stays, tabled-map}
 use Rattle.short.specs.Short.{image, gathered, mapList}
-use Rattle.short.specs.Tables.{imaged, shortBy}
+use Rattle.ascending.specs.Ascending.{imaged}
+use Rattle.short.specs.Tables.{shortBy}
 
 listed-same : (f g : ℕ → ℕ) (n : ℕ) → ((i : ℕ) → i < n → f i ≡ g i) → listed n f ≡ listed n g
 unfolding listed
@@ -38,10 +38,7 @@ module _ {sh : Shape} {hs : List ℕ} {u : Pairs} (adm : Admitted sh hs) (sett :
         (mapped (to hs i) (adm .range .to-in i l) d)
 
     pub tabled-short : (n : ℕ) → n ≤ count hs → shortBy hs next map n ≡ gathered sh hs u n
-    unfolding shortBy collected gathered
-    tabled-short zero l = refl
-    tabled-short (suc n) l =
-        rw (tabled-stays adm sett next on (from hs n) (omega (arith, adm .range .from-in n l, states-fit adm sett next on)), tabled-short n (omega arith)) (go (resting hs u (from hs n)) refl) where
-          go : (x : Bool) → resting hs u (from hs n) ≡ x → cond x (insert (imaged hs map n) (gathered sh hs u n)) (gathered sh hs u n) ≡ cond x (insert (image sh hs u n) (gathered sh hs u n)) (gathered sh hs u n)
-          go true e = ap (λ (h : Hop). insert h (gathered sh hs u n)) (tabled-image n l e)
-          go false e = refl
+    unfolding shortBy gathered
+    tabled-short n l = collected-below n (λ i k. stays-is k) (λ i k e. tabled-image i (omega arith) (sym (stays-is k) ∙ e)) where
+      stays-is : {i : ℕ} → i < n → stays next (from hs i) ≡ resting hs u (from hs i)
+      stays-is {i} k = tabled-stays adm sett next on (from hs i) (omega (arith, adm .range .from-in i (omega arith), states-fit adm sett next on))

@@ -2,8 +2,8 @@
 use native.Mathlib.Omega.{arith}
 use Rattle.representatives.specs.Tables.{FromIn}
 use Rattle.representatives.proofs.Marked.{held-marks}
-use Rattle.representatives.proofs.Tabled.{tabled-closed}
-use Rattle.reducing.proofs.Tabled.{reduced-map, reduced-short, reduced-returns}
+use Rattle.representatives.proofs.Tabled.{tabled-closed, tabled-sinks}
+use Rattle.reducing.proofs.Tabled.{reduced-map, reduced-images, reduced-short, reduced-returns}
 use borrow.Author.Needs.{needs}
 use Rattle.reducing.proofs.reduce_marked.Statement.{statement}
 use Rattle.reducing.proofs.reduce_marked.Tie as tie
@@ -26,26 +26,34 @@ slice-aggregate-fill-map c = search needs
 
 fill-map-requires : tie.Need-fill-map-requires
 fill-map-requires c κs =
-    let st = c .before .before .before .before .before .before .before .before .before .before .before in
+    let st = c .before .before .before .before .before .before .before .before .before .before in
     let adm = st .pre .0 in
-    (adm .states-most, (omega (arith, adm .states-most), (st .pre .1 .1 .1 .0, tabled-closed adm (st .pre .1 .0) _ (c .before .before .before .before .before .next-states .ensures))))
+    let sett = st .pre .1 .0 in
+    let on = c .before .before .before .before .next-states .ensures in
+    (adm .states-most, (omega (arith, adm .states-most), (st .pre .1 .1 .1 .0, (tabled-closed adm sett _ on, tabled-sinks adm sett _ on))))
 
 shorten-requires : tie.Need-shorten-requires
+unfolding FromIn
 shorten-requires c κs =
-    let st = c .before .before .before .before .before .before .before .before .before .before .before .before .before .before .before .before .before in
+    let st = c .before .before .before .before .before .before .before .before .before .before .before .before .before .before .before .before in
     let adm = st .pre .0 in
-    let kept = c .before .before .before .before .before .fill-map .kept in (
-      omega (arith, st .pre .1 .1 .1 .1),
-      record {
-        from-next = λ i l. omega (arith, adm .range .from-in i l, adm .states-most);
-        from-map = λ i l. omega (arith, adm .range .from-in i l, st .pre .1 .1 .1 .0, kept);
-        to-map = λ i l. omega (arith, adm .range .to-in i l, st .pre .1 .1 .1 .0, kept);
-      },
+    let on = c .before .before .before .before .before .before .before .before .before .before .next-states .ensures in
+    let fill = c .before .before .before .before .before .before .before .before .new-numbers .ensures in
+    let kept = c .before .before .before .before .before .fill-map .kept in
+    let map = c .before .before .before .before .before .fill-map .ensures in (
+      adm .hops-most,
+      (
+        omega (arith, st .pre .1 .1 .1 .1),
+        (
+          λ i l. omega (arith, adm .range .from-in i l, adm .states-most),
+          reduced-images adm (st .pre .1 .0) _ on _ fill _ map (omega (arith, st .pre .1 .1 .1 .0, kept)),
+        ),
+      ),
     )
 
 short-shape-requires : tie.Need-short-shape-requires
 short-shape-requires c κs =
-    let st = c .before .before .before .before .before .before .before .before .before .before .before .before .before .before .before .before .before .before .before .before .before .before in
+    let st = c .before .before .before .before .before .before .before .before .before .before .before .before .before .before .before .before .before .before .before .before .before in
     let adm = st .pre .0 in
     (adm .states-most, (adm .initial-in, omega (arith, st .pre .1 .1 .1 .0, c .before .before .before .before .before .before .before .before .before .before .fill-map .kept)))
 
@@ -57,11 +65,11 @@ same-length-2 c = search needs
 
 returns : tie.Need-returns
 returns c =
-    let st = c .before .before .before .before .before .before .before .before .before .before .before .before .before .before .before .before .before .before .before .before .before .before .before in
+    let st = c .before .before .before .before .before .before .before .before .before .before .before .before .before .before .before .before .before .before .before .before .before .before in
     let adm = st .pre .0 in
     let sett = st .pre .1 .0 in
-    let on = c .before .before .before .before .before .before .before .before .before .before .before .before .before .before .before .before .before .next-states .ensures in
-    let fill = c .before .before .before .before .before .before .before .before .before .before .before .before .before .before .before .new-numbers .ensures in
+    let on = c .before .before .before .before .before .before .before .before .before .before .before .before .before .before .before .before .next-states .ensures in
+    let fill = c .before .before .before .before .before .before .before .before .before .before .before .before .before .before .new-numbers .ensures in
     let map = c .before .before .before .before .before .before .before .before .before .before .before .fill-map .ensures in
     let short = c .before .before .before .before .before .shorten .ensures in (
       reduced-returns adm sett _ on _ fill _ map (c .short-shape .ensures) (short .1),

@@ -1,43 +1,67 @@
--- `representatives::renumber::fill_map` meets its contract: the elements below s are written, the others as they were. Assumes nothing.
+-- `representatives::renumber::fill_map` meets its contract: the elements below s are written, the others as they were, and the table that representatives
+-- are noted in leads where the one that was lent does. Assumes nothing.
 use Prim.Native.Nat.{ℕ, _≤_, _-_}
 use mathlib.Core.Path.{_≡_, refl, ap, _∙_}
 use native.Mathlib.Omega.{arith}
 use lib.ListN.{length, getD, length-set}
 use Rattle.below.specs.Tests.{listed}
-use Rattle.representatives.specs.Tables.{numbered}
+use Rattle.graph.specs.Answers.{most-states}
+use Rattle.representatives.specs.Tables.{Noted, numbered}
 use Rattle.outputs.specs.Output.{onFront}
 use Rattle.outputs.proofs.Front.{listed-none, listed-more, listed-done}
 use Rattle.representatives.proofs.Nexts.{stepped-in}
+use Rattle.representatives.proofs.Ways.{noted-none, noted-then, noted-sinks}
 use borrow.Author.Needs.{needs}
 use Rattle.representatives.proofs.renumber.fill_map.Statement.{statement}
 use Rattle.representatives.proofs.renumber.fill_map.Tie as tie
 
 abbrev Inv-loop : tie.InvT-loop
-Inv-loop states next news map₀ s₀ map s =
-    (s ≤ states) × (states ≤ length map₀) × (length map ≡ length map₀) × (map ≡ onFront (listed s (numbered next news states)) map₀)
+Inv-loop states news map₀ next₀ s₀ map next s =
+    (s ≤ states) × (states ≤ length map₀) × (length map ≡ length map₀) × (map ≡ onFront (listed s (numbered next₀ news states)) map₀) ×
+    Noted states next₀ next × (most-states ≤ length next₀)
 
 abbrev μ-loop : tie.MeasureT-loop
-μ-loop states next news map₀ s₀ map s = states - s
+μ-loop states news map₀ next₀ s₀ map next s = states - s
 
 loop-holds : tie.Need-loop-holds Inv-loop μ-loop
-loop-holds c = (omega arith, omega arith, refl, listed-none _ _)
+loop-holds c =
+    let st = c .before .before in
+    (omega arith, omega arith, refl, listed-none _ _, noted-none _ _ (st .pre .1 .1 .1 .0), search needs)
 
-cast-t9 : tie.Need-cast-t9 Inv-loop μ-loop
-cast-t9 c = search needs
+cast-t11 : tie.Need-cast-t11 Inv-loop μ-loop
+cast-t11 c = search needs
 
 follow-requires : tie.Need-follow-requires Inv-loop μ-loop
-follow-requires c κs = (omega arith, (omega arith, c .before .before .before .before .pre .1 .1 .1))
+follow-requires c κs =
+    let v = c .before .before .loop .inv in
+    (omega arith, (omega arith, v .4 .closed))
+
+cast-t11-2 : tie.Need-cast-t11-2 Inv-loop μ-loop
+cast-t11-2 c = search needs
+
+note-way-requires : tie.Need-note-way-requires Inv-loop μ-loop
+note-way-requires c κs =
+    let st = c .before .before .before .before .before .before .before in
+    let v = c .before .before .before .before .loop .inv in
+    let noted = v .4 in
+    (omega arith, (omega arith, (omega (arith, noted .long, v .5), (noted .closed, (noted-sinks noted (st .pre .1 .1 .1 .1), c .before .follow .ensures)))))
 
 map-at-requires : tie.Need-map-at-requires Inv-loop μ-loop
 map-at-requires c κs =
-    let st = c .before .before .before .before .before in
-    omega (arith, c .follow .ensures, stepped-in (st .args .next .now) (st .args .states) (st .pre .1 .1 .1) (st .args .states) (c .before .before .loop .s) (omega arith))
+    let st = c .before .before .before .before .before .before .before .before in
+    let v = c .before .before .before .before .before .loop in
+    omega (
+      arith,
+      c .before .before .follow .ensures,
+      v .inv .4 .same (v .s) (omega arith),
+      stepped-in _ (st .args .states) (st .pre .1 .1 .1 .0) (st .args .states) (v .s) (omega arith),
+    )
 
 mul-map : tie.Need-mul-map Inv-loop μ-loop
-mul-map c = omega arith
+mul-map c = search needs
 
 slice-write-map : tie.Need-slice-write-map Inv-loop μ-loop
-slice-write-map c = omega arith
+slice-write-map c = search needs
 
 add-s : tie.Need-add-s Inv-loop μ-loop
 add-s c = search needs
@@ -48,13 +72,16 @@ loop-less c = search needs
 loop-again : tie.Need-loop-again Inv-loop μ-loop
 unfolding numbered
 loop-again c =
-    let v = c .before .before .before .loop .inv in
-    let st = c .before .before .before .before .before .before in (
+    let v = c .before .before .before .before .before .before .loop in
+    let st = c .before .before .before .before .before .before .before .before .before in (
       omega arith,
       omega arith,
-      simp length-set (v .2),
-      listed-more (numbered (st .args .next .now) (st .args .news .now) (st .args .states)) (st .args .map .now) (v .3)
-          (c .map-at .ensures ∙ ap (λ (k : ℕ). getD (st .args .news .now) k 0) (c .before .follow .ensures)) (omega arith),
+      simp length-set (v .inv .2),
+      listed-more (numbered _ (st .args .news .now) (st .args .states)) (st .args .map .now) (v .inv .3)
+          (c .map-at .ensures ∙ ap (λ (k : ℕ). getD (st .args .news .now) k 0) (c .before .before .before .follow .ensures ∙ v .inv .4 .same (v .s) (omega arith)))
+          (omega arith),
+      noted-then (v .inv .4) (c .before .note-way .ensures),
+      v .inv .5,
     )
 
 same-length : tie.Need-same-length Inv-loop μ-loop
@@ -70,8 +97,10 @@ fill-map-spec =
     Inv-loop
     μ-loop
     loop-holds
-    cast-t9
+    cast-t11
     follow-requires
+    cast-t11-2
+    note-way-requires
     map-at-requires
     mul-map
     slice-write-map
