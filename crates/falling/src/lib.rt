@@ -10,7 +10,6 @@ use graph::MOST_STATES;
 use retests::leaving_of;
 use retests::next_due;
 use starts::STARTS;
-use starts::starts_of;
 use testing::list_silent;
 use testing::shed_of;
 use testing::take_fallen;
@@ -73,14 +72,14 @@ fn later_rounds(
     sum
 }
 
-// Marks by rounds; returns the number of tests.
-pub fn mark_rounds(hops: &[u16], marks: &mut [u8]) -> usize
+// Marks by rounds, by the table of first places, which the refusals made already; returns the number of tests.
+pub fn mark_rounds(hops: &[u16], starts: &[u16; STARTS], marks: &mut [u8]) -> usize
     requires ready { ⌜ Ready (now hops) ⌝ }
+    requires table { ⌜ Table (now hops) (now starts) ⌝ }
     requires room { ⌜ count (now hops) ≤ length (now marks) ⌝ }
     ensures tests { λ r. ⌜ r ≡ testsOf (now (hops .entry)) ⌝ }
     ensures writes { λ r. ⌜ now (marks .exit) ≡ onFront (marksOf (now (hops .entry)) (marked (now (hops .entry)))) (now (marks .entry)) ⌝ }
 {
-    let starts = starts_of(hops);
     let mut queue = [0u16; MOST_HOPS];
     let mut flags = [0u8; MOST_HOPS];
     let mut fallen = [0u16; MOST_HOPS];
@@ -90,7 +89,7 @@ pub fn mark_rounds(hops: &[u16], marks: &mut [u8]) -> usize
     let unasked = [0u8; MOST_STATES];
     let lost = test_due(
         hops,
-        &starts,
+        starts,
         marks,
         &unasked,
         true,
@@ -105,7 +104,7 @@ pub fn mark_rounds(hops: &[u16], marks: &mut [u8]) -> usize
     take_fallen(marks, &fallen, lost);
     later_rounds(
         hops,
-        &starts,
+        starts,
         marks,
         &mut queue,
         &mut flags,

@@ -4,7 +4,9 @@
 use falling::mark_rounds;
 use graph::Answer;
 use graph::Shape;
-use marks::mark::mark_answer;
+use limits::check;
+use marks::mark::later_answer;
+use starts::starts_of;
 ghost use mathlib.Core.Path.{_≡_};
 ghost use Rattle.marks.specs.Mark.{markOutput};
 ghost use Rattle.fast.specs.Fast.{countedOf};
@@ -20,10 +22,18 @@ pub fn mark_fast(shape: Shape, hops: &[u16], marks: &mut [u8]) -> Counted
     ensures answers { λ r. ⌜ r ≡ countedOf shape (now (hops .entry)) (now (marks .entry)) ⌝ }
     ensures writes { λ r. ⌜ now (marks .exit) ≡ markOutput shape (now (hops .entry)) (now (marks .entry)) ⌝ }
 {
-    let answer = mark_answer(shape, hops, marks);
+    let checked = check(shape, hops);
+    if checked.number != 0 {
+        return Counted {
+            answer: checked,
+            tests: 0,
+        };
+    }
+    let starts = starts_of(hops);
+    let answer = later_answer(shape, hops, &starts, marks.len());
     if answer.number != 0 {
         return Counted { answer, tests: 0 };
     }
-    let tests = mark_rounds(hops, marks);
+    let tests = mark_rounds(hops, &starts, marks);
     Counted { answer, tests }
 }

@@ -18,29 +18,38 @@ use Rattle.confluence.specs.Held.{marksOf}
 use Rattle.confluence.proofs.Marks.{marks-at}
 use Rattle.marks.specs.Mark.{marksMade, markAt, markAnswer, markOutput}
 
+-- rows 5 and 6 of an admitted graph: the ways out of the code, in order
+module _ (sh : Shape) (hs : List ℕ) (room : ℕ) {d : Answer} (f : d ≡ ringless sh hs) where
+  abbrev later : Answer
+  later = andThen (ringless sh hs) (roomFor (count hs) room)
+
+  pub later-ringed : (d .number ≡ 0 → ⊥) → d ≡ later
+  later-ringed n = f ∙ sym (then-first (ringless sh hs) _ (rw f at n))
+
+  module _ (y : d .number ≡ 0) where
+    last : roomFor (count hs) room ≡ later
+    last = sym (then-next (ringless sh hs) _ (rw f at y))
+
+    pub later-narrow : room < count hs → refused 6 0 ≡ later
+    later-narrow l = narrow ∙ last where
+      narrow : refused 6 0 ≡ roomFor (count hs) room
+      narrow = rw (lt-leb (count hs) room l)
+
+    pub later-accepts : count hs ≤ room → accepted ≡ later
+    later-accepts l = wide ∙ last where
+      wide : accepted ≡ roomFor (count hs) room
+      wide = rw (le-leb (count hs) room l)
+
 module _ (sh : Shape) (hs out : List ℕ) where
-  -- the ways out of the code, in order
+  -- the ways out of the entry: rows 1 to 4, and the later ones
   pub mark-refused : {c : Answer} → c ≡ checkOf sh hs → (c .number ≡ 0 → ⊥) → c ≡ markAnswer sh hs out
   unfolding markAnswer
   mark-refused e n = e ∙ sym (then-first (checkOf sh hs) _ (rw e at n))
 
-  module _ {c : Answer} (e : c ≡ checkOf sh hs) (z : c .number ≡ 0) where
-    rest : andThen (ringless sh hs) (roomFor (count hs) (length out)) ≡ markAnswer sh hs out
-    unfolding markAnswer
-    rest = sym (then-next (checkOf sh hs) _ (rw e at z))
-
-    pub mark-ringed : {d : Answer} → d ≡ ringless sh hs → (d .number ≡ 0 → ⊥) → d ≡ markAnswer sh hs out
-    mark-ringed f n = f ∙ (sym (then-first (ringless sh hs) _ (rw f at n)) ∙ rest)
-
-    module _ {d : Answer} (f : d ≡ ringless sh hs) (y : d .number ≡ 0) where
-      last : roomFor (count hs) (length out) ≡ markAnswer sh hs out
-      last = sym (then-next (ringless sh hs) _ (rw f at y)) ∙ rest
-
-      pub mark-narrow : length out < count hs → refused 6 0 ≡ markAnswer sh hs out
-      mark-narrow l = rw (lt-leb (count hs) (length out) l) at last
-
-      pub mark-accepts : count hs ≤ length out → accepted ≡ markAnswer sh hs out
-      mark-accepts l = rw (le-leb (count hs) (length out) l) at last
+  pub mark-later : {c : Answer} → c ≡ checkOf sh hs → c .number ≡ 0 → {d : Answer} → d ≡ andThen (ringless sh hs) (roomFor (count hs) (length out)) →
+      d ≡ markAnswer sh hs out
+  unfolding markAnswer
+  mark-later e z f = f ∙ sym (then-next (checkOf sh hs) _ (rw e at z))
 
   pub mark-admitted : markAnswer sh hs out .number ≡ 0 → Admitted sh hs
   unfolding markAnswer

@@ -7,10 +7,31 @@ use graph::answers::refuse;
 use graph::hops::hop_count;
 use limits::check;
 use rings::ring_answer;
+use starts::STARTS;
+use starts::starts_of;
 ghost use mathlib.Core.Path.{_≡_};
+ghost use Rattle.graph.specs.Hops.{count};
+ghost use Rattle.graph.specs.Answers.{andThen, roomFor};
+ghost use Rattle.starts.specs.Starts.{Tabled};
+ghost use Rattle.silent.specs.Silent.{ringless};
 ghost use Rattle.marks.specs.Mark.{markAnswer, markOutput};
 
-// The answer, before anything is written: rows 1 to 4, then 5, then 6.
+// Rows 5 and 6 of an admitted graph, by its table of first places.
+pub fn later_answer(shape: Shape, hops: &[u16], starts: &[u16; STARTS], room: usize) -> Answer
+    requires { ⌜ Tabled shape (now hops) (now starts) ⌝ }
+    ensures { λ r. ⌜ r ≡ andThen (ringless shape (now (hops .entry))) (roomFor (count (now (hops .entry))) room) ⌝ }
+{
+    let ringed = ring_answer(shape, hops, starts);
+    if ringed.number != 0 {
+        return ringed;
+    }
+    if room < hop_count(hops) {
+        return refuse(6, 0);
+    }
+    accept()
+}
+
+// The answer alone: rows 1 to 4, then 5, then 6.
 pub fn mark_answer(shape: Shape, hops: &[u16], marks: &[u8]) -> Answer
     ensures { λ r. ⌜ r ≡ markAnswer shape (now (hops .entry)) (now (marks .entry)) ⌝ }
 {
@@ -18,24 +39,24 @@ pub fn mark_answer(shape: Shape, hops: &[u16], marks: &[u8]) -> Answer
     if checked.number != 0 {
         return checked;
     }
-    let ringed = ring_answer(shape, hops);
-    if ringed.number != 0 {
-        return ringed;
-    }
-    if marks.len() < hop_count(hops) {
-        return refuse(6, 0);
-    }
-    accept()
+    let starts = starts_of(hops);
+    later_answer(shape, hops, &starts, marks.len())
 }
 
-// The entry. A refusal writes nothing; acceptance writes one mark a hop and nothing past them.
+// The entry. A refusal writes nothing; acceptance writes one mark a hop and nothing past them. The table of first places is made once, for row 5 and for
+// marking.
 pub fn mark(shape: Shape, hops: &[u16], marks: &mut [u8]) -> Answer
     ensures answers { λ r. ⌜ r ≡ markAnswer shape (now (hops .entry)) (now (marks .entry)) ⌝ }
     ensures writes { λ r. ⌜ now (marks .exit) ≡ markOutput shape (now (hops .entry)) (now (marks .entry)) ⌝ }
 {
-    let answer = mark_answer(shape, hops, marks);
+    let checked = check(shape, hops);
+    if checked.number != 0 {
+        return checked;
+    }
+    let starts = starts_of(hops);
+    let answer = later_answer(shape, hops, &starts, marks.len());
     if answer.number == 0 {
-        mark_rounds(hops, marks);
+        mark_rounds(hops, &starts, marks);
     }
     answer
 }

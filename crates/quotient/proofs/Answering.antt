@@ -20,57 +20,60 @@ use Rattle.silent.specs.Silent.{ringless}
 use Rattle.graph.proofs.Accepts.{then-first, then-next, both-accept, room-accepts}
 use Rattle.representatives.specs.Tables.{Reducible}
 use Rattle.quotient.specs.Reduce.{reduceAnswer, reduction, reduceOf, markedMap, markedHops, mapOutput, shortOutput}
-use Rattle.quotient.specs.Refusal.{refusal}
+use Rattle.quotient.specs.Refusal.{refusal, laterAnswer}
+
+-- row 6 of both outputs
+abbrev room : Shape → List ℕ → ℕ → ℕ → Answer
+room sh hs m k = andThen (roomFor (sh .states) m) (roomFor (length hs) k)
+
+-- rows 5 and 6 of an admitted graph: the ways out of the code, in order
+module _ (sh : Shape) (hs : List ℕ) (m k : ℕ) {d : Answer} (f : d ≡ ringless sh hs) where
+  pub later-ringed : (d .number ≡ 0 → ⊥) → d ≡ laterAnswer sh hs m k
+  later-ringed n = f ∙ sym (then-first (ringless sh hs) (room sh hs m k) (rw f at n))
+
+  module _ (y : d .number ≡ 0) where
+    last : room sh hs m k ≡ laterAnswer sh hs m k
+    last = sym (then-next (ringless sh hs) (room sh hs m k) (rw f at y))
+
+    pub later-narrow : (ltb m (sh .states) || ltb k (length hs)) ≡ true → refused 6 0 ≡ laterAnswer sh hs m k
+    later-narrow t = both (lt-or-le m (sh .states)) (or-yes (ltb m (sh .states)) (ltb k (length hs)) t) ∙ last where
+      both : (m < sh .states) ⊎ (sh .states ≤ m) → (ltb m (sh .states) ≡ true) ⊎ (ltb k (length hs) ≡ true) → refused 6 0 ≡ room sh hs m k
+      both (inl l) w = rw (lt-leb (sh .states) m l)
+      both (inr l) (inl w) = absurd (omega (arith, ltb-true m (sh .states) w))
+      both (inr l) (inr w) = rw (le-leb (sh .states) m l, lt-leb (length hs) k (ltb-true k (length hs) w))
+
+    pub later-accepts : (ltb m (sh .states) || ltb k (length hs)) ≡ false → accepted ≡ laterAnswer sh hs m k
+    later-accepts t = wide ∙ last where
+      or-no-left : (a b : Bool) → (a || b) ≡ false → a ≡ false
+      or-no-left true b q = q
+      or-no-left false b q = refl
+
+      or-no-right : (a b : Bool) → (a || b) ≡ false → b ≡ false
+      or-no-right true b q = clash refl q
+      or-no-right false b q = q
+
+      wide : accepted ≡ room sh hs m k
+      wide =
+          rw (le-leb (sh .states) m (ltb-false m (sh .states) (or-no-left (ltb m (sh .states)) (ltb k (length hs)) t)), le-leb (length hs) k (ltb-false k (length hs) (or-no-right (ltb m (sh .states)) (ltb k (length hs)) t)))
 
 module _ (sh : Shape) (hs : List ℕ) (m k : ℕ) where
-  -- row 6 of both outputs
-  abbrev room : Answer
-  room = andThen (roomFor (sh .states) m) (roomFor (length hs) k)
-
-  -- the ways out of the code, in order
+  -- the ways out of the entry: rows 1 to 4, and the later ones
   pub answer-checked : {c : Answer} → c ≡ checkOf sh hs → (c .number ≡ 0 → ⊥) → c ≡ reduceAnswer sh hs m k
   unfolding reduceAnswer
   answer-checked e n = e ∙ sym (then-first (checkOf sh hs) _ (rw e at n))
 
-  module _ {c : Answer} (e : c ≡ checkOf sh hs) (z : c .number ≡ 0) where
-    rest : andThen (ringless sh hs) room ≡ reduceAnswer sh hs m k
-    unfolding reduceAnswer
-    rest = sym (then-next (checkOf sh hs) (andThen (ringless sh hs) room) (rw e at z))
-
-    pub answer-ringed : {d : Answer} → d ≡ ringless sh hs → (d .number ≡ 0 → ⊥) → d ≡ reduceAnswer sh hs m k
-    answer-ringed f n = f ∙ (sym (then-first (ringless sh hs) room (rw f at n)) ∙ rest)
-
-    module _ {d : Answer} (f : d ≡ ringless sh hs) (y : d .number ≡ 0) where
-      last : room ≡ reduceAnswer sh hs m k
-      last = sym (then-next (ringless sh hs) room (rw f at y)) ∙ rest
-
-      pub answer-narrow : (ltb m (sh .states) || ltb k (length hs)) ≡ true → refused 6 0 ≡ reduceAnswer sh hs m k
-      answer-narrow t = both (lt-or-le m (sh .states)) (or-yes (ltb m (sh .states)) (ltb k (length hs)) t) ∙ last where
-        both : (m < sh .states) ⊎ (sh .states ≤ m) → (ltb m (sh .states) ≡ true) ⊎ (ltb k (length hs) ≡ true) → refused 6 0 ≡ room
-        both (inl l) w = rw (lt-leb (sh .states) m l)
-        both (inr l) (inl w) = absurd (omega (arith, ltb-true m (sh .states) w))
-        both (inr l) (inr w) = rw (le-leb (sh .states) m l, lt-leb (length hs) k (ltb-true k (length hs) w))
-
-      pub answer-accepts : (ltb m (sh .states) || ltb k (length hs)) ≡ false → accepted ≡ reduceAnswer sh hs m k
-      answer-accepts t =
-          rw (le-leb (sh .states) m (ltb-false m (sh .states) (or-no-left (ltb m (sh .states)) (ltb k (length hs)) t)), le-leb (length hs) k (ltb-false k (length hs) (or-no-right (ltb m (sh .states)) (ltb k (length hs)) t)))
-          at last where
-            or-no-left : (a b : Bool) → (a || b) ≡ false → a ≡ false
-            or-no-left true b q = q
-            or-no-left false b q = refl
-
-            or-no-right : (a b : Bool) → (a || b) ≡ false → b ≡ false
-            or-no-right true b q = clash refl q
-            or-no-right false b q = q
+  pub answer-later : {c : Answer} → c ≡ checkOf sh hs → c .number ≡ 0 → {d : Answer} → d ≡ laterAnswer sh hs m k → d ≡ reduceAnswer sh hs m k
+  unfolding reduceAnswer
+  answer-later e z f = f ∙ sym (then-next (checkOf sh hs) (laterAnswer sh hs m k) (rw e at z))
 
   -- what acceptance gives
   module _ (z : reduceAnswer sh hs m k .number ≡ 0) where
-    checked : (checkOf sh hs .number ≡ 0) × (andThen (ringless sh hs) room .number ≡ 0)
+    checked : (checkOf sh hs .number ≡ 0) × (laterAnswer sh hs m k .number ≡ 0)
     unfolding reduceAnswer
-    checked = both-accept (checkOf sh hs) (andThen (ringless sh hs) room) z
+    checked = both-accept (checkOf sh hs) (laterAnswer sh hs m k) z
 
-    ringed : (ringless sh hs .number ≡ 0) × (room .number ≡ 0)
-    ringed = both-accept (ringless sh hs) room (checked .1)
+    ringed : (ringless sh hs .number ≡ 0) × (room sh hs m k .number ≡ 0)
+    ringed = both-accept (ringless sh hs) (room sh hs m k) (checked .1)
 
     roomed : (roomFor (sh .states) m .number ≡ 0) × (roomFor (length hs) k .number ≡ 0)
     roomed = both-accept (roomFor (sh .states) m) (roomFor (length hs) k) (ringed .1)
@@ -87,7 +90,7 @@ module _ (sh : Shape) (hs : List ℕ) (m k : ℕ) where
     pub reduce-accepted : reduceAnswer sh hs m k ≡ accepted
     unfolding reduceAnswer
     reduce-accepted =
-        then-next (checkOf sh hs) (andThen (ringless sh hs) room) (checked .0) ∙ then-next (ringless sh hs) room (ringed .0) ∙
+        then-next (checkOf sh hs) (laterAnswer sh hs m k) (checked .0) ∙ then-next (ringless sh hs) (room sh hs m k) (ringed .0) ∙
         rw (le-leb (sh .states) m reduce-map-room, le-leb (length hs) k reduce-short-room)
 
 -- what is returned and written, a being the answer

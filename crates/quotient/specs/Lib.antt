@@ -1,2 +1,2 @@
 pub mod Reduce  -- what `reduce` returns and leaves
-pub mod Refusal  -- what it returns with a refusal
+pub mod Refusal  -- what it returns with a refusal, and rows 5 and 6

@@ -9,25 +9,31 @@ use graph::answers::refuse;
 use limits::check;
 use reducing::reduce_marked;
 use rings::ring_answer;
+use starts::STARTS;
+use starts::starts_of;
 ghost use mathlib.Core.Path.{_≡_};
 ghost use Prim.Native.Nat.{_≤_};
 ghost use lib.ListN.{length};
 ghost use Rattle.outputs.specs.Output.{onFront};
 ghost use Rattle.graph.specs.Hops.{flat};
 ghost use Rattle.graph.specs.Answers.{accepted};
+ghost use Rattle.starts.specs.Starts.{Table, Tabled};
 ghost use Rattle.representatives.specs.Tables.{Reducible};
 ghost use Rattle.quotient.specs.Reduce.{reduceAnswer, reduceOf, mapOutput, shortOutput, reduction, markedMap, markedHops};
-ghost use Rattle.quotient.specs.Refusal.{refusal};
+ghost use Rattle.quotient.specs.Refusal.{refusal, laterAnswer};
 
-// The answer, before anything is written: rows 1 to 4, then 5, then 6.
-pub fn reduce_answer(shape: Shape, hops: &[u16], entries: usize, numbers: usize) -> Answer
-    ensures { λ r. ⌜ r ≡ reduceAnswer shape (now (hops .entry)) entries numbers ⌝ }
+// Rows 5 and 6 of an admitted graph, by its table of first places.
+fn later_answer(
+    shape: Shape,
+    hops: &[u16],
+    starts: &[u16; STARTS],
+    entries: usize,
+    numbers: usize,
+) -> Answer
+    requires { ⌜ Tabled shape (now hops) (now starts) ⌝ }
+    ensures { λ r. ⌜ r ≡ laterAnswer shape (now (hops .entry)) entries numbers ⌝ }
 {
-    let checked = check(shape, hops);
-    if checked.number != 0 {
-        return checked;
-    }
-    let ringed = ring_answer(shape, hops);
+    let ringed = ring_answer(shape, hops, starts);
     if ringed.number != 0 {
         return ringed;
     }
@@ -37,9 +43,28 @@ pub fn reduce_answer(shape: Shape, hops: &[u16], entries: usize, numbers: usize)
     accept()
 }
 
+// The answer alone: rows 1 to 4, then 5, then 6.
+pub fn reduce_answer(shape: Shape, hops: &[u16], entries: usize, numbers: usize) -> Answer
+    ensures { λ r. ⌜ r ≡ reduceAnswer shape (now (hops .entry)) entries numbers ⌝ }
+{
+    let checked = check(shape, hops);
+    if checked.number != 0 {
+        return checked;
+    }
+    let starts = starts_of(hops);
+    later_answer(shape, hops, &starts, entries, numbers)
+}
+
 // The reduction of a graph that every row lets pass: it is marked, and reduced along the marks.
-fn accepted_reduction(shape: Shape, hops: &[u16], map: &mut [u16], short: &mut [u16]) -> Reduction
+fn accepted_reduction(
+    shape: Shape,
+    hops: &[u16],
+    starts: &[u16; STARTS],
+    map: &mut [u16],
+    short: &mut [u16],
+) -> Reduction
     requires reducible { ⌜ Reducible shape (now hops) ⌝ }
+    requires table { ⌜ Table (now hops) (now starts) ⌝ }
     requires map_room { ⌜ shape .states ≤ length (now map) ⌝ }
     requires short_room { ⌜ length (now hops) ≤ length (now short) ⌝ }
     ensures returned { λ r. ⌜ r ≡ reduction shape (now (hops .entry)) accepted ⌝ }
@@ -47,7 +72,7 @@ fn accepted_reduction(shape: Shape, hops: &[u16], map: &mut [u16], short: &mut [
     ensures shortened { λ r. ⌜ now (short .exit) ≡ onFront (flat (markedHops shape (now (hops .entry)))) (now (short .entry)) ⌝ }
 {
     let mut marks = [0u8; MOST_HOPS];
-    mark_rounds(hops, &mut marks);
+    mark_rounds(hops, starts, &mut marks);
     let made = reduce_marked(shape, hops, &marks, map, short);
     let short_shape = made.shape;
     Reduction {
@@ -72,15 +97,21 @@ fn refused_reduction(answer: Answer) -> Reduction
     }
 }
 
-// The entry. A refusal writes nothing; acceptance writes the map and the short hops, and nothing past them.
+// The entry. A refusal writes nothing; acceptance writes the map and the short hops, and nothing past them. The table of first places is made once, for
+// row 5 and for marking.
 pub fn reduce(shape: Shape, hops: &[u16], map: &mut [u16], short: &mut [u16]) -> Reduction
     ensures returned { λ r. ⌜ r ≡ reduceOf shape (now (hops .entry)) (length (now (map .entry))) (length (now (short .entry))) ⌝ }
     ensures mapped { λ r. ⌜ now (map .exit) ≡ mapOutput shape (now (hops .entry)) (now (map .entry)) (now (short .entry)) ⌝ }
     ensures shortened { λ r. ⌜ now (short .exit) ≡ shortOutput shape (now (hops .entry)) (now (map .entry)) (now (short .entry)) ⌝ }
 {
-    let answer = reduce_answer(shape, hops, map.len(), short.len());
+    let checked = check(shape, hops);
+    if checked.number != 0 {
+        return refused_reduction(checked);
+    }
+    let starts = starts_of(hops);
+    let answer = later_answer(shape, hops, &starts, map.len(), short.len());
     if answer.number != 0 {
         return refused_reduction(answer);
     }
-    accepted_reduction(shape, hops, map, short)
+    accepted_reduction(shape, hops, &starts, map, short)
 }

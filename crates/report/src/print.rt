@@ -10,10 +10,13 @@ use reducing::reduce_marked;
 use rings::ring_answer;
 use rows::put_refusal;
 use rows::put_report;
+use starts::STARTS;
+use starts::starts_of;
 ghost use mathlib.Core.Path.{_≡_};
 ghost use Prim.Native.Nat.{_≤_};
 ghost use lib.ListN.{length};
 ghost use Rattle.limits.specs.Check.{Admitted};
+ghost use Rattle.starts.specs.Starts.{Table};
 ghost use Rattle.representatives.specs.Tables.{Reducible};
 ghost use Rattle.outputs.specs.Output.{onFront};
 ghost use Rattle.text.specs.Text.{Put};
@@ -23,15 +26,16 @@ ghost use Rattle.report.specs.Report.{most-text, reportOf, printedGraph,
 pub const MOST_TEXT: usize = 48 * MOST_HOPS;
 
 // The report of a graph that every row lets pass: it is marked once, and reduced along the marks.
-fn print_reduced(shape: Shape, hops: &[u16], out: &mut [u8]) -> usize
+fn print_reduced(shape: Shape, hops: &[u16], starts: &[u16; STARTS], out: &mut [u8]) -> usize
     requires reducible { ⌜ Reducible shape (now hops) ⌝ }
+    requires table { ⌜ Table (now hops) (now starts) ⌝ }
     requires room { ⌜ most-text ≤ length (now out) ⌝ }
     ensures { λ r. ⌜ Put (now (out .entry)) 0 (reportOf shape (now (hops .entry))) r (now (out .exit)) ⌝ }
 {
     let mut marks = [0u8; MOST_HOPS];
     let mut map = [0u16; MOST_STATES];
     let mut short = [0u16; MOST_NUMBERS];
-    mark_rounds(hops, &mut marks);
+    mark_rounds(hops, starts, &mut marks);
     let made = reduce_marked(shape, hops, &marks, &mut map, &mut short);
     let new = made.shape;
     let n = made.hops;
@@ -44,11 +48,12 @@ fn print_graph(shape: Shape, hops: &[u16], out: &mut [u8]) -> usize
     requires room { ⌜ most-text ≤ length (now out) ⌝ }
     ensures { λ r. ⌜ Put (now (out .entry)) 0 (printedGraph shape (now (hops .entry))) r (now (out .exit)) ⌝ }
 {
-    let answer = ring_answer(shape, hops);
+    let starts = starts_of(hops);
+    let answer = ring_answer(shape, hops, &starts);
     if answer.number != 0 {
         return put_refusal(out, 0, answer);
     }
-    print_reduced(shape, hops, out)
+    print_reduced(shape, hops, &starts, out)
 }
 
 // The same of a file. Reading has checked the graph, so that nothing is checked, searched for rings or marked twice.

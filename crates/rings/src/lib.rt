@@ -15,7 +15,6 @@ use ranking::rank_all;
 use reaching::reach;
 use silent::chosen::silent_bytes;
 use starts::STARTS;
-use starts::starts_of;
 ghost use mathlib.Core.Path.{_≡_};
 ghost use Prim.Native.Nat.{_<_, _≤_};
 ghost use lib.ListN.{length};
@@ -112,25 +111,24 @@ fn lowest_unranked(shape: Shape, hops: &[u16], starts: &[u16; STARTS], ranked: &
 }
 
 // The lowest state on a ring, or the state count: a graph without rings is ranked whole, which costs it no search.
-pub fn lowest_on_ring(shape: Shape, hops: &[u16]) -> usize
-    requires { ⌜ Admitted shape (now hops) ⌝ }
+pub fn lowest_on_ring(shape: Shape, hops: &[u16], starts: &[u16; STARTS]) -> usize
+    requires { ⌜ Tabled shape (now hops) (now starts) ⌝ }
     ensures { λ r. ⌜ r ≡ lowestOnRing shape (now (hops .entry)) ⌝ }
 {
-    let starts = starts_of(hops);
     let mut ranked = [0u8; MOST_STATES];
     let n = shape.states as usize;
-    if rank_all(shape, hops, &starts, &mut ranked) == n {
+    if rank_all(shape, hops, starts, &mut ranked) == n {
         return n;
     }
-    lowest_unranked(shape, hops, &starts, &ranked)
+    lowest_unranked(shape, hops, starts, &ranked)
 }
 
-// The answer of row 5.
-pub fn ring_answer(shape: Shape, hops: &[u16]) -> Answer
-    requires { ⌜ Admitted shape (now hops) ⌝ }
+// The answer of row 5, by the table of first places, which whoever asks made and needs again.
+pub fn ring_answer(shape: Shape, hops: &[u16], starts: &[u16; STARTS]) -> Answer
+    requires { ⌜ Tabled shape (now hops) (now starts) ⌝ }
     ensures { λ r. ⌜ r ≡ ringless shape (now (hops .entry)) ⌝ }
 {
-    let s = lowest_on_ring(shape, hops);
+    let s = lowest_on_ring(shape, hops, starts);
     if s < shape.states as usize {
         return refuse(5, s);
     }

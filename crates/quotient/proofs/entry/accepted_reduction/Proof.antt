@@ -11,7 +11,10 @@ slice-aggregate-mark-rounds : tie.Need-slice-aggregate-mark-rounds
 slice-aggregate-mark-rounds c = search needs
 
 mark-rounds-requires : tie.Need-mark-rounds-requires
-mark-rounds-requires c κs = let adm = c .before .before .before .before .pre .0 .admitted in (admitted-ready adm, omega (arith, adm .hops-most))
+mark-rounds-requires c κs =
+    let st = c .before .before .before .before in
+    let adm = st .pre .0 .admitted in
+    (admitted-ready adm, (st .pre .1 .0, omega (arith, adm .hops-most)))
 
 slice-aggregate-reduce-marked : tie.Need-slice-aggregate-reduce-marked
 slice-aggregate-reduce-marked c = search needs
@@ -20,7 +23,7 @@ reduce-marked-requires : tie.Need-reduce-marked-requires
 reduce-marked-requires c κs =
     let st = c .before .before .before .before .before .before .before .before .before in
     let red = st .pre .0 in
-    (red .admitted, (held-settles red _, (left-marks (st .args .shape) _ _ _ (c .before .before .before .before .mark-rounds .ensures .1) (omega (arith, red .admitted .hops-most)), (st .pre .1 .0, st .pre .1 .1))))
+    (red .admitted, (held-settles red _, (left-marks (st .args .shape) _ _ _ (c .before .before .before .before .mark-rounds .ensures .1) (omega (arith, red .admitted .hops-most)), (st .pre .1 .1 .0, st .pre .1 .1 .1))))
 
 accept-requires : tie.Need-accept-requires
 accept-requires c κs = search needs

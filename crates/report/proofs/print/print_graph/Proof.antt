@@ -1,4 +1,5 @@
 -- `report::print::print_graph` meets its contract: of a graph that is admitted only row 5 is left to ask. Assumes nothing.
+use Rattle.starts.proofs.Firsts.{admitted-ready}
 use Rattle.text.proofs.Puts.{put-same}
 use Rattle.report.proofs.Lengths.{refusal-most}
 use Rattle.report.proofs.Shown.{graph-refused, graph-reducible, graph-accepted, text-room}
@@ -6,36 +7,40 @@ use borrow.Author.Needs.{needs}
 use Rattle.report.proofs.print.print_graph.Statement.{statement}
 use Rattle.report.proofs.print.print_graph.Tie as tie
 
+starts-of-requires : tie.Need-starts-of-requires
+starts-of-requires c κs = let st = c .before .before in admitted-ready (st .pre .0)
+
 ring-answer-requires : tie.Need-ring-answer-requires
-ring-answer-requires c κs = search needs
+ring-answer-requires c κs = let st = c .before .before .before .before in record { admitted = st .pre .0; table = c .before .starts-of .ensures }
 
 put-refusal-requires : tie.Need-put-refusal-requires
-put-refusal-requires c κs = text-room (refusal-most _) (c .before .before .before .before .before .before .pre .1)
+put-refusal-requires c κs = text-room (refusal-most _) (c .before .before .before .before .before .before .before .before .pre .1)
 
 same-length : tie.Need-same-length
 same-length c = search needs
 
 returns : tie.Need-returns
 returns c =
-    put-same (graph-refused (c .before .before .before .before .before .before .before .before .before .pre .0) (c .before .before .before .before .before .before .ring-answer .ensures) (c .before .before .before .before .if1 .taken))
+    put-same (graph-refused (c .before .before .before .before .before .before .before .before .before .before .before .pre .0) (c .before .before .before .before .before .before .ring-answer .ensures) (c .before .before .before .before .if1 .taken))
     (c .before .before .put-refusal .ensures)
 
 print-reduced-requires : tie.Need-print-reduced-requires
 print-reduced-requires c κs =
-    let st = c .before .before .before .before .before .before in (graph-reducible (st .pre .0) (c .before .before .before .ring-answer .ensures) (c .before .if1 .left), st .pre .1)
+    let st = c .before .before .before .before .before .before .before .before .before in (graph-reducible (st .pre .0) (c .before .before .before .before .ring-answer .ensures) (c .before .before .if1 .left), (c .before .before .before .before .before .before .starts-of .ensures, st .pre .1))
 
 same-length-2 : tie.Need-same-length-2
 same-length-2 c = search needs
 
 returns-2 : tie.Need-returns-2
 returns-2 c =
-    put-same (graph-accepted (c .before .before .before .before .before .before .before .before .before .pre .0) (c .before .before .before .before .before .before .ring-answer .ensures) (c .before .before .before .before .if1 .left))
+    put-same (graph-accepted (c .before .before .before .before .before .before .before .before .before .before .before .before .pre .0) (c .before .before .before .before .before .before .before .ring-answer .ensures) (c .before .before .before .before .before .if1 .left))
     (c .before .before .print-reduced .ensures)
 
 pub print-graph-spec : {M : Type 1} → statement M
 print-graph-spec =
     tie.close
     (tie.spec
+    starts-of-requires
     ring-answer-requires
     put-refusal-requires
     same-length

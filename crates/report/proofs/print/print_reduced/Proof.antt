@@ -17,7 +17,10 @@ slice-aggregate-mark-rounds : tie.Need-slice-aggregate-mark-rounds
 slice-aggregate-mark-rounds c = search needs
 
 mark-rounds-requires : tie.Need-mark-rounds-requires
-mark-rounds-requires c κs = let adm = c .before .before .before .pre .0 .admitted in (admitted-ready adm, omega (arith, adm .hops-most))
+mark-rounds-requires c κs =
+    let st = c .before .before .before in
+    let adm = st .pre .0 .admitted in
+    (admitted-ready adm, (st .pre .1 .0, omega (arith, adm .hops-most)))
 
 slice-aggregate-reduce-marked : tie.Need-slice-aggregate-reduce-marked
 slice-aggregate-reduce-marked c = search needs
@@ -58,7 +61,7 @@ put-report-requires c κs =
     let red = st .pre .0 in
     let e = c .before .before .before .before .before .before .before .before .before .before .before .before .before .mark-rounds .ensures .1 in
     let r = c .before .before .before .before .before .before .before .before .reduce-marked .ensures in
-    (omega (arith, red .admitted .hops-most), (omega (arith, red .admitted .states-most), (red .admitted .states-most, room-same (sym (reduced-lines red (reduced-marks red (replicate most-hops 0) e) (reduced-map red (replicate most-hops 0) e (replicate most-states 0) (r .1 .0)) (reduced-shape red (replicate most-hops 0) e (r .0)) (reduced-short red (replicate most-hops 0) e (r .0) (replicate most-numbers 0) (r .1 .1) (c .before .part .ensures .0)))) (text-room (report-most red) (st .pre .1)))))
+    (omega (arith, red .admitted .hops-most), (omega (arith, red .admitted .states-most), (red .admitted .states-most, room-same (sym (reduced-lines red (reduced-marks red (replicate most-hops 0) e) (reduced-map red (replicate most-hops 0) e (replicate most-states 0) (r .1 .0)) (reduced-shape red (replicate most-hops 0) e (r .0)) (reduced-short red (replicate most-hops 0) e (r .0) (replicate most-numbers 0) (r .1 .1) (c .before .part .ensures .0)))) (text-room (report-most red) (st .pre .1 .1)))))
 
 same-length : tie.Need-same-length
 same-length c = search needs
