@@ -16,7 +16,7 @@
 #define NAMES (ZF_MOST_LABELS - 1)
 #define BLOCK (NAMES * (ZF_LONGEST_NAME + 1))
 
-static uint16_t tiles[NUMBERS], unordered[NUMBERS], ring[NUMBERS], falling[NUMBERS], knot[NUMBERS], small[NUMBERS], read_hops[NUMBERS], written_hops[NUMBERS];
+static uint16_t tiles[NUMBERS], unordered[NUMBERS], ring[NUMBERS], falling[NUMBERS], turned[NUMBERS], knot[NUMBERS], small[NUMBERS], read_hops[NUMBERS], written_hops[NUMBERS];
 static uint16_t map[ZF_MOST_STATES], wrong_map[ZF_MOST_STATES], one_class[ZF_MOST_STATES], written_map[ZF_MOST_STATES];
 static const uint16_t loops[9] = {0, 1, 0, 0, 2, 0, 0, 3, 0};
 static uint8_t names[BLOCK], repeated[BLOCK], marks[ZF_MOST_HOPS], out[ZF_LONGEST_FILE], file[ZF_LONGEST_FILE + 1], repeated_file[ZF_LONGEST_FILE];
@@ -61,6 +61,14 @@ static void fill_falling(void) {
     for (unsigned l = 1; l <= 4; l++) at = put_hop(at, ZF_MOST_STATES - 1, l, 0);
 }
 
+/* State 0 has 3,585 hops to states whose silent hops lead to others in descending order: its images come far from where they go, and are sorted. */
+static void fill_turned(void) {
+    uint16_t *at = turned;
+    for (unsigned l = 1; l <= 8; l++)
+        for (unsigned i = 0; i < (l < 8 ? 511 : 8); i++) at = put_hop(at, 0, l, 1 + i);
+    for (unsigned i = 0; i < 511; i++) at = put_hop(at, 1 + i, 0, ZF_MOST_STATES - 1 - i);
+}
+
 /* 64 states, a silent hop from each to each. */
 static void fill_knot(void) {
     uint16_t *at = knot;
@@ -100,6 +108,9 @@ static uint32_t fast_short(void) { return fast_at(falling, ZF_ANSWER_MARK_FAST -
 static uint32_t reduce(void) { return zf_reduce(FULL, LIST(tiles), written_map, ZF_MOST_STATES, LIST(written_hops), answer, ZF_ANSWER_REDUCE); }
 static uint32_t reduce_falling(void) {
     return zf_reduce(FULL, LIST(falling), written_map, ZF_MOST_STATES, LIST(written_hops), answer, ZF_ANSWER_REDUCE);
+}
+static uint32_t reduce_turned(void) {
+    return zf_reduce(FULL, LIST(turned), written_map, ZF_MOST_STATES, LIST(written_hops), answer, ZF_ANSWER_REDUCE);
 }
 static uint32_t reduce_ring(void) { return zf_reduce(FULL, LIST(ring), written_map, ZF_MOST_STATES, LIST(written_hops), answer, ZF_ANSWER_REDUCE); }
 static uint32_t reduce_short(void) { return zf_reduce(FULL, LIST(tiles), written_map, ZF_MOST_STATES, LIST(written_hops), answer, ZF_ANSWER_REDUCE - 1); }
@@ -156,6 +167,7 @@ static const struct call calls[] = {
     {"zf_mark_fast", "answer too short", fast_short, ZF_ROOM, 0, 0, ZF_STACK_MARK_FAST},
     {"zf_reduce", "accepted", reduce, ZF_ACCEPTED, 5, 1792, ZF_STACK_REDUCE},
     {"zf_reduce", "a chain that falls a hop a round", reduce_falling, ZF_ACCEPTED, 5, ZF_MOST_HOPS, ZF_STACK_REDUCE},
+    {"zf_reduce", "3,585 images in descending order", reduce_turned, ZF_ACCEPTED, 5, 3585, ZF_STACK_REDUCE},
     {"zf_reduce", "a ring of 1,024 states", reduce_ring, ZF_RING, 5, 0, ZF_STACK_REDUCE},
     {"zf_reduce", "answer too short", reduce_short, ZF_ROOM, 0, 0, ZF_STACK_REDUCE},
     {"zf_audit", "of what reduce left", audit, ZF_ACCEPTED, 3, 0, ZF_STACK_AUDIT},
@@ -215,6 +227,7 @@ static int prepare(const char *path) {
     fill_tiles();
     fill_ring();
     fill_falling();
+    fill_turned();
     fill_knot();
     fill_names();
     if (zf_write(FULL, LIST(tiles), names, BLOCK, file, sizeof file, answer, ZF_ANSWER_WRITE) != ZF_ACCEPTED || answer[3] != ZF_LONGEST_FILE) return 0;

@@ -36,11 +36,16 @@ fn order(random: &mut Random, states: usize) -> Vec<u16> {
     match random.below(4) {
         0 => order.reverse(),
         1 => {}
-        _ => {
-            for i in (1..states).rev() {
-                order.swap(i, random.below(i + 1));
-            }
-        }
+        _ => return shuffled(random, states),
+    }
+    order
+}
+
+/// The states in no order.
+pub fn shuffled(random: &mut Random, states: usize) -> Vec<u16> {
+    let mut order: Vec<u16> = (0..states as u16).collect();
+    for i in (1..states).rev() {
+        order.swap(i, random.below(i + 1));
     }
     order
 }

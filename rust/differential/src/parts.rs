@@ -1,7 +1,7 @@
 //! What is compared.
 
 use crate::compare::{Comparer, Length};
-use crate::make;
+use crate::make::{self, Hops};
 use differential::entries::Graph;
 use Length::{About, AtLeast, Exactly};
 
@@ -493,7 +493,22 @@ pub fn limits(c: &mut Comparer) {
     let dense = full(91, 1, flat((0..91).flat_map(|s| (s + 1..91).map(move |t| [s, 0, t]))));
     let many_labels = full(4, 1024, flat((0..4).flat_map(|s| (0..1024).map(move |a| [s, a, 3]))));
     let rounds = round_graph(64);
-    for g in [chain, chain_down, ring, late_ring, class, one_label, dense, many_labels, rounds] {
+    // a chain, and a chain that ends in a ring, through the states in no order
+    let order = make::shuffled(&mut c.random, 1024);
+    let strewn = |hops: Hops| make::graph_of(1024, 8, 1023, &hops);
+    let along = || (0..1023).map(|i| (order[i], 0, order[i + 1]));
+    let chain_strewn = strewn(along().collect());
+    let ring_strewn = strewn(along().chain([(order[1023], 0, order[900])]).collect());
+    // the images of one state's hops in descending order, and in no order: far from where they go
+    let asked = || (1..8).flat_map(|a| (0..500).map(move |i| (0, a, 1 + i)));
+    let descending = strewn(asked().chain((0..500).map(|i| (1 + i, 0, 1000 - i))).collect());
+    let tos = make::shuffled(&mut c.random, 500);
+    let mixed = strewn(asked().chain((0..500).map(|i| (1 + i, 0, 501 + tos[usize::from(i)]))).collect());
+    // the same with images that repeat
+    let repeated = strewn(asked().chain((0..500).map(|i| (1 + i, 0, 501 + tos[usize::from(i)] / 2))).collect());
+    for g in
+        [chain, chain_down, chain_strewn, ring, late_ring, ring_strewn, class, one_label, dense, many_labels, rounds, descending, mixed, repeated]
+    {
         every_entry(c, &g, 1024);
         every_entry(c, &g, 3);
         for _ in 0..20 {
@@ -602,6 +617,25 @@ pub fn large_files(c: &mut Comparer) {
     file[last] = 0;
     file[last + 1] = 0;
     read(&file);
+    // as many names of two bytes as fit, ascending, descending and in no order; all different, and with one repeated
+    let mut names: Vec<u16> = (0..19_446).collect();
+    for turn in 0..3 {
+        match turn {
+            0 => {}
+            1 => names.reverse(),
+            _ => names.sort_by_key(|&i| i.wrapping_mul(40_503)),
+        }
+        let mut file = vec![4, 1, 0];
+        file.extend(19_447u16.to_le_bytes());
+        for i in &names {
+            file.push(2);
+            file.extend(i.to_be_bytes());
+        }
+        read(&file);
+        let (first, later) = (5 + 3 * 1000, 5 + 3 * 18_000);
+        file.copy_within(first + 1..first + 3, later + 1);
+        read(&file);
+    }
     // the longest legal file, one byte less and one more
     let hops = flat((0..4096u16).map(|i| [i / 4, 1023, i % 4]));
     let g = Graph { states: 1024, labels: 1024, initial: 1023, hops };
