@@ -25,6 +25,9 @@ none "numbers that have a name" "$(grep -nE '(^|[^0-9.])(3 \*|6 \*|12288|1025|40
 # hops are made in one place
 none "hops made elsewhere than in graph" "$(grep -nE '(^|[^A-Za-z])Hop \{' crates/*/src/*.rt | grep -vE '^crates/(graph|calls_records)/' | grep -vE ':[0-9]+: *//' || true)"
 
+# two hops are compared by their sums, in graph::order: nowhere is a number of one hop held against a number of another
+none "hops compared by their numbers" "$(grep -nE '\.(from|label|to)\>[^;⌜]*([<>]|[=!]=)[^;⌜]*\.(from|label|to)\>' crates/*/src/*.rt | grep -vE ':[0-9]+: *//' || true)"
+
 # every module of a list has a word on it
 none "modules without a word" "$(grep -nE '^pub mod [A-Za-z]+ *$' crates/*/specs/Lib.antt crates/*/proofs/Lib.antt || true)"
 

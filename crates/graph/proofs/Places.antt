@@ -9,27 +9,46 @@ use borrow.Author.Tests.{eq-eqb, eqb-true}
 use lib.ListN.{length, getD}
 use lib.Dec.{eqb}
 use Rattle.below.specs.Tests.{any}
-use Rattle.graph.specs.Hops.{count, from, label, to, hopOf, hopAt, noHop, Alike, numberPlace, flat, is, labelled, has}
+use Rattle.graph.specs.Hops.{count, from, label, to, hopOf, hopAt, noHop, Alike, same, numberPlace, flat, is, labelled, has}
 use Rattle.graph.specs.declared.Hop.{Hop}
 use Rattle.below.proofs.Bools.{and-yes, and-left, and-right}
 use Rattle.below.proofs.Tests.{any-found, any-at}
 
+-- two hops pass the test of being alike exactly when they are
+pub same-alike : (a b : Hop) → same a b ≡ true → Alike a b
+same-alike a b e = let rest = and-right (eqb (a .from) (b .from)) _ e in
+    record {
+      same-from = eqb-true _ _ (and-left (eqb (a .from) (b .from)) _ e);
+      same-label = eqb-true _ _ (and-left (eqb (a .label) (b .label)) _ rest);
+      same-to = eqb-true _ _ (and-right (eqb (a .label) (b .label)) _ rest);
+    }
+
+pub alike-same : {a b : Hop} → Alike a b → same a b ≡ true
+alike-same q = rw (eq-eqb _ _ (q .same-from), eq-eqb _ _ (q .same-label), eq-eqb _ _ (q .same-to))
+
+-- the hop at a place is h: the two are alike
+module _ (hs : List ℕ) (h : Hop) (i : ℕ) where
+  pub is-alike : is hs (h .from) (h .label) (h .to) i ≡ true → Alike (hopAt hs i) h
+  unfolding is
+  is-alike e = same-alike (hopAt hs i) h e
+
+  pub alike-is : Alike (hopAt hs i) h → is hs (h .from) (h .label) (h .to) i ≡ true
+  unfolding is
+  alike-is q = alike-same q
+
+-- its three numbers are those of h
 module _ (hs : List ℕ) (s a t i : ℕ) where
   pub is-yes : from hs i ≡ s → label hs i ≡ a → to hs i ≡ t → is hs s a t i ≡ true
-  unfolding is
-  is-yes p q r = rw (eq-eqb _ _ p, eq-eqb _ _ q, eq-eqb _ _ r)
+  is-yes p q r = alike-is hs (hopOf s a t) i (record { same-from = p; same-label = q; same-to = r })
 
   pub is-from : is hs s a t i ≡ true → from hs i ≡ s
-  unfolding is
-  is-from e = eqb-true _ _ (and-left (eqb (from hs i) s) _ e)
+  is-from e = is-alike hs (hopOf s a t) i e .same-from
 
   pub is-label : is hs s a t i ≡ true → label hs i ≡ a
-  unfolding is
-  is-label e = eqb-true _ _ (and-left (eqb (label hs i) a) _ (and-right (eqb (from hs i) s) _ e))
+  is-label e = is-alike hs (hopOf s a t) i e .same-label
 
   pub is-to : is hs s a t i ≡ true → to hs i ≡ t
-  unfolding is
-  is-to e = eqb-true _ _ (and-right (eqb (label hs i) a) _ (and-right (eqb (from hs i) s) _ e))
+  is-to e = is-alike hs (hopOf s a t) i e .same-to
 
 -- the hop at a place is one of s labelled a
 module _ (hs : List ℕ) (s a i : ℕ) where
@@ -40,18 +59,6 @@ module _ (hs : List ℕ) (s a i : ℕ) where
   pub labelled-parts : labelled hs s a i ≡ true → (from hs i ≡ s) × (label hs i ≡ a)
   unfolding labelled
   labelled-parts e = (eqb-true _ _ (and-left (eqb (from hs i) s) _ e), eqb-true _ _ (and-right (eqb (from hs i) s) _ e))
-
--- the hop at a place is h: the two are alike
-module _ (hs : List ℕ) (h : Hop) (i : ℕ) where
-  pub is-alike : is hs (h .from) (h .label) (h .to) i ≡ true → Alike (hopAt hs i) h
-  is-alike e = record {
-    same-from = is-from hs (h .from) (h .label) (h .to) i e;
-    same-label = is-label hs (h .from) (h .label) (h .to) i e;
-    same-to = is-to hs (h .from) (h .label) (h .to) i e;
-  }
-
-  pub alike-is : Alike (hopAt hs i) h → is hs (h .from) (h .label) (h .to) i ≡ true
-  alike-is q = is-yes hs (h .from) (h .label) (h .to) i (q .same-from) (q .same-label) (q .same-to)
 
 -- the hop at a place is a hop of the graph
 pub has-at : (hs : List ℕ) {i : ℕ} → i < count hs → has hs (from hs i) (label hs i) (to hs i) ≡ true

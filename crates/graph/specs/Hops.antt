@@ -54,6 +54,10 @@ pub record Alike (a b : Hop) : Type 0 where
   pub same-label : a .label ≡ b .label
   pub same-to : a .to ≡ b .to
 
+-- the test of it
+abbrev pub same : Hop → Hop → Bool
+same a b = eqb (a .from) (b .from) && (eqb (a .label) (b .label) && eqb (a .to) (b .to))
+
 -- the flat list of a list of hops
 unfoldable pub flat : List Hop → List ℕ
 flat [] = []
@@ -74,7 +78,7 @@ over xs hs = flat xs ++ drop (length (flat xs)) hs
 
 -- the hop at place i is s, a, t
 unfoldable pub is : List ℕ → ℕ → ℕ → ℕ → ℕ → Bool
-is hs s a t i = eqb (from hs i) s && (eqb (label hs i) a && eqb (to hs i) t)
+is hs s a t i = same (hopAt hs i) (hopOf s a t)
 
 -- the hop at place i is one of s labelled a; label 0 is silent
 unfoldable pub labelled : List ℕ → ℕ → ℕ → ℕ → Bool

@@ -4,6 +4,7 @@ use super::Label;
 use super::NUMBERS_A_HOP;
 use super::NewState;
 use super::OldState;
+use super::order::is_same;
 ghost use mathlib.Core.Path.{_≡_};
 ghost use Prim.Native.Nat.{_<_, _≤_};
 ghost use denote.Ref.{ptr};
@@ -87,13 +88,12 @@ pub fn hop_at(hops: &[u16], i: usize) -> Hop
     }
 }
 
-// Whether the hop at the place is h, by its three numbers.
+// Whether the hop at the place is h.
 pub fn is_hop_at(hops: &[u16], i: usize, h: Hop) -> bool
     requires { ⌜ i < count (now hops) ⌝ }
     ensures { λ r. ⌜ r ≡ is (now (hops .entry)) (h .from) (h .label) (h .to) i ⌝ }
 {
-    let at = hop_at(hops, i);
-    (at.from == h.from) & ((at.label == h.label) & (at.to == h.to))
+    is_same(hop_at(hops, i), h)
 }
 
 // Writes the hop at the place.

@@ -1,11 +1,37 @@
-// The one comparison of hops: by from, then label, then to.
+// The one comparison of hops: each hop has one sum, and hops are compared by their sums, once. What that means is said by from, label and to
+// (specs/Order, specs/Hops): which hop comes first, and which are alike.
 use super::Hop;
 ghost use mathlib.Core.Path.{_≡_};
+ghost use lib.Dec.{ltb};
+ghost use Rattle.graph.specs.Hops.{same};
 ghost use Rattle.graph.specs.Order.{before};
+ghost use Rattle.graph.specs.Sum.{sumOf, Narrow};
 
+// A hop's sum. That it tells the order rests on the width of a hop's numbers, so that is said too.
+pub fn sum_of(h: Hop) -> u64
+    ensures sum { λ r. ⌜ r ≡ sumOf h ⌝ }
+    ensures narrow { λ _. ⌜ Narrow h ⌝ }
+{
+    ((h.from as u64) * 65536 + h.label as u64) * 65536 + h.to as u64
+}
+
+// Whether one sum is below another. Whoever keeps a hop's sum asks here, and all others by hops.
+pub fn is_below(sum: u64, other: u64) -> bool
+    ensures { λ r. ⌜ r ≡ ltb sum other ⌝ }
+{
+    sum < other
+}
+
+// Whether hop a comes before hop b.
 pub fn is_before(a: Hop, b: Hop) -> bool
     ensures { λ r. ⌜ r ≡ before a b ⌝ }
 {
-    (a.from < b.from)
-        | ((a.from == b.from) & ((a.label < b.label) | ((a.label == b.label) & (a.to < b.to))))
+    is_below(sum_of(a), sum_of(b))
+}
+
+// Whether hops a and b are alike.
+pub fn is_same(a: Hop, b: Hop) -> bool
+    ensures { λ r. ⌜ r ≡ same a b ⌝ }
+{
+    sum_of(a) == sum_of(b)
 }

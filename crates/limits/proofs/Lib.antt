@@ -1,1 +1,2 @@
 pub mod Checked  -- accepted exactly when admitted, and which row speaks where
+pub mod Rising  -- row 4 by sums

@@ -11,11 +11,12 @@ use graph::answers::refuse;
 use graph::hops::hop_at;
 use graph::hops::hop_count;
 use graph::hops::is_whole;
-use graph::order::is_before;
+use graph::order::is_below;
+use graph::order::sum_of;
 ghost use mathlib.Core.Path.{_≡_};
 ghost use Prim.Native.Nat.{_<_};
 ghost use Rattle.graph.specs.Hops.{count};
-ghost use Rattle.limits.specs.Check.{countsFit, inside, firstOutside, rises, firstFalling, checkOf};
+ghost use Rattle.limits.specs.Check.{countsFit, inside, firstOutside, firstFalling, checkOf};
 
 // Row 1.
 fn counts_fit(shape: Shape, hops: &[u16]) -> bool
@@ -57,27 +58,22 @@ fn first_outside(shape: Shape, hops: &[u16]) -> usize
     n
 }
 
-// Row 4 of one hop.
-fn is_rising(hops: &[u16], i: usize) -> bool
-    requires { ⌜ i < count (now hops) ⌝ }
-    ensures { λ r. ⌜ r ≡ rises (now (hops .entry)) i ⌝ }
-{
-    if i == 0 {
-        return true;
-    }
-    is_before(hop_at(hops, i - 1), hop_at(hops, i))
-}
-
-// Row 4: the first hop not above the one before, or the number of hops.
+// Row 4: the first hop not above the one before, or the number of hops. The sum of each hop is made once, and kept for the next.
 fn first_falling(hops: &[u16]) -> usize
     ensures { λ r. ⌜ r ≡ firstFalling (now (hops .entry)) ⌝ }
 {
     let n = hop_count(hops);
-    let mut i = 0;
+    if n == 0 {
+        return 0;
+    }
+    let mut last = sum_of(hop_at(hops, 0));
+    let mut i = 1;
     while i < n {
-        if !is_rising(hops, i) {
+        let sum = sum_of(hop_at(hops, i));
+        if !is_below(last, sum) {
             return i;
         }
+        last = sum;
         i += 1;
     }
     n
