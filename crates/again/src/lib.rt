@@ -1,69 +1,45 @@
 // Whether a silent hop that closed before still closes with the set that a list of marks is: the test of a later round of marking. Of the hops from its start
 // only those to shed states, which lost a silent hop in the round before, are tried again; the others are answered as they were.
 // It stands on `confluence` (what closing is, and the set that marks are), `graph` (hops and their order), `starts` (where a state's hops begin, and the
-// search among them), `merging` (the hops of a state from a label on) and `closes` (one trial).
+// search among them), `merging` (the hops of a state from a label on), `answering` (whether a state has a hop) and `closes` (one trial).
+use answering::leads_to;
 use closes::is_answered;
-use graph::Found;
-use graph::Hop;
 use graph::MOST_STATES;
 use graph::OldState;
 use graph::hops::from_at;
-use graph::hops::hop_of;
 use graph::hops::label_at;
 use graph::hops::to_at;
 use merging::Rest;
 use starts::STARTS;
-use starts::find_row;
 use starts::labelled_from;
 use starts::start_of;
 use starts::wide;
 ghost use mathlib.Core.Path.{_≡_};
 ghost use Prim.Native.Nat.{_<_, _≤_};
 ghost use lib.ListN.{length};
-ghost use mathlib.Core.Bool.{true, false};
-ghost use Rattle.graph.specs.Hops.{count, to};
+ghost use mathlib.Core.Bool.{true};
+ghost use Rattle.graph.specs.Hops.{count};
 ghost use Rattle.graph.specs.Answers.{most-states};
 ghost use Rattle.confluence.specs.Rounds.{answered, closesAt};
-ghost use Rattle.confluence.specs.Held.{heldBy, isMarked};
+ghost use Rattle.confluence.specs.Held.{heldBy};
 ghost use Rattle.starts.specs.Starts.{Table, Ready};
 ghost use Rattle.again.specs.Again.{Unshed};
 
-// Where h stands or would stand. Whether it does is then asked of the list, so that no answer rests on this place.
-fn place_of(hops: &[u16], starts: &[u16; STARTS], h: Hop) -> usize
-    requires ready { ⌜ Ready (now hops) ⌝ }
-    requires table { ⌜ Table (now hops) (now starts) ⌝ }
-    requires state { ⌜ h .from < most-states ⌝ }
-{
-    match find_row(hops, starts, h) {
-        Found::At(p) => p,
-        Found::Gap(p) => p,
-    }
-}
-
-// Y of the hop at place j against a silent hop to s2: where its end is not shed it is answered, and nothing is asked; else it is tried. The walk that
-// `closes` goes side by side would pass over most of s2's hops here, so the two places of a trial are found by halving.
-fn passes(
-    hops: &[u16],
-    starts: &[u16; STARTS],
-    marks: &[u8],
-    shed: &[u8; MOST_STATES],
-    s2: OldState,
-    j: usize,
-) -> bool
+// Y of the hop at place j against a silent hop to s2. The walk that `closes` goes side by side would pass over most of s2's hops here, so the like hop and
+// the place of the label are found by halving.
+fn passes(hops: &[u16], starts: &[u16; STARTS], marks: &[u8], s2: OldState, j: usize) -> bool
     requires ready { ⌜ Ready (now hops) ⌝ }
     requires table { ⌜ Table (now hops) (now starts) ⌝ }
     requires room { ⌜ count (now hops) ≤ length (now marks) ⌝ }
     requires place { ⌜ j < count (now hops) ⌝ }
     requires asked { ⌜ s2 .0 < most-states ⌝ }
-    requires other { ⌜ (isMarked (now shed) (to (now hops) j) ≡ false → answered (now hops) (heldBy (now hops) (now marks)) (s2 .0) j ≡ true) ⌝ }
     ensures { λ r. ⌜ r ≡ answered (now (hops .entry)) (heldBy (now (hops .entry)) (now (marks .entry))) (s2 .0) j ⌝ }
 {
     let s3 = to_at(hops, j);
-    if shed[wide(s3.0)] != 1 {
+    let a = label_at(hops, j);
+    if leads_to(hops, starts, s2, a, s3) {
         return true;
     }
-    let a = label_at(hops, j);
-    let same = place_of(hops, starts, hop_of(s2.0, a.0, s3.0));
     let at = labelled_from(hops, starts, s2.0, a);
     let past = start_of(starts, wide(s2.0) + 1);
     is_answered(
@@ -75,7 +51,6 @@ fn passes(
             at,
             past,
         },
-        same,
         j,
     )
 }
@@ -101,8 +76,10 @@ pub fn closes_again(
     let end = start_of(starts, s1 + 1);
     let mut j = start_of(starts, s1);
     while j < end {
-        if !passes(hops, starts, marks, shed, s2, j) {
-            return false;
+        if shed[wide(to_at(hops, j).0)] == 1 {
+            if !passes(hops, starts, marks, s2, j) {
+                return false;
+            }
         }
         j += 1;
     }

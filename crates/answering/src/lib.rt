@@ -91,7 +91,7 @@ fn few_answer(
 }
 
 // Whether s2 has a hop labelled a to s4.
-fn leads_to(hops: &[u16], starts: &[u16; STARTS], s2: OldState, a: Label, s4: OldState) -> bool
+pub fn leads_to(hops: &[u16], starts: &[u16; STARTS], s2: OldState, a: Label, s4: OldState) -> bool
     requires ready { ⌜ Ready (now hops) ⌝ }
     requires table { ⌜ Table (now hops) (now starts) ⌝ }
     requires state { ⌜ s2 .0 < most-states ⌝ }

@@ -155,6 +155,7 @@ module _ (hs : List ℕ) (u : Pairs) (s2 j : ℕ) {a s3 : ℕ} (p : a ≡ label 
   pub answered-else : v ≡ hopAnswers hs (closing u) s2 a s3 → (a ≡ 0 → closing u s3 s2 ≡ false) → v ≡ answered hs u s2 j
   answered-else e f = e ∙ answers-else hs u s2 a s3 f ∙ answered-at hs u s2 j p q
 
-  -- s2 has the like hop, h: s4 is s3
-  pub answered-alike : {h : Hop} → h ≡ hopOf s2 a s3 → (v ≡ true → has hs (h .from) (h .label) (h .to) ≡ true) → v ≡ true → true ≡ answered hs u s2 j
-  answered-alike e f d = sym (answers-yes hs u s2 a s3 (s3, inl (rw e at (f d)), inl refl)) ∙ answered-at hs u s2 j p q
+-- s2 has the like hop: s4 is s3
+pub answered-alike : (hs : List ℕ) (u : Pairs) (s2 j : ℕ) {like : Bool} → (like ≡ true → has hs s2 (label hs j) (to hs j) ≡ true) → like ≡ true →
+    true ≡ answered hs u s2 j
+answered-alike hs u s2 j f d = sym (answers-yes hs u s2 (label hs j) (to hs j) (to hs j, inl (f d), inl refl)) ∙ answered-at hs u s2 j refl refl

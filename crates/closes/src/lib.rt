@@ -14,7 +14,8 @@ use graph::hops::hop_of;
 use graph::hops::is_hop_at;
 use graph::hops::label_at;
 use graph::hops::to_at;
-use graph::order::is_before;
+use graph::order::is_below;
+use graph::order::sum_of;
 use merging::Rest;
 use starts::STARTS;
 use starts::start_of;
@@ -23,7 +24,7 @@ ghost use mathlib.Core.Path.{_≡_};
 ghost use Prim.Native.Nat.{_<_, _≤_};
 ghost use lib.ListN.{length};
 ghost use mathlib.Core.Bool.{true};
-ghost use Rattle.graph.specs.Hops.{count, label, has};
+ghost use Rattle.graph.specs.Hops.{count, label, to, hopOf, has};
 ghost use Rattle.graph.specs.Answers.{most-states};
 ghost use Rattle.confluence.specs.Rounds.{answered, closesAt};
 ghost use Rattle.confluence.specs.Held.{heldBy};
@@ -52,9 +53,10 @@ fn skip(hops: &[u16], at: usize, past: usize, a: Label) -> usize
 fn ahead(hops: &[u16], h: Hop, at: usize, past: usize) -> usize
     requires { ⌜ past ≤ count (now hops) ⌝ }
 {
+    let sought = sum_of(h);
     let mut k = at;
     while k < past {
-        if !is_before(hop_at(hops, k), h) {
+        if !is_below(sum_of(hop_at(hops, k)), sought) {
             return k;
         }
         k += 1;
@@ -73,16 +75,8 @@ fn stands_at(hops: &[u16], h: Hop, k: usize, past: usize) -> bool
     false
 }
 
-// Y: whether the hop at place j is answered from the state of `rest`, whose hops of its label or above begin there. `same` is where a hop of that state
-// with the label and the end of j would stand: if it does, s4 is s3 itself, and no more is asked.
-pub fn is_answered(
-    hops: &[u16],
-    starts: &[u16; STARTS],
-    marks: &[u8],
-    rest: Rest,
-    same: usize,
-    j: usize,
-) -> bool
+// Y: whether the hop at place j is answered from the state of `rest`, whose hops of its label or above begin there.
+pub fn is_answered(hops: &[u16], starts: &[u16; STARTS], marks: &[u8], rest: Rest, j: usize) -> bool
     requires ready { ⌜ Ready (now hops) ⌝ }
     requires table { ⌜ Table (now hops) (now starts) ⌝ }
     requires room { ⌜ count (now hops) ≤ length (now marks) ⌝ }
@@ -94,16 +88,43 @@ pub fn is_answered(
     let a = label_at(hops, j);
     let s3 = to_at(hops, j);
     let s2 = rest.state;
-    let past = rest.past;
-    if stands_at(hops, hop_of(s2.0, a.0, s3.0), same, past) {
-        return true;
-    }
     if a.0 == 0 {
         if is_closed(hops, starts, marks, s3, s2) {
             return true;
         }
     }
     hop_answers(hops, starts, marks, rest, a, s3)
+}
+
+// The same, where `like` is the hop of that state with the label and the end of j, and `same` where it would stand. A silent hop to that state itself, as the
+// hop under test is, is answered by it; and if the like hop stands there, s4 is s3 itself. No more is asked then.
+fn is_met(
+    hops: &[u16],
+    starts: &[u16; STARTS],
+    marks: &[u8],
+    rest: Rest,
+    like: Hop,
+    same: usize,
+    j: usize,
+) -> bool
+    requires ready { ⌜ Ready (now hops) ⌝ }
+    requires table { ⌜ Table (now hops) (now starts) ⌝ }
+    requires room { ⌜ count (now hops) ≤ length (now marks) ⌝ }
+    requires place { ⌜ j < count (now hops) ⌝ }
+    requires row { ⌜ Row (now hops) (rest .state .0) (label (now hops) j) (rest .at) (rest .past) ⌝ }
+    requires asked { ⌜ rest .state .0 < most-states ⌝ }
+    requires like { ⌜ like ≡ hopOf (rest .state .0) (label (now hops) j) (to (now hops) j) ⌝ }
+    ensures { λ r. ⌜ r ≡ answered (now (hops .entry)) (heldBy (now (hops .entry)) (now (marks .entry))) (rest .state .0) j ⌝ }
+{
+    if label_at(hops, j).0 == 0 {
+        if to_at(hops, j).0 == rest.state.0 {
+            return true;
+        }
+    }
+    if stands_at(hops, like, same, rest.past) {
+        return true;
+    }
+    is_answered(hops, starts, marks, rest, j)
 }
 
 // X of a silent hop, the one at place i: whether each hop from its start is answered from its end.
@@ -125,8 +146,9 @@ pub fn closes_at(hops: &[u16], starts: &[u16; STARTS], marks: &[u8], i: usize) -
     while j < end {
         let a = label_at(hops, j);
         at = skip(hops, at, past, a);
-        same = ahead(hops, hop_of(s2.0, a.0, to_at(hops, j).0), same, past);
-        if !is_answered(
+        let like = hop_of(s2.0, a.0, to_at(hops, j).0);
+        same = ahead(hops, like, same, past);
+        if !is_met(
             hops,
             starts,
             marks,
@@ -135,6 +157,7 @@ pub fn closes_at(hops: &[u16], starts: &[u16; STARTS], marks: &[u8], i: usize) -
                 at,
                 past,
             },
+            like,
             same,
             j,
         ) {

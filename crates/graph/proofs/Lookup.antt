@@ -12,13 +12,15 @@ use lib.Dec.{ltb}
 use Rattle.below.specs.Tests.{any, all, least}
 use Rattle.graph.specs.Hops.{count, from, hopOf, hopAt, Alike, is, has}
 use Rattle.graph.specs.Order.{before, Ascending}
-use Rattle.graph.specs.Search.{lower, Bracket, found, placed, isAt, firstOf, pastOf}
+use Rattle.graph.specs.Sum.{sumOf, Narrow}
+use Rattle.graph.specs.Search.{lower, Bracket, Ended, found, placed, isAt, firstOf, pastOf}
 use Rattle.graph.specs.declared.Hop.{Hop}
 use Rattle.graph.specs.declared.Found.{Found}
 use Rattle.graph.specs.declared.Found.the-variants.{At, Gap}
 use Rattle.below.proofs.Bools.{clash, decided, not-yes, not-no, no-test, and-left, and-right, and-no-right, same-test, lt-or-le}
 use Rattle.below.proofs.Tests.{least-is, least-passes, least-before, least-within, any-found, any-no, all-yes}
 use Rattle.graph.proofs.Places.{is-alike, alike-is, has-place}
+use Rattle.graph.proofs.Sums.{sum-alike}
 use Rattle.graph.proofs.Ordered.{Below, before-below, below-before, before-trans, before-total, before-alike, alike-itself, alike-back, alike-then, alike-not-before, ascending-lt, ascending-place}
 
 module _ (hs : List ℕ) (h : Hop) where
@@ -34,6 +36,21 @@ module _ (hs : List ℕ) (h : Hop) where
     below = λ j l. absurd (omega arith);
     above = λ j l k. absurd (omega arith);
   }
+
+  -- what brackets a hop brackets the hops of its sum
+  pub sum-bracket : {lo hi n : ℕ} → Bracket hs h lo hi → (n ≡ sumOf h) × Narrow h → (g : Hop) → (n ≡ sumOf g) × Narrow g → Bracket hs g lo hi
+  sum-bracket {lo} {hi} b (p, v) g (q, w) = record {
+    lo-le = b .lo-le;
+    hi-le = b .hi-le;
+    below = λ j l. like j ∙ b .below j l;
+    above = λ j l k. like j ∙ b .above j l k;
+  } where
+    like : (j : ℕ) → before (hopAt hs j) g ≡ before (hopAt hs j) h
+    like j = before-alike (alike-itself (hopAt hs j)) (sum-alike g h w v (sym q ∙ p))
+
+  pub whole-ended : {past : ℕ} → past ≡ count hs → Ended hs h past
+  unfolding Ended
+  whole-ended e j l k = absurd (omega arith)
 
   pub lower-met : {lo hi : ℕ} → Bracket hs h lo hi → hi ≤ lo → lower hs h ≡ lo
   unfolding lower
@@ -103,9 +120,9 @@ module _ (hs : List ℕ) (h : Hop) where
     unfolding placed
     find-other f = rw (← e, and-no-right (ltb r (count hs)) f)
 
-    pub find-end : count hs ≤ r → Gap r ≡ placed hs h
-    unfolding placed
-    find-end l = rw (← e, le-ltb _ _ l)
+    pub find-end : {past : ℕ} → past ≤ r → Ended hs h past → Gap r ≡ placed hs h
+    unfolding placed Ended
+    find-end l f = ⊎-elim (λ m. find-other (f r l m)) (λ m. rw (← e, le-ltb _ _ m)) (lt-or-le r (count hs))
 
   -- what the search answers holds
   pub at-place : {p : ℕ} → placed hs h ≡ At p → (p < count hs) × (is hs (h .from) (h .label) (h .to) p ≡ true)

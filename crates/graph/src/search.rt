@@ -6,12 +6,13 @@ use super::hops::hop_at;
 use super::hops::hop_count;
 use super::hops::hop_of;
 use super::hops::is_hop_at;
-use super::order::is_before;
+use super::order::is_below;
+use super::order::sum_of;
 ghost use mathlib.Core.Path.{_≡_};
 ghost use Prim.Native.Nat.{_<_};
 ghost use Rattle.graph.specs.Hops.{count, has};
 ghost use Rattle.graph.specs.Order.{Ascending};
-ghost use Rattle.graph.specs.Search.{lower, Bracket, placed, firstOf, pastOf};
+ghost use Rattle.graph.specs.Search.{lower, Bracket, Ended, placed, firstOf, pastOf};
 
 // The first place whose hop is not before h, searched for by halving between two places that bracket it.
 pub fn lower_between(hops: &[u16], h: Hop, first: usize, past: usize) -> usize
@@ -19,11 +20,12 @@ pub fn lower_between(hops: &[u16], h: Hop, first: usize, past: usize) -> usize
     requires bracket { ⌜ Bracket (now hops) h first past ⌝ }
     ensures { λ r. ⌜ r ≡ lower (now (hops .entry)) h ⌝ }
 {
+    let sought = sum_of(h);
     let mut lo = first;
     let mut hi = past;
     while lo < hi {
         let mid = lo + (hi - lo) / 2;
-        if is_before(hop_at(hops, mid), h) {
+        if is_below(sum_of(hop_at(hops, mid)), sought) {
             lo = mid + 1;
         } else {
             hi = mid;
@@ -40,14 +42,15 @@ pub fn lower_place(hops: &[u16], h: Hop) -> usize
     lower_between(hops, h, 0, hop_count(hops))
 }
 
-// Where the hop stands or would stand, searched for between two places that bracket it.
+// Where the hop stands or would stand, searched for between two places that bracket it, if it does not stand behind them.
 pub fn find_between(hops: &[u16], h: Hop, first: usize, past: usize) -> Found
     requires ascending { ⌜ Ascending (now hops) ⌝ }
     requires bracket { ⌜ Bracket (now hops) h first past ⌝ }
+    requires ended { ⌜ Ended (now hops) h past ⌝ }
     ensures { λ r. ⌜ r ≡ placed (now (hops .entry)) h ⌝ }
 {
     let at = lower_between(hops, h, first, past);
-    if at < hop_count(hops) {
+    if at < past {
         if is_hop_at(hops, at, h) {
             return Found::At(at);
         }

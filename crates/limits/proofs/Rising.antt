@@ -13,39 +13,36 @@ use Rattle.graph.specs.Sum.{sumOf, Narrow}
 use Rattle.graph.specs.declared.Hop.{Hop}
 use Rattle.limits.specs.Check.{rises, firstFalling}
 use Rattle.below.proofs.Tests.{least-none, least-more, least-found, least-done}
-use Rattle.graph.proofs.Sums.{sum-before}
+use Rattle.graph.proofs.Sums.{sums-before}
 
 module _ (hs : List ℕ) where
   -- a number is the sum of the hop at a place
-  pub record Sum (i sum : ℕ) : Type 0 where
-    pub sum-is : sum ≡ sumOf (hopAt hs i)
-    pub narrow : Narrow (hopAt hs i)
+  pub record SumAt (i sum : ℕ) : Type 0 where
+    pub made : (sum ≡ sumOf (hopAt hs i)) × Narrow (hopAt hs i)
 
-  pub sum-at : (i : ℕ) {h : Hop} {sum : ℕ} → h ≡ hopAt hs i → (sum ≡ sumOf h) × Narrow h → Sum i sum
-  sum-at i e (q, n) = record { sum-is = q ∙ ap sumOf e; narrow = subst Narrow e n }
+  pub sum-at : (i : ℕ) {h : Hop} {sum : ℕ} → h ≡ hopAt hs i → (sum ≡ sumOf h) × Narrow h → SumAt i sum
+  sum-at i e q = record { made = rw e at q }
 
   -- the hops before place i rise, and `last` is the sum of the last of them
   pub record Risen (i last : ℕ) : Type 0 where
     pub some : 1 ≤ i
-    pub kept : Sum (i - 1) last
+    pub kept : SumAt (i - 1) last
     pub none-falls : least i (λ (j : ℕ). not (rises hs j)) ≡ i
 
-  pub begins : {last : ℕ} → Sum 0 last → Risen 1 last
+  pub begins : {last : ℕ} → SumAt 0 last → Risen 1 last
   unfolding rises
   begins s = record { some = omega arith; kept = s; none-falls = least-more _ 0 (least-none _) refl }
 
-  module _ (i : ℕ) {last sum : ℕ} {up : Bool} (r : Risen i last) (s : Sum i sum) (q : up ≡ ltb last sum) where
+  module _ (i : ℕ) {last sum : ℕ} {up : Bool} (r : Risen i last) (s : SumAt i sum) (q : up ≡ ltb last sum) where
     -- the hop at place i is above the one before exactly when its sum is above the one kept
     rises-by : up ≡ rises hs i
     unfolding rises
-    rises-by =
-        let some = r .some in
-        rw (q, r .kept .sum-is, s .sum-is, ne-eqb i 0 (λ z. omega arith)) (sum-before (hopAt hs (i - 1)) (hopAt hs i) (r .kept .narrow) (s .narrow))
+    rises-by = let some = r .some in rw (ne-eqb i 0 (λ z. omega arith)) (sums-before q (r .kept .made) (s .made))
 
     pub goes-on : not up ≡ false → Risen (i + 1) sum
     goes-on e = record {
       some = omega arith;
-      kept = let q : i ≡ i + 1 - 1 = omega arith in subst (λ (j : ℕ). Sum j sum) q s;
+      kept = let q : i ≡ i + 1 - 1 = omega arith in subst (λ (j : ℕ). SumAt j sum) q s;
       none-falls = least-more _ i (r .none-falls) (ap not (sym rises-by) ∙ e);
     }
 

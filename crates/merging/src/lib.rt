@@ -6,12 +6,12 @@ use graph::Hop;
 use graph::Label;
 use graph::OldState;
 use graph::hops::hop_at;
-use graph::hops::hop_count;
 use graph::hops::hop_of;
 use graph::hops::is_hop_at;
 use graph::hops::label_at;
 use graph::hops::to_at;
-use graph::order::is_before;
+use graph::order::is_below;
+use graph::order::sum_of;
 use starts::STARTS;
 use starts::start_of;
 use starts::wide;
@@ -20,7 +20,7 @@ ghost use Prim.Native.Nat.{_<_, _≤_};
 ghost use lib.ListN.{length};
 ghost use Rattle.graph.specs.Hops.{count};
 ghost use Rattle.graph.specs.Order.{Ascending};
-ghost use Rattle.graph.specs.Search.{lower, Bracket};
+ghost use Rattle.graph.specs.Search.{lower, Bracket, Ended};
 ghost use Rattle.graph.specs.Answers.{most-states};
 ghost use Rattle.confluence.specs.Rounds.{closing, hopAnswers};
 ghost use Rattle.confluence.specs.Held.{heldBy};
@@ -67,9 +67,10 @@ fn ahead(hops: &[u16], h: Hop, first: usize, past: usize) -> usize
     requires bracket { ⌜ Bracket (now hops) h first past ⌝ }
     ensures { λ r. ⌜ r ≡ lower (now (hops .entry)) h ⌝ }
 {
+    let sought = sum_of(h);
     let mut m = first;
     while m < past {
-        if !is_before(hop_at(hops, m), h) {
+        if !is_below(sum_of(hop_at(hops, m)), sought) {
             return m;
         }
         m += 1;
@@ -77,15 +78,17 @@ fn ahead(hops: &[u16], h: Hop, first: usize, past: usize) -> usize
     m
 }
 
-// Whether the silent hop h is marked, `m` being the place where it would stand.
-fn is_held(hops: &[u16], marks: &[u8], h: Hop, m: usize) -> bool
+// Whether the silent hop h is marked, `m` being the place where it would stand and `end` one from which on it does not.
+fn is_held(hops: &[u16], marks: &[u8], h: Hop, m: usize, end: usize) -> bool
     requires ascending { ⌜ Ascending (now hops) ⌝ }
     requires room { ⌜ count (now hops) ≤ length (now marks) ⌝ }
     requires silent { ⌜ h .label ≡ 0 ⌝ }
     requires place { ⌜ m ≡ lower (now hops) h ⌝ }
+    requires within { ⌜ end ≤ count (now hops) ⌝ }
+    requires ended { ⌜ Ended (now hops) h end ⌝ }
     ensures { λ r. ⌜ r ≡ heldBy (now (hops .entry)) (now (marks .entry)) (h .from) (h .to) ⌝ }
 {
-    if m < hop_count(hops) {
+    if m < end {
         if is_hop_at(hops, m, h) {
             return marks[m] == 1;
         }
@@ -124,7 +127,7 @@ pub fn row_answers(
         }
         let h = hop_of(s3.0, 0, s4.0);
         m = ahead(hops, h, m, end);
-        if is_held(hops, marks, h, m) {
+        if is_held(hops, marks, h, m, end) {
             return true;
         }
         k += 1;

@@ -91,13 +91,16 @@ pub fn find_row(hops: &[u16], starts: &[u16; STARTS], h: Hop) -> Found
     find_between(hops, h, start_of(starts, s), start_of(starts, s + 1))
 }
 
-// The first place of the hops of s labelled a, and the one past the last.
+// The first place of the hops of s labelled a, and the one past the last. The silent ones are its first.
 pub fn labelled_from(hops: &[u16], starts: &[u16; STARTS], s: u16, a: Label) -> usize
     requires ready { ⌜ Ready (now hops) ⌝ }
     requires table { ⌜ Table (now hops) (now starts) ⌝ }
     requires state { ⌜ s < most-states ⌝ }
     ensures { λ r. ⌜ r ≡ labelledFrom (now (hops .entry)) s (a .0) ⌝ }
 {
+    if a.0 == 0 {
+        return start_of(starts, wide(s));
+    }
     lower_row(hops, starts, hop_of(s, a.0, 0))
 }
 

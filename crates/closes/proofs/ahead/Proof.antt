@@ -6,10 +6,13 @@ use Rattle.closes.proofs.ahead.Statement.{statement}
 use Rattle.closes.proofs.ahead.Tie as tie
 
 abbrev Inv-loop : tie.InvT-loop
-Inv-loop hops h at past k₀ k = k₀ ≤ k
+Inv-loop hops at past sought k₀ k = k₀ ≤ k
 
 abbrev μ-loop : tie.MeasureT-loop
-μ-loop hops h at past k₀ k = past - k
+μ-loop hops at past sought k₀ k = past - k
+
+sum-of-requires : tie.Need-sum-of-requires Inv-loop μ-loop
+sum-of-requires c κs = search needs
 
 loop-holds : tie.Need-loop-holds Inv-loop μ-loop
 loop-holds c = omega arith
@@ -17,8 +20,11 @@ loop-holds c = omega arith
 hop-at-requires : tie.Need-hop-at-requires Inv-loop μ-loop
 hop-at-requires c κs = omega arith
 
-is-before-requires : tie.Need-is-before-requires Inv-loop μ-loop
-is-before-requires c κs = search needs
+sum-of-requires-2 : tie.Need-sum-of-requires-2 Inv-loop μ-loop
+sum-of-requires-2 c κs = search needs
+
+is-below-requires : tie.Need-is-below-requires Inv-loop μ-loop
+is-below-requires c κs = search needs
 
 returns : tie.Need-returns Inv-loop μ-loop
 returns c = search needs
@@ -41,9 +47,11 @@ ahead-spec =
     (tie.spec
     Inv-loop
     μ-loop
+    sum-of-requires
     loop-holds
     hop-at-requires
-    is-before-requires
+    sum-of-requires-2
+    is-below-requires
     returns
     add-k
     loop-less

@@ -99,8 +99,8 @@ skipped : (c : tie.After-skip Inv-loop μ-loop) →
     (label (c .before .before .before .before .before .before .before .before .before .before .before .before .before .before .args .hops .now) (c .before .before .before .loop .j)) (c .skip .result)
 skipped c = rw (c .before .label-at .ensures) at (c .skip .ensures)
 
-is-answered-requires : tie.Need-is-answered-requires Inv-loop μ-loop
-is-answered-requires c κs =
+is-met-requires : tie.Need-is-met-requires Inv-loop μ-loop
+is-met-requires c κs =
     let st = c .before .before .before .before .before .before .before .before .before .before .before .before .before .before .before .before .before in
     let w = c .before .before .before .before .before .before .loop .inv .0 in
     let l = c .before .before .before .before .before .loop-test .taken in
@@ -109,14 +109,14 @@ is-answered-requires c κs =
       st .pre .0,
       (
         st .pre .1 .0,
-        (st .pre .1 .1 .0, (own-in _ (st .pre .0 .ascending) _ _ (w .own) l, (rw t row, rw t (st .pre .0 .to-in (st .args .i) (st .pre .1 .1 .1))))),
+        (st .pre .1 .1 .0, (own-in _ (st .pre .0 .ascending) _ _ (w .own) l, (rw t row, (rw t (st .pre .0 .to-in (st .args .i) (st .pre .1 .1 .1)), rw (c .before .hop-of .ensures, c .before .before .before .before .label-at .ensures, c .before .before .to-at2 .ensures))))),
       ),
     )
 
 returns : tie.Need-returns Inv-loop μ-loop
 returns c =
     tried-fails _ (c .before .before .before .before .before .before .before .before .before .before .before .before .before .before .before .before .before .before .before .pre .0 .ascending) _ _ (c .before .before .before .before .before .before .before .before .loop .inv .0 .own) (c .before .before .before .before .before .before .before .loop-test .taken) _ _
-    (c .before .before .before .before .before .before .before .before .before .before .before .before .before .before .to-at .ensures) (c .before .is-answered .ensures) (c .if1 .taken)
+    (c .before .before .before .before .before .before .before .before .before .before .before .before .before .before .to-at .ensures) (c .before .is-met .ensures) (c .if1 .taken)
 
 add-j : tie.Need-add-j Inv-loop μ-loop
 add-j c =
@@ -135,7 +135,7 @@ loop-again c =
     let (w, f) = c .before .before .before .before .before .before .before .before .loop .inv in
     let l = c .before .before .before .before .before .before .before .loop-test .taken in (
       walk-next _ up _ _ _ _ w l (skipped (c .before .before .before .before .before)),
-      tried-next _ up _ _ (w .own) l _ _ (c .before .before .before .before .before .before .before .before .before .before .before .before .before .before .to-at .ensures) (c .before .is-answered .ensures) (c .if1 .left) f,
+      tried-next _ up _ _ (w .own) l _ _ (c .before .before .before .before .before .before .before .before .before .before .before .before .before .before .to-at .ensures) (c .before .is-met .ensures) (c .if1 .left) f,
     )
 
 returns-2 : tie.Need-returns-2 Inv-loop μ-loop
@@ -165,7 +165,7 @@ closes-at-spec =
     to-at-requires-2
     hop-of-requires
     ahead-requires
-    is-answered-requires
+    is-met-requires
     returns
     add-j
     loop-less

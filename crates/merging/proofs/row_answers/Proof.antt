@@ -4,10 +4,11 @@ use mathlib.Core.Path.{_≡_, refl, sym, ap, _∙_}
 use mathlib.Core.Bool.{false}
 use native.Mathlib.Omega.{arith}
 use borrow.Author.Needs.{needs}
-use Rattle.graph.specs.Hops.{to}
+use Rattle.graph.specs.Hops.{to, hopOf}
 use Rattle.confluence.specs.Rounds.{closing}
 use Rattle.confluence.specs.Held.{heldBy}
 use Rattle.starts.proofs.Firsts.{start-is, range-more}
+use Rattle.starts.proofs.Rows.{row-ended}
 use Rattle.confluence.proofs.Closing.{closing-is, closing-same}
 use Rattle.merging.proofs.Rows.{row-answers, row-ends}
 use Rattle.merging.proofs.Along.{Along, along-start, along-next, held-closes}
@@ -73,7 +74,12 @@ ahead-requires c κs =
 is-held-requires : tie.Need-is-held-requires Inv-loop μ-loop
 is-held-requires c κs =
     let st = c .before .before .before .before .before .before .before .before .before .before .before .before .before .before .before .before .before in
-    (st .pre .0 .ascending, (st .pre .1 .1 .0, (rw (c .before .hop-of .ensures), c .ahead .ensures)))
+    let lp = c .before .before .before .before .before .before .before .before .before .before .before .loop in
+    let q = c .before .hop-of .ensures in
+    let end = start-is (st .args .hops .now) (st .args .starts .now) (st .pre .1 .0) _ (ap (λ (x : ℕ). x + 1) (c .before .before .before .before .before .before .before .before .before .before .before .before .before .before .wide .ensures)) (omega arith) (c .before .before .before .before .before .before .before .before .before .before .before .before .before .start-of .ensures) in
+    let within = lp .inv .2 (lp .k) (omega arith) (omega arith) (omega arith) .hi-le in
+    let ended = row-ended (st .args .hops .now) (st .pre .0 .ascending) (hopOf _ 0 _) end in
+    (st .pre .0 .ascending, (st .pre .1 .1 .0, (rw q, (c .ahead .ensures, (within, rw q ended)))))
 
 returns-3 : tie.Need-returns-3 Inv-loop μ-loop
 returns-3 c =

@@ -1,6 +1,6 @@
--- `starts::find_row` meets its contract: the places of a state's hops bracket the search. Assumes nothing.
+-- `starts::find_row` meets its contract: the places of a state's hops bracket the search, and none of them stands behind. Assumes nothing.
 use borrow.Author.Needs.{needs}
-use Rattle.starts.proofs.Rows.{table-bracket}
+use Rattle.starts.proofs.Rows.{table-bracket, table-ended}
 use Rattle.starts.proofs.find_row.Statement.{statement}
 use Rattle.starts.proofs.find_row.Tie as tie
 
@@ -19,7 +19,13 @@ start-of-requires-2 c κs = search needs
 find-between-requires : tie.Need-find-between-requires
 find-between-requires c κs =
     let st = c .before .before .before .before in
-    (st .pre .0 .ascending, table-bracket _ _ (st .pre .0 .ascending) (st .pre .1 .0) _ (c .before .before .wide .ensures) (st .pre .1 .1) (c .before .start-of .ensures) (c .start-of2 .ensures))
+    let s = c .before .before .wide .ensures in (
+      st .pre .0 .ascending,
+      (
+        table-bracket _ _ (st .pre .0 .ascending) (st .pre .1 .0) _ s (st .pre .1 .1) (c .before .start-of .ensures) (c .start-of2 .ensures),
+        table-ended _ _ (st .pre .0 .ascending) (st .pre .1 .0) _ s (st .pre .1 .1) (c .start-of2 .ensures),
+      ),
+    )
 
 returns : tie.Need-returns
 returns c = search needs

@@ -1,6 +1,6 @@
 -- `graph::order::is_before` meets its contract: one sum is below another exactly when its hop comes first. Assumes nothing.
 use borrow.Author.Needs.{needs}
-use Rattle.graph.proofs.Sums.{sum-before}
+use Rattle.graph.proofs.Sums.{sums-before}
 use Rattle.graph.proofs.order.is_before.Statement.{statement}
 use Rattle.graph.proofs.order.is_before.Tie as tie
 
@@ -14,10 +14,7 @@ is-below-requires : tie.Need-is-below-requires
 is-below-requires c κs = search needs
 
 returns : tie.Need-returns
-returns c =
-    let (e, n) = c .before .before .sum-of .ensures in
-    let (f, m) = c .before .sum-of2 .ensures in
-    rw (c .is-below .ensures, e, f) (sum-before _ _ n m)
+returns c = sums-before (c .is-below .ensures) (c .before .before .sum-of .ensures) (c .before .sum-of2 .ensures)
 
 pub is-before-spec : {M : Type 1} → statement M
 is-before-spec = tie.close (tie.spec sum-of-requires sum-of-requires-2 is-below-requires returns)
