@@ -67,6 +67,7 @@ fn main() {
     };
     part("graphs worked by hand", &mut parts::worked);
     part("all graphs of up to 2 states and 2 labels", &mut parts::all_small);
+    part("two hops of numbers at an end", &mut parts::pairs_of_hops);
     part("answers of every length", &mut parts::answers);
     part("every condition of every entry", &mut parts::conditions);
     part("random small graphs", &mut |c| parts::small(c, options.small));

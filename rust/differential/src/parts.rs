@@ -133,6 +133,15 @@ pub fn all_small(c: &mut Comparer) {
     }
 }
 
+/// Every list of two hops whose numbers are at an end or beside it: which comes first hangs on each of the three, and on their order.
+pub fn pairs_of_hops(c: &mut Comparer) {
+    let ends = [0, 1, 1022, 1023];
+    let hop = |i: usize| [ends[i / 16], ends[i / 4 % 4], ends[i % 4]];
+    for pair in 0..64 * 64 {
+        c.check(&graph(1024, 1024, &[hop(pair / 64), hop(pair % 64)].concat()));
+    }
+}
+
 /// Answers from nothing to two too many, over accepted and refused calls.
 pub fn answers(c: &mut Comparer) {
     for g in

@@ -1,6 +1,6 @@
-use crate::{first_places, hop_at, hop_count, places, refuse, Answer, Shape, ACCEPTED, MOST_HOPS, MOST_LABELS, MOST_STATES};
+use crate::{first_places, hop_at, hop_count, places, refuse, sum_of, Answer, Shape, ACCEPTED, MOST_HOPS, MOST_LABELS, MOST_STATES};
 
-/// The entry check: one pass for 3, one for 4.
+/// The entry check: one pass for 3, one for 4, which keeps the sum of the hop before.
 pub fn check(shape: Shape, hops: &[u16]) -> Answer {
     let states_fit = (1..=MOST_STATES as u32).contains(&shape.states);
     let labels_fit = (1..=MOST_LABELS as u32).contains(&shape.labels);
@@ -16,10 +16,13 @@ pub fn check(shape: Shape, hops: &[u16]) -> Answer {
             return refuse(3, place);
         }
     }
-    for place in 1..hop_count(hops) {
-        if hop_at(hops, place - 1) >= hop_at(hops, place) {
+    let mut last = None;
+    for place in 0..hop_count(hops) {
+        let sum = Some(sum_of(hop_at(hops, place)));
+        if last >= sum {
             return refuse(4, place);
         }
+        last = sum;
     }
     ACCEPTED
 }

@@ -95,12 +95,19 @@ pub(crate) fn hop_at(hops: &[u16], place: usize) -> (u16, u16, u16) {
     (hops[3 * place], hops[3 * place + 1], hops[3 * place + 2])
 }
 
+/// A hop's sum, by which hops are compared: from, label and to, 16 bits each.
+#[inline]
+pub(crate) fn sum_of((from, label, to): (u16, u16, u16)) -> u64 {
+    (u64::from(from) << 32) | (u64::from(label) << 16) | u64::from(to)
+}
+
 /// The first place between `first` and `past` of an ascending list whose hop is not below `hop`.
 fn lower_between(hops: &[u16], hop: (u16, u16, u16), first: usize, past: usize) -> usize {
     let (mut low, mut high) = (first, past);
+    let sought = sum_of(hop);
     while low < high {
         let middle = low + (high - low) / 2;
-        if hop_at(hops, middle) < hop {
+        if sum_of(hop_at(hops, middle)) < sought {
             low = middle + 1;
         } else {
             high = middle;
@@ -137,5 +144,5 @@ pub(crate) fn lower_row(hops: &[u16], first: &[u16], hop: (u16, u16, u16)) -> us
 /// The place of a hop, searched for among the hops of its state.
 pub(crate) fn find_row(hops: &[u16], first: &[u16], hop: (u16, u16, u16)) -> Option<usize> {
     let place = lower_row(hops, first, hop);
-    (place < hop_count(hops) && hop_at(hops, place) == hop).then_some(place)
+    (place < hop_count(hops) && sum_of(hop_at(hops, place)) == sum_of(hop)).then_some(place)
 }
