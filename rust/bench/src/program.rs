@@ -1,13 +1,14 @@
 //! The program beside what it does: the library's read and reduce of the same file, and the putting of the same lines into a buffer by plain Rust.
 
+use crate::folder::Folder;
 use crate::inputs::{self, Named};
 use crate::report::Report;
 use crate::show::{ratio, time};
 use crate::timing::{library_or_plain, median, Timed};
 use crate::{clock, made, names};
 use differential::entries::Graph;
-use std::fs::{self, File};
-use std::path::{Path, PathBuf};
+use std::fs::File;
+use std::path::Path;
 use std::process::{Command, Stdio};
 
 const RUNS: usize = 100;
@@ -82,28 +83,4 @@ fn process_time(program: &Path, file: &Path) -> f64 {
     let status = command(program, file).stdout(Stdio::null()).status().expect("the program can be started");
     assert!(status.success(), "the program ended with {status}");
     (clock::of_children() - before).as_secs_f64()
-}
-
-/// A folder that goes when the bench is done with it.
-struct Folder(PathBuf);
-
-impl Folder {
-    fn new() -> Folder {
-        let path = std::env::temp_dir().join(format!("zundrafipo-bench-{}", std::process::id()));
-        fs::create_dir(&path).expect("a folder for the files");
-        Folder(path)
-    }
-
-    fn file(&self, name: &str, bytes: &[u8]) -> PathBuf {
-        let path = self.0.join(name);
-        fs::write(&path, bytes).expect("the files can be written");
-        path
-    }
-}
-
-impl Drop for Folder {
-    fn drop(&mut self) {
-        // a folder that is left behind does no harm, and a panic here would hide another
-        let _ = fs::remove_dir_all(&self.0);
-    }
 }

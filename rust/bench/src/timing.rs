@@ -5,7 +5,7 @@ use differential::entries::{self, Entries, Plain};
 use std::hint::black_box;
 use std::time::Duration;
 
-/// At most so many samples of a way, and for so long in all; but at least three.
+/// So many samples of a way, and for so long in all; a way that takes longer is run once.
 const MOST_SAMPLES: usize = 15;
 const LONGEST: Duration = Duration::from_millis(3000);
 /// A sample repeats what is fast until it lasts about so long.
@@ -73,11 +73,21 @@ impl<'a> Timed<'a> {
     pub fn median(self) -> f64 {
         median(self.samples)
     }
+
+    /// What a quarter of the samples stay below: other work on the machine slows some of them down, but makes none faster.
+    pub fn lower_quartile(self) -> f64 {
+        ranked(self.samples, 4)
+    }
 }
 
-pub fn median(mut samples: Vec<f64>) -> f64 {
+pub fn median(samples: Vec<f64>) -> f64 {
+    ranked(samples, 2)
+}
+
+/// The sample that one of so many parts of them stays below.
+fn ranked(mut samples: Vec<f64>, parts: usize) -> f64 {
     samples.sort_by(f64::total_cmp);
-    samples[samples.len() / 2]
+    samples[samples.len() / parts]
 }
 
 /// Fails unless all ways that are there have left the same.
@@ -89,12 +99,17 @@ pub fn agree(what: &str, ways: &[&Option<Timed>]) {
 
 /// Samples the ways that are there by turns, and gives the median of each.
 pub fn medians<const N: usize>(mut ways: [Option<Timed>; N]) -> [Option<f64>; N] {
+    sample(&mut ways, MOST_SAMPLES, LONGEST);
+    ways.map(|way| way.map(Timed::median))
+}
+
+/// Samples the ways that are there by turns, at most so often and for so long in all; but at least three times.
+pub fn sample(ways: &mut [Option<Timed>], most: usize, longest: Duration) {
     let start = clock::now();
-    for turn in 0..MOST_SAMPLES {
-        if turn >= 3 && clock::now() - start > LONGEST {
+    for turn in 0..most {
+        if turn >= 3 && clock::now() - start > longest {
             break;
         }
         ways.iter_mut().flatten().for_each(Timed::sample);
     }
-    ways.map(|way| way.map(Timed::median))
 }

@@ -1,4 +1,4 @@
-//! The entries in the form of the C interface, of the library and of the plain implementation.
+//! The entries in the form of the C interface, and of the plain implementation; those of the library are in `archive`.
 
 /// A graph as it goes in; nothing is asked of it.
 #[derive(Clone, Debug)]
@@ -32,7 +32,7 @@ pub trait Entries {
 /// The proved library, where it is linked (the feature `library`).
 pub fn library() -> Option<&'static dyn Entries> {
     #[cfg(feature = "library")]
-    return Some(&Library);
+    return Some(&crate::archive::LINKED);
     #[cfg(not(feature = "library"))]
     None
 }
@@ -129,100 +129,5 @@ impl Entries for Plain {
             let (found, length) = plain::write(shape(g), &g.hops, names, out);
             give(found, &[length as u64], answer)
         })
-    }
-}
-
-/// The proved library, through the functions of its archive.
-#[cfg(feature = "library")]
-pub struct Library;
-
-#[cfg(feature = "library")]
-// SAFETY of every call: each pointer stands with the length of the slice it is of, and what is written to is borrowed alone.
-impl Entries for Library {
-    fn name(&self) -> &'static str {
-        "library"
-    }
-
-    fn check(&self, g: &Graph, answer: &mut [u64]) -> u32 {
-        unsafe { zundrafipo::ffi::zf_check(g.states, g.labels, g.initial, g.hops.as_ptr(), g.hops.len(), answer.as_mut_ptr(), answer.len()) }
-    }
-
-    fn mark(&self, g: &Graph, marks: &mut [u8], answer: &mut [u64]) -> u32 {
-        let (hops, len) = (g.hops.as_ptr(), g.hops.len());
-        let (out, out_len) = (marks.as_mut_ptr(), marks.len());
-        unsafe { zundrafipo::ffi::zf_mark(g.states, g.labels, g.initial, hops, len, out, out_len, answer.as_mut_ptr(), answer.len()) }
-    }
-
-    fn mark_fast(&self, g: &Graph, marks: &mut [u8], answer: &mut [u64]) -> u32 {
-        let (hops, len) = (g.hops.as_ptr(), g.hops.len());
-        let (out, out_len) = (marks.as_mut_ptr(), marks.len());
-        unsafe { zundrafipo::ffi::zf_mark_fast(g.states, g.labels, g.initial, hops, len, out, out_len, answer.as_mut_ptr(), answer.len()) }
-    }
-
-    fn reduce(&self, g: &Graph, map: &mut [u16], short: &mut [u16], answer: &mut [u64]) -> u32 {
-        let (hops, len) = (g.hops.as_ptr(), g.hops.len());
-        let (map, map_len) = (map.as_mut_ptr(), map.len());
-        let (short, short_len) = (short.as_mut_ptr(), short.len());
-        let (answer, answer_len) = (answer.as_mut_ptr(), answer.len());
-        unsafe { zundrafipo::ffi::zf_reduce(g.states, g.labels, g.initial, hops, len, map, map_len, short, short_len, answer, answer_len) }
-    }
-
-    fn audit(&self, one: &Graph, two: &Graph, map: &[u16], answer: &mut [u64]) -> u32 {
-        unsafe {
-            zundrafipo::ffi::zf_audit(
-                one.states,
-                one.labels,
-                one.initial,
-                one.hops.as_ptr(),
-                one.hops.len(),
-                two.states,
-                two.labels,
-                two.initial,
-                two.hops.as_ptr(),
-                two.hops.len(),
-                map.as_ptr(),
-                map.len(),
-                answer.as_mut_ptr(),
-                answer.len(),
-            )
-        }
-    }
-
-    fn round(&self, g: &Graph, place: u64, rounds: u32, answer: &mut [u64]) -> u32 {
-        let (hops, len) = (g.hops.as_ptr(), g.hops.len());
-        unsafe { zundrafipo::ffi::zf_round(g.states, g.labels, g.initial, hops, len, place, rounds, answer.as_mut_ptr(), answer.len()) }
-    }
-
-    fn hops_of(&self, side: u32, state: u32, one: &Graph, two: &Graph, answer: &mut [u64]) -> u32 {
-        unsafe {
-            zundrafipo::ffi::zf_hops_of(
-                side,
-                state,
-                one.states,
-                one.labels,
-                one.initial,
-                one.hops.as_ptr(),
-                one.hops.len(),
-                two.states,
-                two.labels,
-                two.initial,
-                two.hops.as_ptr(),
-                two.hops.len(),
-                answer.as_mut_ptr(),
-                answer.len(),
-            )
-        }
-    }
-
-    fn read(&self, file: &[u8], hops: &mut [u16], answer: &mut [u64]) -> u32 {
-        unsafe { zundrafipo::ffi::zf_read(file.as_ptr(), file.len(), hops.as_mut_ptr(), hops.len(), answer.as_mut_ptr(), answer.len()) }
-    }
-
-    fn write(&self, g: &Graph, names: &[u8], out: &mut [u8], answer: &mut [u64]) -> u32 {
-        let (hops, len) = (g.hops.as_ptr(), g.hops.len());
-        let (names, names_len) = (names.as_ptr(), names.len());
-        let (out, out_len) = (out.as_mut_ptr(), out.len());
-        let (answer, answer_len) = (answer.as_mut_ptr(), answer.len());
-        unsafe { zundrafipo::ffi::zf_write(g.states, g.labels, g.initial, hops, len, names, names_len, out, out_len, answer, answer_len) }
     }
 }

@@ -1,0 +1,104 @@
+//! Two archives beside each other. The machine's speed swings within seconds, and the place of the code alone moves some times by half and more: so each archive is
+//! linked as a shared object at four places, all are loaded into this process and called by turns, and the best of the four lower quartiles counts.
+
+use crate::asked;
+use crate::folder::Folder;
+use crate::rows::{self, Row};
+use crate::show::{ratio, time};
+use crate::timing::{sample, Outputs, Timed};
+use differential::archive::Archive;
+use std::cell::RefCell;
+use std::collections::BTreeMap;
+use std::ffi::{c_char, c_void, CString};
+use std::path::{Path, PathBuf};
+use std::process::Command;
+use std::time::Duration;
+
+/// How many bytes stand before the code: all places that its functions, aligned to 16, can have in a line of 64.
+const PLACES: [usize; 4] = [0, 16, 32, 48];
+/// How many figures of an audit both have: the first fault is not in every archive.
+const AUDIT: usize = 4;
+/// So many samples of each, and for so long in all.
+const MOST_SAMPLES: usize = 31;
+const LONGEST: Duration = Duration::from_secs(6);
+
+const RTLD_NOW: i32 = 2;
+
+extern "C" {
+    fn dlopen(path: *const c_char, flags: i32) -> *mut c_void;
+    fn dlsym(object: *mut c_void, name: *const c_char) -> *mut c_void;
+}
+
+type Placed = [Archive; PLACES.len()];
+
+/// The rows that the words of the command line ask for, and what came out by entry.
+pub fn table(old: &str, new: &str) {
+    let folder = Folder::new();
+    let [old, new] =
+        [("old", old), ("new", new)].map(|(name, archive)| PLACES.map(|place| loaded(&linked(&folder, name, Path::new(archive), place))));
+    let ratios: RefCell<BTreeMap<String, Vec<f64>>> = RefCell::default();
+    let take = |row: &Row| {
+        if asked(row.entry, row.input) {
+            ratios.borrow_mut().entry(row.entry.to_string()).or_default().push(beside(row, &old, &new));
+        }
+    };
+    println!("| entry | input | old | new | ratio |\n|---|---|---|---|---|");
+    rows::all(&take);
+    rows::mark_fast(&take);
+    println!("\n| entry | rows | mean ratio | least | most |\n|---|---|---|---|---|");
+    for (entry, ratios) in ratios.take() {
+        let mean = (ratios.iter().map(|ratio| ratio.ln()).sum::<f64>() / ratios.len() as f64).exp();
+        let (least, most) = ratios.iter().fold((f64::MAX, 0f64), |(least, most), &ratio| (least.min(ratio), most.max(ratio)));
+        println!("| {entry} | {} | {mean:.3} | {least:.2} | {most:.2} |", ratios.len());
+    }
+}
+
+/// A row's ratio, new to old.
+fn beside(row: &Row, old: &Placed, new: &Placed) -> f64 {
+    let mut ways: [Option<Timed>; 2 * PLACES.len()] = std::array::from_fn(|way| {
+        let archive = &[old, new][way % 2][way / 2];
+        Some(Timed::new(move |o| (row.call)(archive, o)))
+    });
+    let mut left = ways.iter().flatten().map(|way| what_both_know(row, &way.outputs));
+    let first = left.next();
+    assert!(left.all(|other| Some(other) == first), "{} on {}: both must leave the same", row.entry, row.input);
+    sample(&mut ways, MOST_SAMPLES, LONGEST);
+    let times: Vec<f64> = ways.into_iter().flatten().map(Timed::lower_quartile).collect();
+    let [old, new] = [0, 1].map(|side| times.iter().skip(side).step_by(2).copied().min_by(f64::total_cmp));
+    println!("| {} | {} | {} | {} | {} |", row.entry, row.input, time(old), time(new), ratio(new, old));
+    old.zip(new).map_or(1.0, |(old, new)| new / old)
+}
+
+/// All that a call left, but of an audit only the figures that every archive gives.
+fn what_both_know(row: &Row, outputs: &Outputs) -> Outputs {
+    let mut known = outputs.clone();
+    if row.entry.starts_with("audit") {
+        known.answer.truncate(AUDIT);
+    }
+    known
+}
+
+/// A shared object of an archive, with so many bytes before its code.
+fn linked(folder: &Folder, name: &str, archive: &Path, place: usize) -> PathBuf {
+    let before = folder.file("before.s", format!(".text\n.fill {place}, 1, 0x90\n.section .note.GNU-stack\n").as_bytes());
+    let object = folder.path(&format!("{name}-{place}.so"));
+    let whole = ["-Wl,-Bsymbolic,--whole-archive".as_ref(), archive.as_os_str(), "-Wl,--no-whole-archive".as_ref()];
+    let status = Command::new("gcc").args(["-shared", "-o"]).arg(&object).arg(&before).args(whole).status().expect("gcc can be started");
+    assert!(status.success(), "{} is not linked", archive.display());
+    object
+}
+
+/// The functions of a shared object, which stays loaded.
+fn loaded(object: &Path) -> Archive {
+    let text = |text: &str| CString::new(text).expect("a name without a zero");
+    // SAFETY: the object is made of an archive with functions of these names, and is never unloaded.
+    unsafe {
+        let opened = dlopen(text(object.to_str().expect("a folder with a plain name")).as_ptr(), RTLD_NOW);
+        assert!(!opened.is_null(), "{} cannot be loaded", object.display());
+        Archive::at(|name| {
+            let address = dlsym(opened, text(name).as_ptr());
+            assert!(!address.is_null(), "{} has no {name}", object.display());
+            address
+        })
+    }
+}

@@ -1,0 +1,98 @@
+//! The rows that are timed: entries on inputs.
+
+use crate::inputs::{self, Named};
+use crate::timing::Outputs;
+use crate::{made, marking, names};
+use differential::entries::{Entries, Graph, Plain};
+
+/// A call of one entry on one input.
+type Call<'a> = &'a dyn Fn(&dyn Entries, &mut Outputs) -> u32;
+
+/// A row: an entry on an input, what the plain implementation does for it, and the graph whose check it is held against.
+pub struct Row<'a> {
+    pub entry: &'a str,
+    pub input: &'a str,
+    pub checked: Option<&'a Graph>,
+    pub plain: &'a dyn Fn(&mut Outputs) -> u32,
+    pub call: Call<'a>,
+}
+
+/// What is done with each row.
+pub type Take<'a> = &'a dyn Fn(&Row);
+
+/// An entry and the plain one.
+fn row(take: Take, entry: &str, input: &str, checked: Option<&Graph>, call: Call) {
+    take(&Row { entry, input, checked, plain: &|o| call(&Plain, o), call });
+}
+
+/// All but those of `mark_fast`, which has a table of its own.
+pub fn all(take: Take) {
+    let (graphs, markings, long) = (inputs::graphs(), inputs::markings(), inputs::long_markings());
+    for Named { name, graph } in &graphs {
+        row(take, "check", name, Some(graph), &|e, o| e.check(graph, &mut o.answer));
+    }
+    graphs.iter().for_each(|input| mark(take, input, Some(&input.graph)));
+    markings.iter().chain(&long).for_each(|input| mark(take, input, None));
+    for Named { name, graph } in &graphs {
+        row(take, "reduce", name, Some(graph), &|e, o| e.reduce(graph, &mut o.map, &mut o.hops, &mut o.answer));
+    }
+    audits(take, &graphs);
+    rounds(take, &graphs);
+    files(take);
+}
+
+/// The rows of `mark_fast`, without its table's repeated sweeps.
+pub fn mark_fast(take: Take) {
+    for Named { name, graph } in inputs::graphs().iter().chain(&inputs::markings()).chain(&inputs::long_markings()) {
+        row(take, "mark_fast", name, None, &|e, o| e.mark_fast(graph, &mut o.marks, &mut o.answer));
+    }
+}
+
+fn mark(take: Take, Named { name, graph }: &Named, checked: Option<&Graph>) {
+    let plain = &|o: &mut Outputs| marking::plain_rounds(graph, o);
+    take(&Row { entry: "mark", input: name, checked, plain, call: &|e, o| e.mark(graph, &mut o.marks, &mut o.answer) });
+}
+
+fn audits(take: Take, graphs: &[Named]) {
+    for Named { name, graph } in graphs {
+        let (short, map) = made::reduced(graph);
+        row(take, "audit of reduce", name, Some(graph), &|e, o| e.audit(graph, &short, &map, &mut o.answer));
+    }
+    for Named { name, graph } in graphs {
+        let map: Vec<u16> = (0..graph.states as u16).collect();
+        row(take, "audit with itself", name, Some(graph), &|e, o| e.audit(graph, graph, &map, &mut o.answer));
+    }
+    for (Named { name, graph: one }, two, map) in &inputs::worst_audits() {
+        row(take, "audit", name, None, &|e, o| e.audit(one, two, map, &mut o.answer));
+    }
+}
+
+fn rounds(take: Take, graphs: &[Named]) {
+    for Named { name, graph: dense } in &inputs::dense_rounds() {
+        for rounds in 1..=4 {
+            row(take, "round question", &format!("{name}, {rounds} rounds"), None, &|e, o| e.round(dense, 0, rounds, &mut o.answer));
+        }
+        let last = dense.hops.chunks(3).rposition(|hop| hop[1] == 0).expect("a silent hop") as u64;
+        row(take, "round question", &format!("{name}, 4 rounds, the last hop"), None, &|e, o| e.round(dense, last, 4, &mut o.answer));
+    }
+    for Named { name, graph } in graphs.iter().filter(|g| g.graph.hops[1] == 0) {
+        row(take, "round question", &format!("{name}, 4 rounds"), Some(graph), &|e, o| e.round(graph, 0, 4, &mut o.answer));
+    }
+}
+
+fn files(take: Take) {
+    let Named { name, graph: longest } = inputs::longest();
+    let names = names::longest();
+    let no_names = "4,096 hops, no names";
+    row(take, "write", name, None, &|e, o| e.write(&longest, &names, &mut o.file, &mut o.answer));
+    row(take, "write", no_names, None, &|e, o| e.write(&longest, &[], &mut o.file, &mut o.answer));
+    let (bare, by_hand) = (Graph { states: 1, labels: 1024, initial: 0, hops: vec![] }, names::written_by_hand());
+    row(take, "write", "1,023 names as a person writes them", None, &|e, o| e.write(&bare, &by_hand, &mut o.file, &mut o.answer));
+    for (name, names) in [(name, &names[..]), (no_names, &[])] {
+        let file = made::file(&longest, names);
+        row(take, "read", name, None, &|e, o| e.read(&file, &mut o.hops, &mut o.answer));
+    }
+    for names::NamedFile { name, file } in &names::files() {
+        row(take, "read", name, None, &|e, o| e.read(file, &mut o.hops, &mut o.answer));
+    }
+}
