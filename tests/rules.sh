@@ -28,6 +28,10 @@ none "hops made elsewhere than in graph" "$(grep -nE '(^|[^A-Za-z])Hop \{' crate
 # two hops are compared by their sums, in graph::order: nowhere is a number of one hop held against a number of another
 none "hops compared by their numbers" "$(grep -nE '\.(from|label|to)\>[^;⌜]*([<>]|[=!]=)[^;⌜]*\.(from|label|to)\>' crates/*/src/*.rt | grep -vE ':[0-9]+: *//' || true)"
 
+# a hop is looked for by the search of graph, and by nothing else: sums are compared there, and in row 4 of check
+none "hops looked for elsewhere than in graph" "$(grep -nE '(^|[^a-z_])(sum_of|is_below|is_same|is_hop_at)([^a-z_]|$)' crates/*/src/*.rt | grep -vE '^crates/(graph|limits)/' |
+    grep -vE ':[0-9]+: *//' || true)"
+
 # every module of a list has a word on it
 none "modules without a word" "$(grep -nE '^pub mod [A-Za-z]+ *$' crates/*/specs/Lib.antt crates/*/proofs/Lib.antt || true)"
 

@@ -2,27 +2,31 @@
 -- By it the ways out of X and Y. Assumes nothing.
 use Prim.Native.Nat.{ℕ, _+_, _<_, _≤_}
 use mathlib.Core.Path.{_≡_, refl, sym, _∙_}
-use mathlib.Core.Bool.{Bool, true, false, not}
+use mathlib.Core.Bool.{Bool, true, false, not, _&&_}
 use mathlib.Core.List.{List}
-use mathlib.Core.Logic.{inl, ⊎-elim}
+use mathlib.Core.Logic.{inl, inr, ⊎-elim}
 use native.Mathlib.Nat.{le-refl}
 use native.Mathlib.Omega.{arith}
-use borrow.Author.Tests.{not-true, not-false}
+use borrow.Author.Tests.{not-true, not-false, eqb-true}
 use borrow.Author.Count.{below-more}
-use Rattle.graph.specs.Hops.{count, from, label, to, hopOf, has}
-use Rattle.graph.specs.Order.{Ascending}
-use Rattle.graph.specs.Search.{firstOf, pastOf}
+use lib.Dec.{eqb}
+use Rattle.graph.specs.Hops.{count, from, label, to, hopOf, hopAt, has}
+use Rattle.graph.specs.Order.{before, Ascending}
+use Rattle.graph.specs.Search.{placed, isAt, foundPlace, firstOf, pastOf}
 use Rattle.graph.specs.declared.Hop.{Hop}
-use Rattle.below.proofs.Bools.{lt-or-le}
+use Rattle.graph.specs.declared.Found.{Found}
+use Rattle.below.proofs.Bools.{and-left, and-right, lt-or-le}
 use Rattle.below.proofs.Tests.{all-yes, all-fails}
-use Rattle.graph.proofs.Lookup.{first-within, range-holds, range-only}
+use Rattle.graph.proofs.Ordered.{Below, before-below, below-before, ascending-lt}
+use Rattle.graph.proofs.Lookup.{placed-has, found-lower, Onward, onward, first-within, range-holds, range-only}
 use Rattle.shrinking.specs.Pairs.{Pairs}
 use Rattle.confluence.specs.Rounds.{closing, hopAnswers, answers, answered, tried, closes}
 use Rattle.starts.proofs.Firsts.{first-below, first-next}
+use Rattle.starts.proofs.Rows.{row-bracket}
 use Rattle.merging.specs.Row.{Row}
 use Rattle.merging.proofs.Rows.{ascending-label}
 use Rattle.closes.specs.Walk.{Skipped}
-use Rattle.confluence.proofs.Closing.{answers-still, answers-else, answers-yes, answered-at, tried-own, tried-other}
+use Rattle.confluence.proofs.Closing.{answers-still, answers-else, answers-yes, answered-at, answered-itself, tried-own, tried-other}
 
 module _ (hs : List ℕ) (up : Ascending hs) where
   -- the hops before the first of s1 are not tried
@@ -137,15 +141,47 @@ module _ (hs : List ℕ) (up : Ascending hs) (s1 s2 end past : ℕ) where
             let (a, b) = range-holds hs up s2 o e in
             (⊎-elim (λ c. absurd (omega (arith, walk-skip .behind k a c j (le-refl j) l))) (λ c. c) (lt-or-le k r), omega (arith, w .past-is))
 
-      pub walk-next : Walk hs s1 s2 end past r (j + 1)
-      walk-next =
-          record {
-            own = own-next hs up s1 end (w .own) l;
-            past-is = w .past-is;
-            at-from = walk-skip .at-from;
-            at-in = walk-skip .at-in;
-            behind = λ k a b i m n. walk-skip .behind k a b i (omega arith) n;
-          }
+    -- the hop at j passed
+    pub walk-pass : Walk hs s1 s2 end past at (j + 1)
+    walk-pass =
+        record {
+          own = own-next hs up s1 end (w .own) l;
+          past-is = w .past-is;
+          at-from = w .at-from;
+          at-in = w .at-in;
+          behind = λ k a b i m n. w .behind k a b i (omega arith) n;
+        }
+
+-- The hop of s2 like the one at place i: with its label and its end. `same` and `past` bracket it for each hop of s1 from j on, since these ascend.
+abbrev pub likeAt : List ℕ → ℕ → ℕ → Hop
+likeAt hs s2 i = hopOf s2 (label hs i) (to hs i)
+
+abbrev pub Beside : List ℕ → ℕ → ℕ → ℕ → ℕ → ℕ → Type 0
+Beside hs s2 end past same j = Onward hs (λ (i : ℕ). i < end) (likeAt hs s2) same past j
+
+module _ (hs : List ℕ) (up : Ascending hs) (s1 s2 end past : ℕ) where
+  pub beside-start : {same j : ℕ} → same ≡ firstOf hs s2 → past ≡ firstOf hs (s2 + 1) → Beside hs s2 end past same j
+  beside-start p q i l m = row-bracket hs up (likeAt hs s2 i) p q
+
+  module _ {j : ℕ} (o : Own hs s1 end j) (l : j < end) where
+    -- the like hop of a later hop of s1 comes later
+    likes-rise : (i : ℕ) → j < i → i < end → before (likeAt hs s2 j) (likeAt hs s2 i) ≡ true
+    likes-rise i m n = go (before-below (hopAt hs j) (hopAt hs i) (ascending-lt hs up i m (own-in hs up s1 end later n))) where
+      later : Own hs s1 end i
+      later = record { end-is = o .end-is; j-from = omega (arith, o .j-from); j-in = omega arith }
+
+      go : Below (hopAt hs j) (hopAt hs i) → before (likeAt hs s2 j) (likeAt hs s2 i) ≡ true
+      go (inl k) = absurd (omega (arith, own-from hs up s1 end o l, own-from hs up s1 end later n))
+      go (inr (q, k)) = below-before (likeAt hs s2 j) (likeAt hs s2 i) (inr (refl, k))
+
+    pub beside-next : {same r : ℕ} {h : Hop} {f : Found} → Beside hs s2 end past same j → h ≡ likeAt hs s2 j → f ≡ placed hs h → r ≡ foundPlace f →
+        Beside hs s2 end past r (j + 1)
+    beside-next w q e d = onward hs up likes-rise w l (d ∙ rw (e, q) (found-lower hs (likeAt hs s2 j)))
+
+-- the search tells whether s2 has it
+pub like-has : (hs : List ℕ) → Ascending hs → (s2 j : ℕ) {h : Hop} {f : Found} {v : Bool} → h ≡ likeAt hs s2 j → f ≡ placed hs h → v ≡ isAt f →
+    v ≡ has hs s2 (label hs j) (to hs j)
+like-has hs up s2 j q e d = d ∙ rw (e, q) (placed-has hs (likeAt hs s2 j) up)
 
 -- Y of the hop at place j, labelled a to s3: s2 has the like hop, or itself answers, or another hop of s2 must
 module _ (hs : List ℕ) (u : Pairs) (s2 j : ℕ) {a s3 : ℕ} (p : a ≡ label hs j) (q : s3 ≡ to hs j) {v : Bool} where
@@ -155,7 +191,12 @@ module _ (hs : List ℕ) (u : Pairs) (s2 j : ℕ) {a s3 : ℕ} (p : a ≡ label 
   pub answered-else : v ≡ hopAnswers hs (closing u) s2 a s3 → (a ≡ 0 → closing u s3 s2 ≡ false) → v ≡ answered hs u s2 j
   answered-else e f = e ∙ answers-else hs u s2 a s3 f ∙ answered-at hs u s2 j p q
 
+-- a silent hop to s2 is answered by s2 itself
+pub answered-stays : (hs : List ℕ) (u : Pairs) (s2 j : ℕ) {v : Bool} → v ≡ (eqb (label hs j) 0 && eqb (to hs j) s2) → v ≡ true → true ≡ answered hs u s2 j
+answered-stays hs u s2 j e d =
+    let b : (eqb (label hs j) 0 && eqb (to hs j) s2) ≡ true = sym e ∙ d in
+    sym (answered-itself hs u s2 j (eqb-true _ _ (and-left (eqb (label hs j) 0) _ b)) (eqb-true _ _ (and-right (eqb (label hs j) 0) _ b)))
+
 -- s2 has the like hop: s4 is s3
-pub answered-alike : (hs : List ℕ) (u : Pairs) (s2 j : ℕ) {like : Bool} → (like ≡ true → has hs s2 (label hs j) (to hs j) ≡ true) → like ≡ true →
-    true ≡ answered hs u s2 j
-answered-alike hs u s2 j f d = sym (answers-yes hs u s2 (label hs j) (to hs j) (to hs j, inl (f d), inl refl)) ∙ answered-at hs u s2 j refl refl
+pub answered-alike : (hs : List ℕ) (u : Pairs) (s2 j : ℕ) {alike : Bool} → alike ≡ has hs s2 (label hs j) (to hs j) → alike ≡ true → true ≡ answered hs u s2 j
+answered-alike hs u s2 j e d = sym (answers-yes hs u s2 (label hs j) (to hs j) (to hs j, inl (sym e ∙ d), inl refl)) ∙ answered-at hs u s2 j refl refl

@@ -1,21 +1,20 @@
 // Whether a silent hop closes with the set that a list of marks is: document 01's condition, decided. `sweeps` asks it of each marked hop and `falling` in its
 // first round; `again` asks one trial, where only some of the hops need be tried.
-// Each hop of the one end is tried once. The hops of both ends are walked side by side, in the order of the list: where the other end has the like hop
-// there is no more to ask, and else `answering` is asked for one that closes.
-// It stands on `confluence` (what closing is, and the set that marks are), `graph` (hops and their order), `starts` (where a state's hops begin),
+// Each hop of the one end is tried once. The hops of both ends are walked side by side, in the order of the list: the like hop of the other end is searched
+// for from the place of the one before on. Where it is there, there is no more to ask, and else `answering` is asked for one that closes.
+// It stands on `confluence` (what closing is, and the set that marks are), `graph` (hops and the search), `starts` (where a state's hops begin),
 // `merging` (a state's hops from a place on) and `answering` (what one trial asks).
 use answering::hop_answers;
 use answering::is_closed;
-use graph::Hop;
 use graph::Label;
+use graph::OldState;
 use graph::hops::from_at;
-use graph::hops::hop_at;
 use graph::hops::hop_of;
-use graph::hops::is_hop_at;
 use graph::hops::label_at;
 use graph::hops::to_at;
-use graph::order::is_below;
-use graph::order::sum_of;
+use graph::search::find_ahead;
+use graph::search::is_at;
+use graph::search::place_of;
 use merging::Rest;
 use starts::STARTS;
 use starts::start_of;
@@ -23,8 +22,9 @@ use starts::wide;
 ghost use mathlib.Core.Path.{_≡_};
 ghost use Prim.Native.Nat.{_<_, _≤_};
 ghost use lib.ListN.{length};
-ghost use mathlib.Core.Bool.{true};
-ghost use Rattle.graph.specs.Hops.{count, label, to, hopOf, has};
+ghost use lib.Dec.{eqb};
+ghost use mathlib.Core.Bool.{_&&_};
+ghost use Rattle.graph.specs.Hops.{count, label, to, has};
 ghost use Rattle.graph.specs.Answers.{most-states};
 ghost use Rattle.confluence.specs.Rounds.{answered, closesAt};
 ghost use Rattle.confluence.specs.Held.{heldBy};
@@ -48,33 +48,6 @@ fn skip(hops: &[u16], at: usize, past: usize, a: Label) -> usize
     k
 }
 
-// The first place from `at` on whose hop is not before h, or `past`. The walk below asks it where a hop of s2 like the one that is tried would stand:
-// whether it does is then asked of the list, so that no answer rests on this place.
-fn ahead(hops: &[u16], h: Hop, at: usize, past: usize) -> usize
-    requires { ⌜ past ≤ count (now hops) ⌝ }
-{
-    let sought = sum_of(h);
-    let mut k = at;
-    while k < past {
-        if !is_below(sum_of(hop_at(hops, k)), sought) {
-            return k;
-        }
-        k += 1;
-    }
-    k
-}
-
-// Whether h stands at a place before `past`; then the graph has it.
-fn stands_at(hops: &[u16], h: Hop, k: usize, past: usize) -> bool
-    requires { ⌜ past ≤ count (now hops) ⌝ }
-    ensures { λ r. ⌜ (r ≡ true → has (now (hops .entry)) (h .from) (h .label) (h .to) ≡ true) ⌝ }
-{
-    if k < past {
-        return is_hop_at(hops, k, h);
-    }
-    false
-}
-
 // Y: whether the hop at place j is answered from the state of `rest`, whose hops of its label or above begin there.
 pub fn is_answered(hops: &[u16], starts: &[u16; STARTS], marks: &[u8], rest: Rest, j: usize) -> bool
     requires ready { ⌜ Ready (now hops) ⌝ }
@@ -96,15 +69,13 @@ pub fn is_answered(hops: &[u16], starts: &[u16; STARTS], marks: &[u8], rest: Res
     hop_answers(hops, starts, marks, rest, a, s3)
 }
 
-// The same, where `like` is the hop of that state with the label and the end of j, and `same` where it would stand. A silent hop to that state itself, as the
-// hop under test is, is answered by it; and if the like hop stands there, s4 is s3 itself. No more is asked then.
+// The same, where `alike` is whether that state has a hop with the label and the end of j: then s4 is s3 itself, and no more is asked.
 fn is_met(
     hops: &[u16],
     starts: &[u16; STARTS],
     marks: &[u8],
     rest: Rest,
-    like: Hop,
-    same: usize,
+    alike: bool,
     j: usize,
 ) -> bool
     requires ready { ⌜ Ready (now hops) ⌝ }
@@ -113,18 +84,24 @@ fn is_met(
     requires place { ⌜ j < count (now hops) ⌝ }
     requires row { ⌜ Row (now hops) (rest .state .0) (label (now hops) j) (rest .at) (rest .past) ⌝ }
     requires asked { ⌜ rest .state .0 < most-states ⌝ }
-    requires like { ⌜ like ≡ hopOf (rest .state .0) (label (now hops) j) (to (now hops) j) ⌝ }
+    requires alike { ⌜ alike ≡ has (now hops) (rest .state .0) (label (now hops) j) (to (now hops) j) ⌝ }
     ensures { λ r. ⌜ r ≡ answered (now (hops .entry)) (heldBy (now (hops .entry)) (now (marks .entry))) (rest .state .0) j ⌝ }
 {
-    if label_at(hops, j).0 == 0 {
-        if to_at(hops, j).0 == rest.state.0 {
-            return true;
-        }
-    }
-    if stands_at(hops, like, same, rest.past) {
+    if alike {
         return true;
     }
     is_answered(hops, starts, marks, rest, j)
+}
+
+// Whether the hop at place j is silent and leads to s2, as the hop under test does: s2 itself answers it, and none of its hops is looked at.
+fn stays(hops: &[u16], s2: OldState, j: usize) -> bool
+    requires { ⌜ j < count (now hops) ⌝ }
+    ensures { λ r. ⌜ r ≡ (eqb (label (now (hops .entry)) j) 0 && eqb (to (now (hops .entry)) j) (s2 .0)) ⌝ }
+{
+    if label_at(hops, j).0 == 0 {
+        return to_at(hops, j).0 == s2.0;
+    }
+    false
 }
 
 // X of a silent hop, the one at place i: whether each hop from its start is answered from its end.
@@ -144,24 +121,25 @@ pub fn closes_at(hops: &[u16], starts: &[u16; STARTS], marks: &[u8], i: usize) -
     let mut same = at;
     let mut j = start_of(starts, s1);
     while j < end {
-        let a = label_at(hops, j);
-        at = skip(hops, at, past, a);
-        let like = hop_of(s2.0, a.0, to_at(hops, j).0);
-        same = ahead(hops, like, same, past);
-        if !is_met(
-            hops,
-            starts,
-            marks,
-            Rest {
-                state: s2,
-                at,
-                past,
-            },
-            like,
-            same,
-            j,
-        ) {
-            return false;
+        if !stays(hops, s2, j) {
+            let a = label_at(hops, j);
+            at = skip(hops, at, past, a);
+            let found = find_ahead(hops, hop_of(s2.0, a.0, to_at(hops, j).0), same, past);
+            same = place_of(found);
+            if !is_met(
+                hops,
+                starts,
+                marks,
+                Rest {
+                    state: s2,
+                    at,
+                    past,
+                },
+                is_at(found),
+                j,
+            ) {
+                return false;
+            }
         }
         j += 1;
     }

@@ -8,19 +8,19 @@ use mathlib.Core.Logic.{_⊎_, inl, inr, ⊎-elim}
 use native.Mathlib.Nat.{eq-or-lt-of-le, le-refl}
 use native.Mathlib.Omega.{arith}
 use borrow.Author.Tests.{ltb-true, ltb-false, lt-ltb, le-ltb, not-true, not-false}
-use lib.Dec.{ltb}
+use lib.Dec.{ltb, eqb}
 use Rattle.below.specs.Tests.{any, all, least}
 use Rattle.graph.specs.Hops.{count, from, hopOf, hopAt, Alike, is, has}
 use Rattle.graph.specs.Order.{before, Ascending}
 use Rattle.graph.specs.Sum.{sumOf, Narrow}
-use Rattle.graph.specs.Search.{lower, Bracket, Ended, found, placed, isAt, firstOf, pastOf}
+use Rattle.graph.specs.Search.{lower, Bracket, Ended, found, placed, isAt, foundPlace, firstOf, pastOf}
 use Rattle.graph.specs.declared.Hop.{Hop}
 use Rattle.graph.specs.declared.Found.{Found}
 use Rattle.graph.specs.declared.Found.the-variants.{At, Gap}
-use Rattle.below.proofs.Bools.{clash, decided, not-yes, not-no, no-test, and-left, and-right, and-no-right, same-test, lt-or-le}
+use Rattle.below.proofs.Bools.{clash, decided, not-yes, not-no, no-test, and-left, and-right, same-test, lt-or-le}
 use Rattle.below.proofs.Tests.{least-is, least-passes, least-before, least-within, any-found, any-no, all-yes}
 use Rattle.graph.proofs.Places.{is-alike, alike-is, has-place}
-use Rattle.graph.proofs.Sums.{sum-alike}
+use Rattle.graph.proofs.Sums.{sum-alike, sums-same}
 use Rattle.graph.proofs.Ordered.{Below, before-below, below-before, before-trans, before-total, before-alike, alike-itself, alike-back, alike-then, alike-not-before, ascending-lt, ascending-place}
 
 module _ (hs : List ℕ) (h : Hop) where
@@ -47,6 +47,11 @@ module _ (hs : List ℕ) (h : Hop) where
   } where
     like : (j : ℕ) → before (hopAt hs j) g ≡ before (hopAt hs j) h
     like j = before-alike (alike-itself (hopAt hs j)) (sum-alike g h w v (sym q ∙ p))
+
+  -- whether the sum of the hop at a place is that of h is whether h stands there
+  pub sums-is : (i : ℕ) {a : Hop} {m n : ℕ} → a ≡ hopAt hs i → (m ≡ sumOf a) × Narrow a → (n ≡ sumOf h) × Narrow h → eqb m n ≡ is hs (h .from) (h .label) (h .to) i
+  unfolding is
+  sums-is i e p q = rw e at (sums-same p q)
 
   pub whole-ended : {past : ℕ} → past ≡ count hs → Ended hs h past
   unfolding Ended
@@ -110,19 +115,36 @@ module _ (hs : List ℕ) (h : Hop) where
     unfolding placed
     placed-at {p} l e = rw (lower-at l e, lt-ltb _ _ l, alike-is hs h p e)
 
-  -- the ways out of `find`, where r is the place that was searched for
+    -- a search that has come to the place of h goes on from there for a hop g that h is before
+    pub bracket-on : (g : Hop) {lo hi r : ℕ} → Bracket hs h lo hi → Bracket hs g lo hi → before h g ≡ true → r ≡ lower hs h → Bracket hs g r hi
+    bracket-on g {lo} {hi} {r} b c e q = record { lo-le = ⊎-elim over (λ l. l) (lt-or-le hi r); hi-le = c .hi-le; below = low; above = c .above } where
+      over : hi < r → r ≤ hi
+      over l =
+          let w : hi < count hs = omega (arith, lower-within) in
+          clash (sym (lower-law w) ∙ lt-ltb _ _ (rw q at l)) (b .above hi (le-refl hi) w)
+
+      low : (j : ℕ) → j < r → before (hopAt hs j) g ≡ true
+      low j l =
+          let w : j < count hs = omega (arith, lower-within) in
+          before-trans (hopAt hs j) h g (sym (lower-law w) ∙ lt-ltb _ _ (rw q at l)) e
+
+  -- the ways out of a search, where r is the place that it came to: it asked whether the hop stands there, or is past all that it can stand at
   module _ {r : ℕ} (e : r ≡ lower hs h) where
-    pub find-there : r < count hs → is hs (h .from) (h .label) (h .to) r ≡ true → At r ≡ placed hs h
+    pub find-told : {b : Bool} → r < count hs → b ≡ is hs (h .from) (h .label) (h .to) r → found b r ≡ placed hs h
     unfolding placed
-    find-there l f = rw (← e, lt-ltb _ _ l, f)
+    find-told l f = rw (← e, lt-ltb _ _ l, f)
 
-    pub find-other : is hs (h .from) (h .label) (h .to) r ≡ false → Gap r ≡ placed hs h
-    unfolding placed
-    find-other f = rw (← e, and-no-right (ltb r (count hs)) f)
-
-    pub find-end : {past : ℕ} → past ≤ r → Ended hs h past → Gap r ≡ placed hs h
+    pub find-end : {past : ℕ} → past ≤ r → Ended hs h past → found false r ≡ placed hs h
     unfolding placed Ended
-    find-end l f = ⊎-elim (λ m. find-other (f r l m)) (λ m. rw (← e, le-ltb _ _ m)) (lt-or-le r (count hs))
+    find-end l f = ⊎-elim (λ m. find-told m (sym (f r l m))) (λ m. rw (← e, le-ltb _ _ m)) (lt-or-le r (count hs))
+
+  -- the place that the search comes to
+  pub found-lower : foundPlace (placed hs h) ≡ lower hs h
+  unfolding placed
+  found-lower = go (ltb (lower hs h) (count hs) && is hs (h .from) (h .label) (h .to) (lower hs h)) where
+    go : (x : Bool) → foundPlace (found x (lower hs h)) ≡ lower hs h
+    go true = refl
+    go false = refl
 
   -- what the search answers holds
   pub at-place : {p : ℕ} → placed hs h ≡ At p → (p < count hs) × (is hs (h .from) (h .label) (h .to) p ≡ true)
@@ -176,6 +198,14 @@ lower-rises hs up a b e = ⊎-elim over (λ l. l) (lt-or-le (lower hs b) (lower 
     go : (before b x ≡ true) ⊎ (before b x ≡ false) → lower hs a ≤ lower hs b
     go (inl d) = clash (before-trans b x a d x-a) e
     go (inr d) = clash (sym (before-alike (before-total x b x-b d) (alike-itself a)) ∙ x-a) e
+
+-- Hops sought one after the other, g k and then those of the places behind k, each before the next: lo and hi bracket all that are still to be sought
+abbrev pub Onward : List ℕ → (ℕ → Type 0) → (ℕ → Hop) → ℕ → ℕ → ℕ → Type 0
+Onward hs Asked g lo hi k = (i : ℕ) → k ≤ i → Asked i → Bracket hs (g i) lo hi
+
+pub onward : (hs : List ℕ) → Ascending hs → {Asked : ℕ → Type 0} {g : ℕ → Hop} {lo hi r k : ℕ} →
+    ((i : ℕ) → k < i → Asked i → before (g k) (g i) ≡ true) → Onward hs Asked g lo hi k → Asked k → r ≡ lower hs (g k) → Onward hs Asked g r hi (k + 1)
+onward hs up {g} {k} rises w a e i l b = bracket-on hs (g k) up (g i) (w k (le-refl k) a) (w i (omega arith) b) (rises i (omega arith) b) e
 
 -- the hops of a state
 module _ (hs : List ℕ) (up : Ascending hs) where

@@ -50,6 +50,10 @@ pub sum-same : (a b : Hop) → Narrow a → Narrow b → eqb (sumOf a) (sumOf b)
 sum-same a b n m =
     same-test (eqb (sumOf a) (sumOf b)) (same a b) (λ e. alike-same (sum-alike a b n m (eqb-true _ _ e))) (λ e. eq-eqb _ _ (sums-stay (same-alike a b e)))
 
+-- what it said that two sums are equal, of the hops they were made of
+pub sums-same : {a b : Hop} {m n : ℕ} → (m ≡ sumOf a) × Narrow a → (n ≡ sumOf b) × Narrow b → eqb m n ≡ same a b
+sums-same {a} {b} (p, v) (q, w) = rw (p, q) (sum-same a b v w)
+
 -- without the bound it is false: a label of 65,536 passes for the next from
 pub wide-label : (before (hopOf 0 65536 0) (hopOf 1 0 0) ≡ true) × (ltb (sumOf (hopOf 0 65536 0)) (sumOf (hopOf 1 0 0)) ≡ false)
 unfolding before

@@ -39,6 +39,11 @@ abbrev pub isAt : Found → Bool
 isAt (At i) = true
 isAt (Gap i) = false
 
+-- the place that it came to
+abbrev pub foundPlace : Found → ℕ
+foundPlace (At i) = i
+foundPlace (Gap i) = i
+
 -- the places of the hops of a state: the first place, and the one past the last
 unfoldable pub firstOf : List ℕ → ℕ → ℕ
 firstOf hs s = lower hs (hopOf s 0 0)

@@ -1,5 +1,6 @@
-// The one search: where a hop stands in an ascending list or would stand, and by it the places of a state's hops. It serves either graph, so a
-// state is a bare number here.
+// The one search: where a hop stands in an ascending list or would stand, and by it the places of a state's hops. Whether a graph has a hop, and where, is
+// asked here and nowhere else. The place is found by halving or, for hops sought one after the other, by walking on; what is told of it is the same. It
+// serves either graph, so a state is a bare number here.
 use super::Found;
 use super::Hop;
 use super::hops::hop_at;
@@ -9,10 +10,10 @@ use super::hops::is_hop_at;
 use super::order::is_below;
 use super::order::sum_of;
 ghost use mathlib.Core.Path.{_≡_};
-ghost use Prim.Native.Nat.{_<_};
-ghost use Rattle.graph.specs.Hops.{count, has};
+ghost use Prim.Native.Nat.{_<_, _≤_};
+ghost use Rattle.graph.specs.Hops.{count};
 ghost use Rattle.graph.specs.Order.{Ascending};
-ghost use Rattle.graph.specs.Search.{lower, Bracket, Ended, placed, firstOf, pastOf};
+ghost use Rattle.graph.specs.Search.{lower, Bracket, Ended, found, placed, isAt, foundPlace, firstOf, pastOf};
 
 // The first place whose hop is not before h, searched for by halving between two places that bracket it.
 pub fn lower_between(hops: &[u16], h: Hop, first: usize, past: usize) -> usize
@@ -42,6 +43,16 @@ pub fn lower_place(hops: &[u16], h: Hop) -> usize
     lower_between(hops, h, 0, hop_count(hops))
 }
 
+// What a search tells of the place that it came to: the hop stands there, or would stand there.
+fn told(stands: bool, at: usize) -> Found
+    ensures { λ r. ⌜ r ≡ found stands at ⌝ }
+{
+    if stands {
+        return Found::At(at);
+    }
+    Found::Gap(at)
+}
+
 // Where the hop stands or would stand, searched for between two places that bracket it, if it does not stand behind them.
 pub fn find_between(hops: &[u16], h: Hop, first: usize, past: usize) -> Found
     requires ascending { ⌜ Ascending (now hops) ⌝ }
@@ -51,11 +62,28 @@ pub fn find_between(hops: &[u16], h: Hop, first: usize, past: usize) -> Found
 {
     let at = lower_between(hops, h, first, past);
     if at < past {
-        if is_hop_at(hops, at, h) {
-            return Found::At(at);
-        }
+        return told(is_hop_at(hops, at, h), at);
     }
-    Found::Gap(at)
+    told(false, at)
+}
+
+// The same, walked to from the first of the two places: for hops that are sought one after the other, each not far behind the one before.
+pub fn find_ahead(hops: &[u16], h: Hop, first: usize, past: usize) -> Found
+    requires ascending { ⌜ Ascending (now hops) ⌝ }
+    requires bracket { ⌜ Bracket (now hops) h first past ⌝ }
+    requires ended { ⌜ Ended (now hops) h past ⌝ }
+    ensures { λ r. ⌜ r ≡ placed (now (hops .entry)) h ⌝ }
+{
+    let sought = sum_of(h);
+    let mut at = first;
+    while at < past {
+        let sum = sum_of(hop_at(hops, at));
+        if !is_below(sum, sought) {
+            return told(sum == sought, at);
+        }
+        at += 1;
+    }
+    told(false, at)
 }
 
 // Where the hop stands or would stand, in the whole list.
@@ -66,15 +94,22 @@ pub fn find(hops: &[u16], h: Hop) -> Found
     find_between(hops, h, 0, hop_count(hops))
 }
 
-// Whether the graph has the hop.
-pub fn has_hop(hops: &[u16], h: Hop) -> bool
-    requires { ⌜ Ascending (now hops) ⌝ }
-    ensures { λ r. ⌜ r ≡ has (now (hops .entry)) (h .from) (h .label) (h .to) ⌝ }
+// Whether a search found its hop, and the place it came to: there the hop stands, or would stand.
+pub fn is_at(found: Found) -> bool
+    ensures { λ r. ⌜ r ≡ isAt found ⌝ }
 {
-    let found = find(hops, h);
     match found {
         Found::At(_) => true,
         Found::Gap(_) => false,
+    }
+}
+
+pub fn place_of(found: Found) -> usize
+    ensures { λ r. ⌜ r ≡ foundPlace found ⌝ }
+{
+    match found {
+        Found::At(p) => p,
+        Found::Gap(p) => p,
     }
 }
 

@@ -1,31 +1,29 @@
 // Whether a hop labelled a to s3 is answered by a hop of s2, with the set that a list of marks is, by a walk along both rows: s2's hops of that label and
-// s3's silent hops both ascend by their ends, so the two are walked side by side, and none is searched for. `answering` takes this way where neither is
-// far shorter than the other.
-// It stands on `confluence` (what closing is, and the set that marks are), `graph` (hops and their order) and `starts` (where a state's hops begin).
-use graph::Hop;
+// s3's silent hops both ascend by their ends, so the two are walked side by side: each silent hop is searched for from where the search before it came to.
+// `answering` takes this way where neither is far shorter than the other.
+// It stands on `confluence` (what closing is, and the set that marks are), `graph` (hops and the search) and `starts` (where a state's hops begin).
+use graph::Found;
 use graph::Label;
 use graph::OldState;
-use graph::hops::hop_at;
 use graph::hops::hop_of;
-use graph::hops::is_hop_at;
 use graph::hops::label_at;
 use graph::hops::to_at;
-use graph::order::is_below;
-use graph::order::sum_of;
+use graph::search::find_ahead;
+use graph::search::place_of;
 use starts::STARTS;
 use starts::start_of;
 use starts::wide;
 ghost use mathlib.Core.Path.{_≡_};
-ghost use Prim.Native.Nat.{_<_, _≤_};
+ghost use Prim.Native.Nat.{ℕ, _<_, _≤_};
 ghost use lib.ListN.{length};
 ghost use Rattle.graph.specs.Hops.{count};
-ghost use Rattle.graph.specs.Order.{Ascending};
-ghost use Rattle.graph.specs.Search.{lower, Bracket, Ended};
 ghost use Rattle.graph.specs.Answers.{most-states};
+ghost use Rattle.graph.specs.declared.Found.the-variants.{At};
 ghost use Rattle.confluence.specs.Rounds.{closing, hopAnswers};
 ghost use Rattle.confluence.specs.Held.{heldBy};
 ghost use Rattle.starts.specs.Starts.{Table, Ready};
 ghost use Rattle.merging.specs.Row.{Row};
+ghost use Rattle.merging.specs.Found.{markedAt};
 
 // The hops of a state from place `at` on; `past` is the place past its last.
 pub struct Rest {
@@ -61,39 +59,15 @@ pub fn is_fewer(hops: &[u16], few: Rest, a: Label, many: Rest, b: Label) -> bool
     false
 }
 
-// The first place whose hop is not before h, walked to from `first`.
-fn ahead(hops: &[u16], h: Hop, first: usize, past: usize) -> usize
-    requires ascending { ⌜ Ascending (now hops) ⌝ }
-    requires bracket { ⌜ Bracket (now hops) h first past ⌝ }
-    ensures { λ r. ⌜ r ≡ lower (now (hops .entry)) h ⌝ }
+// Whether a hop that was searched for was found, and is marked.
+fn is_held(marks: &[u8], found: Found) -> bool
+    requires { ⌜ ((p : ℕ) → found ≡ At p → p < length (now marks)) ⌝ }
+    ensures { λ r. ⌜ r ≡ markedAt (now (marks .entry)) found ⌝ }
 {
-    let sought = sum_of(h);
-    let mut m = first;
-    while m < past {
-        if !is_below(sum_of(hop_at(hops, m)), sought) {
-            return m;
-        }
-        m += 1;
+    match found {
+        Found::At(p) => marks[p] == 1,
+        Found::Gap(_) => false,
     }
-    m
-}
-
-// Whether the silent hop h is marked, `m` being the place where it would stand and `end` one from which on it does not.
-fn is_held(hops: &[u16], marks: &[u8], h: Hop, m: usize, end: usize) -> bool
-    requires ascending { ⌜ Ascending (now hops) ⌝ }
-    requires room { ⌜ count (now hops) ≤ length (now marks) ⌝ }
-    requires silent { ⌜ h .label ≡ 0 ⌝ }
-    requires place { ⌜ m ≡ lower (now hops) h ⌝ }
-    requires within { ⌜ end ≤ count (now hops) ⌝ }
-    requires ended { ⌜ Ended (now hops) h end ⌝ }
-    ensures { λ r. ⌜ r ≡ heldBy (now (hops .entry)) (now (marks .entry)) (h .from) (h .to) ⌝ }
-{
-    if m < end {
-        if is_hop_at(hops, m, h) {
-            return marks[m] == 1;
-        }
-    }
-    false
 }
 
 // Whether a hop labelled a of `rest` leads to an s4 that closes s3. `m` goes along s3's hops with the ends of those of `rest`: it never goes back.
@@ -125,11 +99,11 @@ pub fn row_answers(
         if s3.0 == s4.0 {
             return true;
         }
-        let h = hop_of(s3.0, 0, s4.0);
-        m = ahead(hops, h, m, end);
-        if is_held(hops, marks, h, m, end) {
+        let found = find_ahead(hops, hop_of(s3.0, 0, s4.0), m, end);
+        if is_held(marks, found) {
             return true;
         }
+        m = place_of(found);
         k += 1;
     }
     false

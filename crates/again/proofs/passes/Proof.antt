@@ -1,6 +1,6 @@
 -- `again::passes` meets its contract: a hop that s2 has the like of is answered, and any other is tried. Assumes nothing.
 use Prim.Native.Nat.{ℕ, _+_}
-use mathlib.Core.Path.{sym, ap, _∙_}
+use mathlib.Core.Path.{ap}
 use native.Mathlib.Omega.{arith}
 use borrow.Author.Needs.{needs}
 use Rattle.starts.proofs.Firsts.{start-is}
@@ -21,7 +21,7 @@ leads-to-requires c κs = search needs
 -- s2 has the like hop
 returns : tie.Need-returns
 returns c =
-    answered-alike _ _ _ _ (λ e. rw (c .before .before .label-at .ensures, c .before .before .before .to-at .ensures) at (sym (c .before .leads-to .ensures) ∙ e)) (c .if1 .taken)
+    answered-alike _ _ _ _ (rw (c .before .before .label-at .ensures, c .before .before .before .to-at .ensures) at (c .before .leads-to .ensures)) (c .if1 .taken)
 
 labelled-from-requires : tie.Need-labelled-from-requires
 labelled-from-requires c κs = search needs

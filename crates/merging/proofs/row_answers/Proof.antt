@@ -11,7 +11,7 @@ use Rattle.starts.proofs.Firsts.{start-is, range-more}
 use Rattle.starts.proofs.Rows.{row-ended}
 use Rattle.confluence.proofs.Closing.{closing-is, closing-same}
 use Rattle.merging.proofs.Rows.{row-answers, row-ends}
-use Rattle.merging.proofs.Along.{Along, along-start, along-next, held-closes}
+use Rattle.merging.proofs.Along.{Along, along-start, along-next, found-marked, found-closes}
 use Rattle.merging.proofs.row_answers.Statement.{statement}
 use Rattle.merging.proofs.row_answers.Tie as tie
 
@@ -65,45 +65,50 @@ returns-2 c =
 hop-of-requires : tie.Need-hop-of-requires Inv-loop μ-loop
 hop-of-requires c κs = search needs
 
-ahead-requires : tie.Need-ahead-requires Inv-loop μ-loop
-ahead-requires c κs =
+find-ahead-requires : tie.Need-find-ahead-requires Inv-loop μ-loop
+find-ahead-requires c κs =
     let st = c .before .before .before .before .before .before .before .before .before .before .before .before .before .before .before .before in
     let lp = c .before .before .before .before .before .before .before .before .before .before .loop in
-    (st .pre .0 .ascending, rw (c .hop-of .ensures, c .before .before .before .before .to-at .ensures) (lp .inv .2 (lp .k) (omega arith) (omega arith) (omega arith)))
+    let end = start-is (st .args .hops .now) (st .args .starts .now) (st .pre .1 .0) _ (ap (λ (x : ℕ). x + 1) (c .before .before .before .before .before .before .before .before .before .before .before .before .before .wide .ensures)) (omega arith) (c .before .before .before .before .before .before .before .before .before .before .before .before .start-of .ensures) in (
+      st .pre .0 .ascending,
+      (
+        rw (c .hop-of .ensures, c .before .before .before .before .to-at .ensures) (lp .inv .2 (lp .k) (omega arith) (omega arith, omega arith)),
+        rw (c .hop-of .ensures) (row-ended (st .args .hops .now) (st .pre .0 .ascending) (hopOf _ 0 _) end),
+      ),
+    )
 
 is-held-requires : tie.Need-is-held-requires Inv-loop μ-loop
-is-held-requires c κs =
+is-held-requires c κs p d =
     let st = c .before .before .before .before .before .before .before .before .before .before .before .before .before .before .before .before .before in
-    let lp = c .before .before .before .before .before .before .before .before .before .before .before .loop in
-    let q = c .before .hop-of .ensures in
-    let end = start-is (st .args .hops .now) (st .args .starts .now) (st .pre .1 .0) _ (ap (λ (x : ℕ). x + 1) (c .before .before .before .before .before .before .before .before .before .before .before .before .before .before .wide .ensures)) (omega arith) (c .before .before .before .before .before .before .before .before .before .before .before .before .before .start-of .ensures) in
-    let within = lp .inv .2 (lp .k) (omega arith) (omega arith) (omega arith) .hi-le in
-    let ended = row-ended (st .args .hops .now) (st .pre .0 .ascending) (hopOf _ 0 _) end in
-    (st .pre .0 .ascending, (st .pre .1 .1 .0, (rw q, (c .ahead .ensures, (within, rw q ended)))))
+    omega (arith, found-marked (st .args .hops .now) (st .args .marks .now) (st .pre .0 .ascending) _ _ (c .before .hop-of .ensures) (c .find-ahead .ensures) d, st .pre .1 .1 .0)
 
 returns-3 : tie.Need-returns-3 Inv-loop μ-loop
 returns-3 c =
     let st = c .before .before .before .before .before .before .before .before .before .before .before .before .before .before .before .before .before .before .before in
     row-answers (st .args .hops .now) (st .pre .0 .ascending) _ _ _ _ (st .pre .1 .1 .1 .0) (c .before .before .before .before .before .before .before .before .before .before .before .before .before .loop .inv .0) (c .before .before .before .before .before .before .before .before .before .before .before .before .loop-test .taken) (sym (c .before .before .before .before .before .before .before .before .before .before .before .label-at .ensures) ∙ c .before .before .before .before .before .before .before .before .if1 .left)
-    (c .before .before .before .before .before .before .before .to-at .ensures) (held-closes _ _ _ _ (c .before .before .before .hop-of .ensures) (c .before .before .before .before .if2 .left) (c .before .is-held .ensures)) (c .if3 .taken)
+    (c .before .before .before .before .before .before .before .to-at .ensures) (found-closes _ _ (st .pre .0 .ascending) _ _ (c .before .before .before .hop-of .ensures) (c .before .before .find-ahead .ensures) (c .before .before .before .before .if2 .left) (c .before .is-held .ensures)) (c .if3 .taken)
+
+place-of-requires : tie.Need-place-of-requires Inv-loop μ-loop
+place-of-requires c κs = search needs
 
 add-k : tie.Need-add-k Inv-loop μ-loop
 add-k c =
-    let st = c .before .before .before .before .before .before .before .before .before .before .before .before .before .before .before .before .before .before .before in
-    omega (arith, c .before .before .before .before .before .before .before .before .before .before .before .before .loop-test .taken, st .pre .1 .1 .1 .0 .within, st .pre .0 .hops-most)
+    let st = c .before .before .before .before .before .before .before .before .before .before .before .before .before .before .before .before .before .before .before .before in
+    omega (arith, c .before .before .before .before .before .before .before .before .before .before .before .before .before .loop-test .taken, st .pre .1 .1 .1 .0 .within, st .pre .0 .hops-most)
 
 loop-less : tie.Need-loop-less Inv-loop μ-loop
-loop-less c = omega (arith, c .before .before .before .before .before .before .before .before .before .before .before .before .loop-test .taken)
+loop-less c = omega (arith, c .before .before .before .before .before .before .before .before .before .before .before .before .before .loop-test .taken)
 
 loop-again : tie.Need-loop-again Inv-loop μ-loop
 loop-again c =
-    let st = c .before .before .before .before .before .before .before .before .before .before .before .before .before .before .before .before .before .before .before in
-    let lp = c .before .before .before .before .before .before .before .before .before .before .before .before .before .loop in
-    let t = c .before .before .before .before .before .before .before .to-at .ensures in
-    let q = c .before .before .before .hop-of .ensures in (
+    let st = c .before .before .before .before .before .before .before .before .before .before .before .before .before .before .before .before .before .before .before .before in
+    let lp = c .before .before .before .before .before .before .before .before .before .before .before .before .before .before .loop in
+    let t = c .before .before .before .before .before .before .before .before .to-at .ensures in
+    let q = c .before .before .before .before .hop-of .ensures in
+    let f = c .before .before .before .find-ahead .ensures in (
       omega arith,
-      range-more (lp .inv .1) (closing-is _ _ t (held-closes _ _ _ _ q (c .before .before .before .before .if2 .left) (c .before .is-held .ensures)) (c .if3 .left)),
-      along-next (st .args .hops .now) (st .pre .0 .ascending) _ (st .pre .1 .1 .1 .0) (lp .inv .2) (lp .inv .0) (c .before .before .before .before .before .before .before .before .before .before .before .before .loop-test .taken) (sym (c .before .before .before .before .before .before .before .before .before .before .before .label-at .ensures) ∙ c .before .before .before .before .before .before .before .before .if1 .left) t q (c .before .before .ahead .ensures),
+      range-more (lp .inv .1) (closing-is _ _ t (found-closes _ _ (st .pre .0 .ascending) _ _ q f (c .before .before .before .before .before .if2 .left) (c .before .before .is-held .ensures)) (c .before .if3 .left)),
+      along-next (st .args .hops .now) (st .pre .0 .ascending) _ (st .pre .1 .1 .1 .0) (lp .inv .2) (lp .inv .0) (c .before .before .before .before .before .before .before .before .before .before .before .before .before .loop-test .taken) (sym (c .before .before .before .before .before .before .before .before .before .before .before .before .label-at .ensures) ∙ c .before .before .before .before .before .before .before .before .before .if1 .left) t q f (c .place-of .ensures),
     )
 
 returns-4 : tie.Need-returns-4 Inv-loop μ-loop
@@ -128,9 +133,10 @@ row-answers-spec =
     to-at-requires
     returns-2
     hop-of-requires
-    ahead-requires
+    find-ahead-requires
     is-held-requires
     returns-3
+    place-of-requires
     add-k
     loop-less
     loop-again

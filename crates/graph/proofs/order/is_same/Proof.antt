@@ -1,6 +1,6 @@
 -- `graph::order::is_same` meets its contract: two sums are equal exactly when the hops are alike. Assumes nothing.
 use borrow.Author.Needs.{needs}
-use Rattle.graph.proofs.Sums.{sum-same}
+use Rattle.graph.proofs.Sums.{sums-same}
 use Rattle.graph.proofs.order.is_same.Statement.{statement}
 use Rattle.graph.proofs.order.is_same.Tie as tie
 
@@ -11,10 +11,7 @@ sum-of-requires-2 : tie.Need-sum-of-requires-2
 sum-of-requires-2 c κs = search needs
 
 returns : tie.Need-returns
-returns c =
-    let (e, n) = c .before .sum-of .ensures in
-    let (f, m) = c .sum-of2 .ensures in
-    rw (e, f) (sum-same (c .before .before .args .a) (c .before .before .args .b) n m)
+returns c = sums-same (c .before .sum-of .ensures) (c .sum-of2 .ensures)
 
 pub is-same-spec : {M : Type 1} → statement M
 is-same-spec = tie.close (tie.spec sum-of-requires sum-of-requires-2 returns)
