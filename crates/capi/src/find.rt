@@ -1,0 +1,26 @@
+// Find.
+use tells_finding::tell_find;
+ghost use mathlib.Core.Path.{_≡_};
+ghost use lib.ListN.{length};
+ghost use Rattle.limits.specs.Check.{checkOf};
+ghost use Rattle.finding.specs.Finding.{findOf};
+ghost use Rattle.answers.specs.Numbers.{shapeOf, returned, told};
+ghost use Rattle.tells_finding.specs.Numbers.{findingNumbers};
+
+#[no_mangle]
+pub extern "C" fn zf_find(
+    states: u32,
+    labels: u32,
+    initial: u32,
+    hops: &[u16],
+    from: u32,
+    label: u32,
+    to: u32,
+    answer: &mut [u64],
+) -> u32
+    ensures returns { λ r. ⌜ r ≡ returned (checkOf (shapeOf states labels initial) (now (hops .entry))) 5 (length (now (answer .entry))) ⌝ }
+    ensures tells { λ r. ⌜ now (answer .exit) ≡
+        told 5 (findingNumbers (findOf (shapeOf states labels initial) (now (hops .entry)) from label to)) (now (answer .entry)) ⌝ }
+{
+    tell_find(states, labels, initial, hops, from, label, to, answer)
+}
