@@ -24,7 +24,7 @@
 #include <stdint.h>
 
 #define ZF_VERSION_MAJOR 0
-#define ZF_VERSION_MINOR 1
+#define ZF_VERSION_MINOR 2
 #define ZF_VERSION_PATCH 0
 
 /* The limits. State and label counts are 1 at least. */
@@ -54,13 +54,20 @@
                       counted from the block's start); for writing, before any fault in a name, a block that ends early (place: its length) or has bytes
                       left over (place: the first of them) */
 
+/* The kinds of faults, in the order in which an audit names the first of them. */
+#define ZF_FAULT_NONE 0 /* there is none */
+#define ZF_FAULT_INITIAL 1 /* the map of initial state 1 is not initial state 2 (place and state: 0) */
+#define ZF_FAULT_LOST 2 /* a hop of graph 1 that graph 2 has not (place: the hop's in graph 1; state: 0) */
+#define ZF_FAULT_MADE_UP 3 /* a hop of graph 2 that a state of graph 1 does not answer (place: the hop's in graph 2; state: that state) */
+
 /* How many elements each entry's answer takes. */
 #define ZF_ANSWER_CHECK 3
 #define ZF_ANSWER_MARK 3
 #define ZF_ANSWER_MARK_FAST 4
 #define ZF_ANSWER_REDUCE 7
-#define ZF_ANSWER_AUDIT 4
+#define ZF_ANSWER_AUDIT 7
 #define ZF_ANSWER_ROUND 4
+#define ZF_ANSWER_FIND 5
 #define ZF_ANSWER_HOPS_OF 2
 #define ZF_ANSWER_READ 9
 #define ZF_ANSWER_WRITE 4
@@ -73,6 +80,7 @@
 #define ZF_STACK_REDUCE 65536
 #define ZF_STACK_AUDIT 40960
 #define ZF_STACK_ROUND 40960
+#define ZF_STACK_FIND 4096
 #define ZF_STACK_HOPS_OF 4096
 #define ZF_STACK_READ 98304
 #define ZF_STACK_WRITE 8192
@@ -98,8 +106,9 @@ uint32_t zf_mark_fast(uint32_t states, uint32_t labels, uint32_t initial, const 
 uint32_t zf_reduce(uint32_t states, uint32_t labels, uint32_t initial, const uint16_t *hops, size_t hops_len, uint16_t *map, size_t map_len,
                    uint16_t *short_hops, size_t short_len, uint64_t *answer, size_t answer_len);
 
-/* Counts the faults of a map from graph 1 to graph 2; none: the map is a branching bisimulation that joins the initial states.
- * Figure: the fault count. The table is 2 for a graph 2 that is refused with 1 to 4. */
+/* Counts the faults of a map from graph 1 to graph 2, and names the first; none: the map is a branching bisimulation that joins the initial states.
+ * Figures: the fault count; the first fault's kind (ZF_FAULT_..), place and state, 0 with none. The first is that of the least kind, then place, then
+ * state. The table is 2 for a graph 2 that is refused with 1 to 4. */
 uint32_t zf_audit(uint32_t states1, uint32_t labels1, uint32_t initial1, const uint16_t *hops1, size_t hops1_len,
                   uint32_t states2, uint32_t labels2, uint32_t initial2, const uint16_t *hops2, size_t hops2_len,
                   const uint16_t *map, size_t map_len, uint64_t *answer, size_t answer_len);
@@ -107,6 +116,11 @@ uint32_t zf_audit(uint32_t states1, uint32_t labels1, uint32_t initial1, const u
 /* The round question: whether the silent hop at a place survives so many rounds, 0 to ZF_MOST_ROUNDS, of the marking. Figure: 1 or 0. */
 uint32_t zf_round(uint32_t states, uint32_t labels, uint32_t initial, const uint16_t *hops, size_t hops_len, uint64_t place, uint32_t rounds,
                   uint64_t *answer, size_t answer_len);
+
+/* Looks a hop up in a graph that is checked for 1 to 4. Figures: 1 where the graph has it, else 0; its place, or how many hops come before it, 0 to the
+ * hop count. Any numbers may be asked for: a hop with one that is out of range is not there. */
+uint32_t zf_find(uint32_t states, uint32_t labels, uint32_t initial, const uint16_t *hops, size_t hops_len, uint32_t from, uint32_t label, uint32_t to,
+                 uint64_t *answer, size_t answer_len);
 
 /* The outgoing hops of a state of graph 1 or 2 (the side). The answer is start and length in numbers of that graph's list, and has no number, table and
  * place; 0 and 0 where there are no hops, for another side, an absent state, or if either graph is refused with 1 to 4. Returns ZF_ACCEPTED, or

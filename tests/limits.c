@@ -1,5 +1,5 @@
-/* What include/zundrafipo.h promises to a caller, tried on the library: its limits, the name of each number, how long each answer is and what a short
- * one does, and null pointers beside a length of 0. The same file is C and C++. */
+/* What include/zundrafipo.h promises to a caller, tried on the library: its limits, the name of each number and of each kind of fault, where a hop is found,
+ * how long each answer is and what a short one does, and null pointers beside a length of 0. The same file is C and C++. */
 #include <stdio.h>
 #include <string.h>
 #include "zundrafipo.h"
@@ -20,10 +20,11 @@ static void expect(const char *what, uint64_t got, uint64_t wanted) {
 /* P1, and a block of one name */
 #define P1 4, 2, 0, p1, 12
 static const uint16_t p1[12] = {0, 0, 1, 0, 1, 2, 1, 1, 3, 2, 0, 3};
-static const uint16_t p1_map[4] = {0, 0, 1, 1}, p1_short[3] = {0, 1, 1};
+static const uint16_t p1_map[4] = {0, 0, 1, 1}, p1_short[6] = {0, 1, 1, 1, 1, 1}; /* its short hop, and one that is made up */
 static const uint8_t name[2] = {1, 'a'};
 
-/* one more of everything than any graph may have */
+/* one more of everything than any graph may have; without it, the most */
+#define FULL ZF_MOST_STATES, ZF_MOST_LABELS, ZF_MOST_STATES - 1, hops, NUMBERS
 static uint16_t hops[NUMBERS + 3], list[NUMBERS], map[ZF_MOST_STATES];
 static uint8_t marks[ZF_MOST_HOPS], file[ZF_LONGEST_FILE + 1], block[ZF_LONGEST_NAME + 2];
 static uint64_t answer[16];
@@ -35,7 +36,7 @@ static void limits(void) {
         hops[3 * i] = (uint16_t)(i / 5);
         hops[3 * i + 1] = (uint16_t)(i % 5);
     }
-    expect("the most states, labels and hops", zf_check(most, ZF_MOST_LABELS, most - 1, hops, NUMBERS, answer, ZF_ANSWER_CHECK), ZF_ACCEPTED);
+    expect("the most states, labels and hops", zf_check(FULL, answer, ZF_ANSWER_CHECK), ZF_ACCEPTED);
     expect("a state more", zf_check(most + 1, ZF_MOST_LABELS, 0, hops, NUMBERS, answer, ZF_ANSWER_CHECK), ZF_COUNTS);
     expect("a label more", zf_check(most, ZF_MOST_LABELS + 1, 0, hops, NUMBERS, answer, ZF_ANSWER_CHECK), ZF_COUNTS);
     expect("a hop more", zf_check(most, ZF_MOST_LABELS, 0, hops, NUMBERS + 3, answer, ZF_ANSWER_CHECK), ZF_COUNTS);
@@ -65,14 +66,62 @@ static void numbers(void) {
     expect("ZF_BIT_MAP", zf_read(high_bit, 5, list, NUMBERS, answer, ZF_ANSWER_READ), ZF_BIT_MAP);
 }
 
+/* An audit of P1 with so many numbers of p1_short and an initial state: its fault count, and the first fault. */
+static void first_fault(const char *what, size_t numbers_len, uint32_t initial, uint64_t faults, uint64_t kind, uint64_t place, uint64_t state) {
+    expect(what, zf_audit(P1, 2, 2, initial, p1_short, numbers_len, p1_map, 4, answer, ZF_ANSWER_AUDIT), ZF_ACCEPTED);
+    expect(what, answer[3], faults);
+    expect(what, answer[4], kind);
+    expect(what, answer[5], place);
+    expect(what, answer[6], state);
+}
+
+static void faults(void) {
+    first_fault("ZF_FAULT_NONE", 3, 0, 0, ZF_FAULT_NONE, 0, 0);
+    first_fault("ZF_FAULT_INITIAL", 0, 1, 3, ZF_FAULT_INITIAL, 0, 0);
+    first_fault("ZF_FAULT_LOST", 0, 0, 2, ZF_FAULT_LOST, 1, 0);
+    first_fault("ZF_FAULT_MADE_UP", 6, 0, 2, ZF_FAULT_MADE_UP, 1, 2);
+    expect("an audit's refusal", zf_audit(P1, 2, 3, 1, p1_short, 0, p1_map, 4, answer, ZF_ANSWER_AUDIT), ZF_LABELS);
+    expect("its faults", answer[3], 0);
+    expect("its kind", answer[4], ZF_FAULT_NONE);
+    expect("an audit's answer without the first fault", zf_audit(P1, 2, 2, 0, p1_short, 3, p1_map, 4, answer, 4), ZF_ROOM);
+}
+
+/* Whether P1 has a hop, and its place or how many come before it. */
+static void found(const char *what, uint32_t from, uint32_t label, uint32_t to, uint64_t there, uint64_t place) {
+    expect(what, zf_find(P1, from, label, to, answer, ZF_ANSWER_FIND), ZF_ACCEPTED);
+    expect(what, answer[3], there);
+    expect(what, answer[4], place);
+}
+
+static void places(void) {
+    const uint32_t last = ZF_MOST_HOPS - 1;
+    found("the first hop", 0, 0, 1, 1, 0);
+    found("the last hop", 2, 0, 3, 1, 3);
+    found("before all hops", 0, 0, 0, 0, 0);
+    found("between hops", 1, 0, 3, 0, 2);
+    found("behind all hops", 3, 1, 3, 0, 4);
+    found("a from out of range", 65536, 0, 1, 0, 4);
+    found("a label out of range", 0, 65536, 1, 0, 2);
+    found("a to out of range", 0, 0, 65537, 0, 1);
+    found("all out of range", UINT32_MAX, UINT32_MAX, UINT32_MAX, 0, 4);
+    expect("the last of the most hops", zf_find(FULL, last / 5, last % 5, 0, answer, ZF_ANSWER_FIND), ZF_ACCEPTED);
+    expect("its place", answer[4], last);
+    expect("find's ZF_COUNTS", zf_find(4, 2, 0, p1, 11, 0, 0, 1, answer, ZF_ANSWER_FIND), ZF_COUNTS);
+    expect("find's ZF_INITIAL", zf_find(4, 2, 4, p1, 12, 0, 0, 1, answer, ZF_ANSWER_FIND), ZF_INITIAL);
+    expect("find's ZF_HOP", zf_find(4, 1, 0, p1, 12, 0, 0, 1, answer, ZF_ANSWER_FIND), ZF_HOP);
+    expect("its place", answer[2], 1);
+    expect("it finds nothing", answer[3] + answer[4], 0);
+}
+
 /* An accepted call of each entry, with an answer of so many elements. */
 static size_t length;
 static uint32_t check(size_t n) { return zf_check(P1, answer, n); }
 static uint32_t mark(size_t n) { return zf_mark(P1, marks, 4, answer, n); }
 static uint32_t mark_fast(size_t n) { return zf_mark_fast(P1, marks, 4, answer, n); }
 static uint32_t reduce(size_t n) { return zf_reduce(P1, map, 4, list, 12, answer, n); }
-static uint32_t audit(size_t n) { return zf_audit(P1, 2, 2, 0, p1_short, 3, p1_map, 4, answer, n); }
+static uint32_t audit(size_t n) { return zf_audit(P1, 2, 2, 0, p1_short, 6, p1_map, 4, answer, n); }
 static uint32_t round_of(size_t n) { return zf_round(P1, 0, 1, answer, n); }
+static uint32_t find(size_t n) { return zf_find(P1, 2, 0, 3, answer, n); }
 static uint32_t hops_of(size_t n) { return zf_hops_of(1, 1, P1, 2, 2, 0, p1_short, 3, answer, n); }
 static uint32_t write_p1(size_t n) { return zf_write(P1, name, 2, file, sizeof file, answer, n); }
 static uint32_t read_p1(size_t n) { return zf_read(file, length, list, NUMBERS, answer, n); }
@@ -99,8 +148,9 @@ static void answers(void) {
     answer_of("zf_mark's answer", mark, ZF_ANSWER_MARK, 0);
     answer_of("zf_mark_fast's answer", mark_fast, ZF_ANSWER_MARK_FAST, 2);
     answer_of("zf_reduce's answer", reduce, ZF_ANSWER_REDUCE, 0);
-    answer_of("zf_audit's answer", audit, ZF_ANSWER_AUDIT, 0);
+    answer_of("zf_audit's answer", audit, ZF_ANSWER_AUDIT, 2);
     answer_of("zf_round's answer", round_of, ZF_ANSWER_ROUND, 1);
+    answer_of("zf_find's answer", find, ZF_ANSWER_FIND, 3);
     answer_of("zf_hops_of's answer", hops_of, ZF_ANSWER_HOPS_OF, 3);
     answer_of("zf_write's answer", write_p1, ZF_ANSWER_WRITE, 33);
     length = (size_t)answer[3];
@@ -126,11 +176,15 @@ static void nothing(void) {
     expect("reduce no answer", zf_reduce(P1, map, 4, list, 12, NULL, 0), ZF_ROOM);
     expect("audit no hops", zf_audit(4, 2, 0, NULL, 0, 2, 2, 0, NULL, 0, p1_map, 4, answer, ZF_ANSWER_AUDIT), ZF_ACCEPTED);
     expect("its faults", answer[3], 0);
+    expect("its first fault", answer[4], ZF_FAULT_NONE);
     expect("audit no map", zf_audit(P1, 2, 2, 0, p1_short, 3, NULL, 0, answer, ZF_ANSWER_AUDIT), ZF_MAP);
     expect("its place", answer[2], 0);
     expect("audit no answer", zf_audit(P1, 2, 2, 0, p1_short, 3, p1_map, 4, NULL, 0), ZF_ROOM);
     expect("round no hops", zf_round(1, 1, 0, NULL, 0, 0, 0, answer, ZF_ANSWER_ROUND), ZF_NO_SILENT_HOP);
     expect("round no answer", zf_round(P1, 0, 0, NULL, 0), ZF_ROOM);
+    expect("find in no hops", zf_find(1, 1, 0, NULL, 0, 0, 0, 0, answer, ZF_ANSWER_FIND), ZF_ACCEPTED);
+    expect("nothing", answer[3] + answer[4], 0);
+    expect("find no answer", zf_find(P1, 0, 0, 1, NULL, 0), ZF_ROOM);
     expect("hops of no hops", zf_hops_of(1, 0, 1, 1, 0, NULL, 0, 1, 1, 0, NULL, 0, answer, ZF_ANSWER_HOPS_OF), ZF_ACCEPTED);
     expect("their length", answer[1], 0);
     expect("hops of no answer", zf_hops_of(1, 1, P1, P1, NULL, 0), ZF_ROOM);
@@ -147,6 +201,8 @@ static void nothing(void) {
 int main(void) {
     limits();
     numbers();
+    faults();
+    places();
     answers();
     nothing();
     printf("limits %d.%d.%d: %u passed, %u failed\n", ZF_VERSION_MAJOR, ZF_VERSION_MINOR, ZF_VERSION_PATCH, tried - failed, failed);

@@ -18,7 +18,7 @@
 
 static uint16_t tiles[NUMBERS], unordered[NUMBERS], ring[NUMBERS], falling[NUMBERS], turned[NUMBERS], knot[NUMBERS], small[NUMBERS], read_hops[NUMBERS], written_hops[NUMBERS];
 static uint16_t map[ZF_MOST_STATES], wrong_map[ZF_MOST_STATES], one_class[ZF_MOST_STATES], written_map[ZF_MOST_STATES];
-static const uint16_t loops[9] = {0, 1, 0, 0, 2, 0, 0, 3, 0};
+static const uint16_t loops[12] = {0, 1, 0, 0, 2, 0, 0, 3, 0, 0, 4, 0}; /* all but the last are the ring's */
 static uint8_t names[BLOCK], repeated[BLOCK], marks[ZF_MOST_HOPS], out[ZF_LONGEST_FILE], file[ZF_LONGEST_FILE + 1], repeated_file[ZF_LONGEST_FILE];
 static uint64_t answer[16];
 static size_t small_len;
@@ -120,13 +120,25 @@ static uint32_t audit_with(const uint16_t *by) {
 }
 static uint32_t audit(void) { return audit_with(map); }
 static uint32_t audit_map(void) { return audit_with(wrong_map); }
-static uint32_t audit_ring(void) {
-    return zf_audit(FULL, LIST(ring), 1, ZF_MOST_LABELS, 0, loops, 9, one_class, ZF_MOST_STATES, answer, ZF_ANSWER_AUDIT);
+static uint32_t audit_apart(void) { return audit_with(one_class); }
+static uint32_t audit_ring_with(size_t loops_len, size_t answer_len) {
+    return zf_audit(FULL, LIST(ring), 1, ZF_MOST_LABELS, 0, loops, loops_len, one_class, ZF_MOST_STATES, answer, answer_len);
 }
+static uint32_t audit_ring(void) { return audit_ring_with(9, ZF_ANSWER_AUDIT); }
+static uint32_t audit_made_up(void) { return audit_ring_with(12, ZF_ANSWER_AUDIT); }
+static uint32_t audit_short(void) { return audit_ring_with(12, ZF_ANSWER_AUDIT - 1); }
 
 static uint32_t round_knot(void) { return zf_round(64, ZF_MOST_LABELS, 63, LIST(knot), ZF_MOST_HOPS - 1, ZF_MOST_ROUNDS, answer, ZF_ANSWER_ROUND); }
 static uint32_t round_tiles(void) { return zf_round(FULL, LIST(tiles), ZF_MOST_HOPS - 1, ZF_MOST_ROUNDS, answer, ZF_ANSWER_ROUND); }
 static uint32_t round_visible(void) { return zf_round(FULL, LIST(tiles), ZF_MOST_HOPS - 2, ZF_MOST_ROUNDS, answer, ZF_ANSWER_ROUND); }
+
+static uint32_t find_in(const uint16_t *hops, uint32_t to, size_t answer_len) {
+    return zf_find(FULL, LIST(hops), ZF_MOST_STATES - 2, 0, to, answer, answer_len);
+}
+static uint32_t find_last(void) { return find_in(tiles, ZF_MOST_STATES - 1, ZF_ANSWER_FIND); }
+static uint32_t find_far(void) { return find_in(tiles, UINT32_MAX, ZF_ANSWER_FIND); }
+static uint32_t find_order(void) { return find_in(unordered, ZF_MOST_STATES - 1, ZF_ANSWER_FIND); }
+static uint32_t find_short(void) { return find_in(tiles, ZF_MOST_STATES - 1, ZF_ANSWER_FIND - 1); }
 
 static uint32_t hops_of(void) { return zf_hops_of(2, ZF_MOST_STATES - 2, FULL, LIST(ring), FULL, LIST(tiles), answer, ZF_ANSWER_HOPS_OF); }
 static uint32_t hops_of_refused(void) { return zf_hops_of(2, ZF_MOST_STATES - 2, FULL, LIST(unordered), FULL, LIST(tiles), answer, ZF_ANSWER_HOPS_OF); }
@@ -172,10 +184,17 @@ static const struct call calls[] = {
     {"zf_reduce", "answer too short", reduce_short, ZF_ROOM, 0, 0, ZF_STACK_REDUCE},
     {"zf_audit", "of what reduce left", audit, ZF_ACCEPTED, 3, 0, ZF_STACK_AUDIT},
     {"zf_audit", "a ring of 1,024 states in one class", audit_ring, ZF_ACCEPTED, 3, 0, ZF_STACK_AUDIT},
+    {"zf_audit", "all states to one, the initial one too", audit_apart, ZF_ACCEPTED, 4, ZF_FAULT_INITIAL, ZF_STACK_AUDIT},
+    {"zf_audit", "the ring, no state answers the last hop", audit_made_up, ZF_ACCEPTED, 5, 3, ZF_STACK_AUDIT},
+    {"zf_audit", "answer too short", audit_short, ZF_ROOM, 0, 0, ZF_STACK_AUDIT},
     {"zf_audit", "the map's last entry too high", audit_map, ZF_MAP, 2, ZF_MOST_STATES - 1, ZF_STACK_AUDIT},
     {"zf_round", "4 rounds, 64 states, silent hops between all", round_knot, ZF_ACCEPTED, 3, 1, ZF_STACK_ROUND},
     {"zf_round", "4 rounds, 1,024 states", round_tiles, ZF_ACCEPTED, 3, 1, ZF_STACK_ROUND},
     {"zf_round", "a visible hop", round_visible, ZF_NO_SILENT_HOP, 3, 0, ZF_STACK_ROUND},
+    {"zf_find", "the last of 4,096 hops", find_last, ZF_ACCEPTED, 4, ZF_MOST_HOPS - 1, ZF_STACK_FIND},
+    {"zf_find", "a number out of range, behind all hops", find_far, ZF_ACCEPTED, 4, ZF_MOST_HOPS, ZF_STACK_FIND},
+    {"zf_find", "the last hop not above the one before", find_order, ZF_ORDER, 4, 0, ZF_STACK_FIND},
+    {"zf_find", "answer too short", find_short, ZF_ROOM, 0, 0, ZF_STACK_FIND},
     {"zf_hops_of", "side 2", hops_of, ZF_ACCEPTED, 0, NUMBERS - 3, ZF_STACK_HOPS_OF},
     {"zf_hops_of", "graph 1 refused", hops_of_refused, ZF_ACCEPTED, 0, 0, ZF_STACK_HOPS_OF},
     {"zf_read", "the longest legal file", read_longest, ZF_ACCEPTED, 8, BLOCK, ZF_STACK_READ},

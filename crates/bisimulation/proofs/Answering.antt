@@ -8,7 +8,9 @@ use Rattle.graph.specs.declared.Shape.{Shape}
 use Rattle.graph.specs.declared.Answer.{Answer}
 use Rattle.starts.proofs.Firsts.{admitted-ready}
 use Rattle.faults.specs.Faults.{faultsOf}
+use Rattle.faults.specs.First.{noFault, firstFault}
 use Rattle.faults.specs.Images.{Auditable}
+use Rattle.faults.specs.declared.Fault.{Fault}
 use Rattle.fitting.specs.Fitting.{auditAnswer}
 use Rattle.fitting.proofs.Fits.{Audited}
 use Rattle.bisimulation.specs.Auditing.{auditOf}
@@ -25,10 +27,11 @@ auditable a =
 
 -- the ways out of the entry
 module _ (sh1 sh2 : Shape) (h1 h2 m : List ℕ) {a : Answer} (ea : a ≡ auditAnswer sh1 sh2 h1 h2 m) where
-  pub audit-refuses : (a .number ≡ 0 → ⊥) → _≡_ {A = Audit} (record { answer = a; faults = 0 }) (auditOf sh1 sh2 h1 h2 m)
+  pub audit-refuses : (a .number ≡ 0 → ⊥) → {f : Fault} → f ≡ noFault → _≡_ {A = Audit} (record { answer = a; faults = 0; first = f }) (auditOf sh1 sh2 h1 h2 m)
   unfolding auditOf
-  audit-refuses d = rw (← ea, ne-eqb _ _ d)
+  audit-refuses d n = rw (← ea, ne-eqb _ _ d, n)
 
-  pub audit-counts : a .number ≡ 0 → {x : ℕ} → x ≡ faultsOf sh1 sh2 h1 h2 m → _≡_ {A = Audit} (record { answer = a; faults = x }) (auditOf sh1 sh2 h1 h2 m)
+  pub audit-counts : a .number ≡ 0 → {x : ℕ} {f : Fault} → x ≡ faultsOf sh1 sh2 h1 h2 m → f ≡ firstFault sh1 sh2 h1 h2 m →
+      _≡_ {A = Audit} (record { answer = a; faults = x; first = f }) (auditOf sh1 sh2 h1 h2 m)
   unfolding auditOf
-  audit-counts z e = rw (← ea, eq-eqb _ _ z, e)
+  audit-counts z e n = rw (← ea, eq-eqb _ _ z, e, n)

@@ -5,12 +5,14 @@ use mathlib.Core.List.{List}
 use lib.Dec.{eqb}
 use Rattle.graph.specs.declared.Shape.{Shape}
 use Rattle.faults.specs.Faults.{faultsOf}
+use Rattle.faults.specs.First.{noFault, firstFault}
 use Rattle.fitting.specs.Fitting.{auditAnswer}
 use Rattle.bisimulation.specs.declared.Audit.{Audit}
 
--- the audit's answer, and with 0 the fault count
+-- the audit's answer, and with 0 the fault count and the first fault
 unfoldable pub auditOf : Shape → Shape → List ℕ → List ℕ → List ℕ → Audit
 auditOf sh1 sh2 h1 h2 m = record {
   answer = auditAnswer sh1 sh2 h1 h2 m;
   faults = cond (eqb (auditAnswer sh1 sh2 h1 h2 m .number) 0) (faultsOf sh1 sh2 h1 h2 m) 0;
+  first = cond (eqb (auditAnswer sh1 sh2 h1 h2 m .number) 0) (firstFault sh1 sh2 h1 h2 m) noFault;
 }

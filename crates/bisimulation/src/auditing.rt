@@ -1,6 +1,7 @@
 // The entry `audit`.
 use super::Audit;
 use super::counting::fault_count;
+use faults::first::no_fault;
 use fitting::audit_answer;
 use graph::Shape;
 ghost use mathlib.Core.Path.{_≡_};
@@ -12,8 +13,17 @@ pub fn audit(shape1: Shape, hops1: &[u16], shape2: Shape, hops2: &[u16], map: &[
 {
     let answer = audit_answer(shape1, hops1, shape2, hops2, map);
     if answer.number != 0 {
-        return Audit { answer, faults: 0 };
+        return Audit {
+            answer,
+            faults: 0,
+            first: no_fault(),
+        };
     }
-    let faults = fault_count(shape1, hops1, shape2, hops2, map);
-    Audit { answer, faults }
+    let counted = fault_count(shape1, hops1, shape2, hops2, map);
+    let first = counted.first;
+    Audit {
+        answer,
+        faults: counted.faults,
+        first,
+    }
 }

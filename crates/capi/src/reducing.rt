@@ -1,5 +1,5 @@
 // Reduce and audit.
-use tells_reducing::tell_audit;
+use tells_auditing::tell_audit;
 use tells_reducing::tell_reduce;
 ghost use mathlib.Core.Path.{_≡_};
 ghost use lib.ListN.{length};
@@ -7,7 +7,8 @@ ghost use Rattle.quotient.specs.Reduce.{reduceAnswer, reduceOf, mapOutput, shor
 ghost use Rattle.fitting.specs.Fitting.{auditAnswer};
 ghost use Rattle.bisimulation.specs.Auditing.{auditOf};
 ghost use Rattle.answers.specs.Numbers.{shapeOf, returned, told, unlessShort};
-ghost use Rattle.tells_reducing.specs.Numbers.{reductionNumbers, auditNumbers};
+ghost use Rattle.tells_reducing.specs.Numbers.{reductionNumbers};
+ghost use Rattle.tells_auditing.specs.Numbers.{auditNumbers};
 
 #[no_mangle]
 pub extern "C" fn zf_reduce(
@@ -58,10 +59,10 @@ pub extern "C" fn zf_audit(
     ensures returns { λ r. ⌜ r ≡
         returned
         (auditAnswer (shapeOf states1 labels1 initial1) (shapeOf states2 labels2 initial2) (now (hops1 .entry)) (now (hops2 .entry)) (now (map .entry)))
-        4
+        7
         (length (now (answer .entry))) ⌝ }
     ensures tells { λ r. ⌜ now (answer .exit) ≡
-        told 4
+        told 7
         (auditNumbers
         (auditOf (shapeOf states1 labels1 initial1) (shapeOf states2 labels2 initial2) (now (hops1 .entry)) (now (hops2 .entry)) (now (map .entry))))
         (now (answer .entry)) ⌝ }

@@ -1,12 +1,12 @@
 -- The ways out of the tests of the first two sums, in the words of their definitions. Assumes nothing.
-use Prim.Native.Nat.{ℕ}
+use Prim.Native.Nat.{ℕ, _<_, _≤_}
 use mathlib.Core.Path.{_≡_, refl, sym, ap, _∙_}
 use mathlib.Core.Bool.{Bool, true, false, _&&_, _||_}
 use mathlib.Core.List.{List}
 use native.Mathlib.Omega.{arith}
-use borrow.Author.Tests.{eq-eqb, ne-eqb}
+use borrow.Author.Tests.{eq-eqb, ne-eqb, lt-ltb, le-ltb}
 use lib.Dec.{eqb}
-use Rattle.graph.specs.Hops.{from, label, to, has}
+use Rattle.graph.specs.Hops.{count, from, label, to, has}
 use Rattle.graph.specs.declared.Shape.{Shape}
 use Rattle.graph.specs.Map.{mapped}
 use Rattle.graph.specs.Search.{placed}
@@ -16,16 +16,18 @@ use Rattle.below.proofs.Bools.{or-right}
 use Rattle.graph.proofs.Lookup.{at-place, at-has, gap-has}
 use Rattle.starts.specs.Starts.{Ready}
 use Rattle.faults.specs.Faults.{initialFault, kept}
+use Rattle.faults.specs.First.{fault, noFault, firstInitial, lostPlace, firstLost}
+use Rattle.faults.specs.declared.Fault.{Fault}
 use Rattle.faults.specs.Images.{mappedHop, nowhere, placeOf, imageOf}
 
 module _ (sh1 sh2 : Shape) (m : List ℕ) {r : ℕ} (e : r ≡ mapped m (sh1 .initial)) where
-  pub initial-joined : r ≡ sh2 .initial → 0 ≡ initialFault sh1 sh2 m
-  unfolding initialFault
-  initial-joined d = rw (eq-eqb _ _ (sym e ∙ d))
+  pub initial-joined : r ≡ sh2 .initial → {f : Fault} → f ≡ noFault → (0 ≡ initialFault sh1 sh2 m) × (f ≡ firstInitial sh1 sh2 m)
+  unfolding initialFault firstInitial
+  initial-joined d n = rw (eq-eqb _ _ (sym e ∙ d)) (refl, n)
 
-  pub initial-parted : (r ≡ sh2 .initial → ⊥) → 1 ≡ initialFault sh1 sh2 m
-  unfolding initialFault
-  initial-parted d = rw (ne-eqb _ _ (λ q. d (e ∙ q)))
+  pub initial-parted : (r ≡ sh2 .initial → ⊥) → (1 ≡ initialFault sh1 sh2 m) × (fault 1 0 0 ≡ firstInitial sh1 sh2 m)
+  unfolding initialFault firstInitial
+  initial-parted d = rw (ne-eqb _ _ (λ q. d (e ∙ q))) (refl, refl)
 
 -- the place of the mapped hop tells whether graph 2 has it
 module _ (h1 h2 m : List ℕ) (ready : Ready h2) (i : ℕ) {p : ℕ} (e : p ≡ imageOf h1 h2 m i) where
@@ -58,3 +60,13 @@ module _ (h1 h2 m : List ℕ) (ready : Ready h2) (i : ℕ) {p : ℕ} (e : p ≡ 
     or-false : (b : Bool) → b ≡ (b || false)
     or-false true = refl
     or-false false = refl
+
+-- the first hop that is lost, by its place, or none
+module _ (h1 h2 m : List ℕ) {p n : ℕ} (e : p ≡ lostPlace h1 h2 m) (en : n ≡ count h1) where
+  pub lost-first : p < n → fault 2 p 0 ≡ firstLost h1 h2 m
+  unfolding firstLost
+  lost-first l = rw (← e, ← en, lt-ltb p n l)
+
+  pub lost-none : n ≤ p → {f : Fault} → f ≡ noFault → f ≡ firstLost h1 h2 m
+  unfolding firstLost
+  lost-none l d = rw (← e, ← en, le-ltb p n l) d

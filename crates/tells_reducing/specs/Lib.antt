@@ -1,1 +1,1 @@
-pub mod Numbers  -- the figures of reduce and of the audit
+pub mod Numbers  -- the figures of reduce

@@ -1,10 +1,7 @@
-// Reduce and audit, as the entries for C and Rust tell them: capi exports these functions unchanged. Each finds the entry's answer and tells it; reduce
-// leaves the map and the short hops alone where the answer slice is too short.
-// Stands on quotient (reduce), bisimulation (audit) and answers (what is told and returned).
+// Reduce, as the entry for C and Rust tells it: capi exports the function unchanged. It finds the entry's answer and tells it, and leaves the map and the
+// short hops alone where the answer slice is too short. Stands on quotient (reduce) and answers (what is told and returned).
 use answers::short_number;
 use answers::tell;
-use answers::tell_figure;
-use bisimulation::auditing::audit;
 use graph::Shape;
 use quotient::Reduction;
 use quotient::entry::reduce;
@@ -12,10 +9,8 @@ use quotient::entry::reduce_answer;
 ghost use mathlib.Core.Path.{_≡_};
 ghost use lib.ListN.{length};
 ghost use Rattle.quotient.specs.Reduce.{reduceAnswer, reduceOf, mapOutput, shortOutput};
-ghost use Rattle.fitting.specs.Fitting.{auditAnswer};
-ghost use Rattle.bisimulation.specs.Auditing.{auditOf};
 ghost use Rattle.answers.specs.Numbers.{shapeOf, returned, told, unlessShort};
-ghost use Rattle.tells_reducing.specs.Numbers.{reductionNumbers, auditNumbers};
+ghost use Rattle.tells_reducing.specs.Numbers.{reductionNumbers};
 
 // An answer, and the short graph's counts and initial state.
 fn tell_reduction(out: &mut [u64], reduction: Reduction) -> u32
@@ -77,41 +72,4 @@ pub fn tell_reduce(
     }
     let reduction = reduce(shape, hops, map, short);
     tell_reduction(answer, reduction)
-}
-
-pub fn tell_audit(
-    states1: u32,
-    labels1: u32,
-    initial1: u32,
-    hops1: &[u16],
-    states2: u32,
-    labels2: u32,
-    initial2: u32,
-    hops2: &[u16],
-    map: &[u16],
-    answer: &mut [u64],
-) -> u32
-    ensures returns { λ r. ⌜ r ≡
-        returned
-        (auditAnswer (shapeOf states1 labels1 initial1) (shapeOf states2 labels2 initial2) (now (hops1 .entry)) (now (hops2 .entry)) (now (map .entry)))
-        4
-        (length (now (answer .entry))) ⌝ }
-    ensures tells { λ r. ⌜ now (answer .exit) ≡
-        told 4
-        (auditNumbers
-        (auditOf (shapeOf states1 labels1 initial1) (shapeOf states2 labels2 initial2) (now (hops1 .entry)) (now (hops2 .entry)) (now (map .entry))))
-        (now (answer .entry)) ⌝ }
-{
-    let shape1 = Shape {
-        states: states1,
-        labels: labels1,
-        initial: initial1,
-    };
-    let shape2 = Shape {
-        states: states2,
-        labels: labels2,
-        initial: initial2,
-    };
-    let audited = audit(shape1, hops1, shape2, hops2, map);
-    tell_figure(answer, audited.answer, audited.faults as u64)
 }

@@ -1,30 +1,28 @@
--- Going over the hops of one state only, by the table of first places: what that ticks, and that no other hop of graph 2 can count.
--- Assumes nothing.
-use Prim.Native.Nat.{ℕ, zero, suc, _+_, _<_, _≤_}
+-- Going over the hops of one state only, by the table of first places: what that ticks. Assumes nothing.
+use Prim.Native.Nat.{ℕ, _+_, _<_, _≤_}
 use mathlib.Core.Path.{_≡_, sym, ap, _∙_}
 use mathlib.Core.Bool.{Bool, true, false, cond, _&&_}
 use mathlib.Core.List.{List}
 use mathlib.Core.Logic.{⊎-elim}
-use native.Mathlib.Nat.{eq-or-lt-of-le, le-refl}
+use native.Mathlib.Nat.{le-refl}
 use native.Mathlib.Omega.{arith}
-use borrow.Author.Tests.{ne-eqb, ltb-false, le-ltb}
 use lib.ListN.{length, getD, set}
 use lib.Dec.{eqb}
-use Rattle.below.specs.Tests.{any, tally}
+use Rattle.below.specs.Tests.{any}
 use Rattle.graph.specs.Hops.{count, from}
 use Rattle.graph.specs.Order.{Ascending}
 use Rattle.graph.specs.Search.{firstOf, pastOf}
 use Rattle.limits.specs.Check.{InRange}
 use Rattle.graph.specs.declared.Shape.{Shape}
 use Rattle.below.proofs.Bools.{clash, lt-or-le, same-test, and-no-left}
-use Rattle.below.proofs.Tests.{any-found, any-at, tally-zero}
-use Rattle.graph.proofs.Lookup.{first-law, first-within, range-only}
-use Rattle.starts.proofs.Firsts.{first-below, first-is, first-next}
+use Rattle.below.proofs.Tests.{any-found, any-at}
+use Rattle.graph.proofs.Lookup.{first-within, range-only}
+use Rattle.starts.proofs.Firsts.{first-is, first-next}
 use Rattle.starts.specs.Starts.{Ready}
 use Rattle.reaching.specs.Front.{noted}
 use Rattle.graph.specs.Map.{mapped}
 use Rattle.faults.specs.Images.{Imaged}
-use Rattle.ticks.specs.Ticks.{seenInClass, ticks, TickedBy, TickedOn, unticked}
+use Rattle.ticks.specs.Ticks.{seenInClass, ticks, TickedBy, TickedOn}
 use Rattle.ticks.proofs.Ticking.{ticked-none, ticked-more}
 
 -- a test that fails from lo on
@@ -33,15 +31,6 @@ module _ (p : ℕ → Bool) {lo : ℕ} where
   any-rest n l f = same-test (any n p) (any lo p) there (λ e. let (i, k, d) = any-at p lo e in any-found p n (omega arith) d) where
     there : any n p ≡ true → any lo p ≡ true
     there e = let (i, k, d) = any-at p n e in ⊎-elim (λ h. any-found p lo h d) (λ h. clash d (f i h k)) (lt-or-le i lo)
-
-  tally-rest : (n : ℕ) → lo ≤ n → ((j : ℕ) → lo ≤ j → j < n → p j ≡ false) → tally n p ≡ tally lo p
-  unfolding tally
-  tally-rest zero l f = let q : lo ≡ 0 = omega arith in rw q
-  tally-rest (suc n) l f =
-      ⊎-elim (λ q. rw q) (λ m. further (f n (omega arith) (le-refl (suc n))) (tally-rest n (omega arith) (λ j a b. f j a (omega arith))))
-      (eq-or-lt-of-le l) where
-        further : p n ≡ false → tally n p ≡ tally lo p → cond (p n) 1 0 + tally n p ≡ tally lo p
-        further e h = rw e (omega arith)
 
 module _ (h1 h2 m seen : List ℕ) (r k : ℕ) where
   -- the first place of all, and the last
@@ -87,18 +76,3 @@ module _ (h1 h2 m seen : List ℕ) (r k : ℕ) where
   pub on-done : (before after : List ℕ) (lo : ℕ) {i hi : ℕ} → i ≤ hi → hi ≤ i → TickedOn h1 h2 m seen r k lo i before after →
       TickedOn h1 h2 m seen r k lo hi before after
   on-done before after lo {i} {hi} a b t = let q : hi ≡ i = omega arith in rw q t
-
--- the hops of r are all that count
-module _ (h2 stamps : List ℕ) (up : Ascending h2) (r k : ℕ) where
-  not-of : (j : ℕ) → (r ≡ from h2 j → ⊥) → unticked h2 stamps r k j ≡ false
-  unfolding unticked
-  not-of j d = and-no-left _ (ne-eqb r (from h2 j) d)
-
-  pub unticked-before : 0 ≡ tally (firstOf h2 r) (unticked h2 stamps r k)
-  unticked-before = sym (tally-zero (unticked h2 stamps r k) (firstOf h2 r) (λ j l. not-of j (λ q. omega (arith, first-below h2 up r l))))
-
-  pub unticked-after : tally (firstOf h2 (r + 1)) (unticked h2 stamps r k) ≡ tally (count h2) (unticked h2 stamps r k)
-  unticked-after =
-      sym (tally-rest (unticked h2 stamps r k) (count h2) (first-within h2 up (r + 1)) (λ j lo l. not-of j (λ q. omega (arith, beyond lo l)))) where
-        beyond : {j : ℕ} → firstOf h2 (r + 1) ≤ j → j < count h2 → r + 1 ≤ from h2 j
-        beyond {j} lo l = ltb-false (from h2 j) (r + 1) (sym (first-law h2 up (r + 1) l) ∙ le-ltb j (firstOf h2 (r + 1)) lo)

@@ -12,6 +12,7 @@ use Rattle.quotient.specs.Reduce.{markedTo, markedMap, markedHops, markedShape}
 use Rattle.quotient.proofs.Reduced.{map-inside, short-admitted, short-reduces}
 use Rattle.graph.specs.Map.{mapped}
 use Rattle.faults.specs.Faults.{faultsOf}
+use Rattle.faults.proofs.Naming.{none-named}
 use Rattle.bisimulation.specs.Bisimulation.{BranchingBisimulation, MapRelation, JoinsInitial}
 use Rattle.bisimulation.specs.Auditing.{auditOf}
 use Rattle.bisimulation.proofs.Meaning.{zero-means, reduces-zero}
@@ -45,7 +46,8 @@ module _ {sh : Shape} {hs : List ℕ} (red : Reducible sh hs) where
   pub reduce-right : auditOf sh (markedShape sh hs) hs (flat (markedHops sh hs)) (markedMap sh hs) ≡ faultless
   reduce-right =
       sym (audit-counts sh (markedShape sh hs) hs (flat (markedHops sh hs)) (markedMap sh hs)
-      (sym (audited-answer sh (markedShape sh hs) hs (flat (markedHops sh hs)) (markedMap sh hs) reduced-audited)) refl (sym reduced-zero))
+      (sym (audited-answer sh (markedShape sh hs) hs (flat (markedHops sh hs)) (markedMap sh hs) reduced-audited)) refl (sym reduced-zero)
+      (none-named sh (markedShape sh hs) hs (flat (markedHops sh hs)) (markedMap sh hs) reduced-zero))
 
   -- so the map is one of Definition 2.4
   pub reduce-bisimulation :

@@ -8,6 +8,7 @@ use Rattle.graph.specs.Hops.{between}
 use Rattle.graph.specs.Answers.{accepted}
 use Rattle.graph.specs.declared.Shape.{Shape}
 use Rattle.quotient.specs.declared.Reduction.{Reduction}
+use Rattle.faults.specs.First.{noFault}
 use Rattle.bisimulation.specs.Auditing.{auditOf}
 use Rattle.bisimulation.specs.declared.Audit.{Audit}
 
@@ -17,8 +18,8 @@ use Rattle.bisimulation.specs.declared.Audit.{Audit}
 unfoldable pub auditLeft : Shape → List ℕ → Reduction → List ℕ → List ℕ → Audit
 auditLeft sh hs red map short =
     cond (eqb (red .answer .number) 0) (auditOf sh (red .shape) hs (between short 0 (red .hops)) (take (sh .states) map))
-    (record { answer = red .answer; faults = 0 })
+    (record { answer = red .answer; faults = 0; first = noFault })
 
--- accepted, and no fault
+-- accepted, no fault counted, and none named
 abbrev pub faultless : Audit
-faultless = record { answer = accepted; faults = 0 }
+faultless = record { answer = accepted; faults = 0; first = noFault }

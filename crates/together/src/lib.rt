@@ -3,6 +3,7 @@
 // and on the audit.
 use bisimulation::Audit;
 use bisimulation::auditing::audit;
+use faults::first::no_fault;
 use graph::Shape;
 use graph::hops::part;
 use quotient::Reduction;
@@ -55,7 +56,11 @@ pub fn reduce_and_audit(
     let reduction = reduce(shape, hops, map, short);
     let answer = reduction.answer;
     if answer.number != 0 {
-        let audit = Audit { answer, faults: 0 };
+        let audit = Audit {
+            answer,
+            faults: 0,
+            first: no_fault(),
+        };
         return AuditedReduction { reduction, audit };
     }
     let audit = audit_reduction(shape, hops, reduction, map, short);

@@ -17,13 +17,15 @@ use Rattle.insertion.specs.Insertion.{insert, collected}
 use Rattle.short.specs.Short.{gathered, shortHops, shortShape, mapList}
 use Rattle.quotient.specs.Reduce.{reduceAnswer, reduceOf}
 use Rattle.faults.specs.Faults.{initialFault, kept, lostFaults, offers, backed, matched, madeUp, madeUpFaults, faultsOf}
+use Rattle.faults.specs.First.{firstInitial, lostPlace, firstLost, madeUpPlace, madeUpState, firstMadeUp, firstFault}
 use Rattle.fitting.specs.Fitting.{firstHigh, mapFits, auditAnswer}
 use Rattle.bisimulation.specs.Auditing.{auditOf}
+use Rattle.finding.specs.Finding.{hopsBefore, findOf}
 use Rattle.worked.specs.Table.{tableOf, table, outcomeOf, fallsIn}
 
 pub given : tableOf table ≡ table
 unfolding
     all any least listed tally total flat is labelled has before checkOf countsFit inside firstOutside rises firstFalling leadsBy onRing lowestOnRing ringless
     leftAfter survives marked closes tried answered answers hopAnswers answer closing marksOf markOf markAnswer fell standing reached shaken due testsIn testsUpTo testsOf countedOf markedFrom resting onward followed repOf newOf mapOf
-    insert collected gathered shortHops shortShape mapList initialFault kept lostFaults offers backed matched madeUp madeUpFaults faultsOf reduceAnswer reduceOf firstHigh mapFits auditAnswer auditOf outcomeOf fallsIn
+    insert collected gathered shortHops shortShape mapList initialFault kept lostFaults offers backed matched madeUp madeUpFaults faultsOf firstInitial lostPlace firstLost madeUpPlace madeUpState firstMadeUp firstFault reduceAnswer reduceOf firstHigh mapFits auditAnswer auditOf hopsBefore findOf outcomeOf fallsIn
 given = refl

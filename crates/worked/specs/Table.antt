@@ -1,4 +1,4 @@
--- "Graphs worked by hand": P1 to P10 as one table, and what the definitions give for the same graphs. Two rows are ours, and say so. Assumes nothing:
+-- "Graphs worked by hand": P1 to P10 as one table, and what the definitions give for the same graphs. Some rows are ours, and say so. Assumes nothing:
 -- these are definitions.
 use Prim.Native.Nat.{ℕ}
 use mathlib.Core.Bool.{cond, not, _&&_}
@@ -16,8 +16,12 @@ use Rattle.marks.specs.Mark.{marksMade, markAnswer}
 use Rattle.fast.specs.Fast.{countedOf}
 use Rattle.quotient.specs.Reduce.{markedMap, markedHops, reduceOf}
 use Rattle.quotient.specs.declared.Reduction.{Reduction}
+use Rattle.faults.specs.First.{fault, noFault}
+use Rattle.faults.specs.declared.Fault.{Fault}
 use Rattle.bisimulation.specs.Auditing.{auditOf}
 use Rattle.bisimulation.specs.declared.Audit.{Audit}
+use Rattle.finding.specs.Finding.{findOf}
+use Rattle.finding.specs.declared.Finding.{Finding}
 
 -- a hop as document 01 writes it; a state count, a label count and an initial state, and the same with initial state 0
 abbrev pub hop : ℕ → ℕ → ℕ → Hop
@@ -50,6 +54,13 @@ pub record Audited : Type 0 where
   pub map : List ℕ
   pub audit : Audit
 
+-- what is said of a search: the graph, the hop that is sought, and what `find` returns
+pub record Sought : Type 0 where
+  pub graph : Shape
+  pub hops : List Hop
+  pub hop : Hop
+  pub finding : Finding
+
 pub record Entry : Type 0 where
   pub graph : Shape
   pub hops : List Hop
@@ -58,6 +69,7 @@ pub record Entry : Type 0 where
 pub record Table : Type 0 where
   pub graphs : List Entry
   pub audits : List Audited
+  pub searches : List Sought
 
 -- the definitions' own account of a graph; nothing is said past a refusal
 unfoldable pub fallsIn : List ℕ → ℕ → ℕ
@@ -103,8 +115,16 @@ auditedOf a = record {
   audit = auditOf (a .shape1) (a .shape2) (flat (a .hops1)) (flat (a .hops2)) (a .map);
 }
 
+abbrev pub soughtOf : Sought → Sought
+soughtOf q = record {
+  graph = q .graph;
+  hops = q .hops;
+  hop = q .hop;
+  finding = findOf (q .graph) (flat (q .hops)) (q .hop .from) (q .hop .label) (q .hop .to);
+}
+
 abbrev pub tableOf : Table → Table
-tableOf t = record { graphs = map entryOf (t .graphs); audits = map auditedOf (t .audits) }
+tableOf t = record { graphs = map entryOf (t .graphs); audits = map auditedOf (t .audits); searches = map soughtOf (t .searches) }
 
 -- the hop lists, in ascending order
 abbrev p1 : List Hop
@@ -146,10 +166,14 @@ accepts m f k t sh n s = record {
   short = s;
 }
 
-abbrev finds : ℕ → Audit
-finds n = record { answer = accepted; faults = n }
+abbrev finds : ℕ → Fault → Audit
+finds n f = record { answer = accepted; faults = n; first = f }
 
--- document 01's figures, and document 02's of wish 10
+-- a hop of P1 that is sought: found 1 or 0, and the place
+abbrev inP1 : Hop → ℕ → ℕ → Sought
+inP1 h n p = record { graph = shape 4 2; hops = p1; hop = h; finding = record { answer = accepted; found = n; place = p } }
+
+-- document 01's figures, and document 02's of wishes 3 and 10
 abbrev pub table : Table
 table = record {
   graphs =
@@ -200,17 +224,37 @@ table = record {
       [];
   -- P9: P1 with its result; with the short hop taken out; with (1,1,1) added to the short graph
   audits =
-      record { shape1 = shape 4 2; hops1 = p1; shape2 = shape 2 2; hops2 = hop 0 1 1 ∷ []; map = 0 ∷ 0 ∷ 1 ∷ 1 ∷ []; audit = finds 0 } ∷
-      record { shape1 = shape 4 2; hops1 = p1; shape2 = shape 2 2; hops2 = []; map = 0 ∷ 0 ∷ 1 ∷ 1 ∷ []; audit = finds 2 } ∷
+      record { shape1 = shape 4 2; hops1 = p1; shape2 = shape 2 2; hops2 = hop 0 1 1 ∷ []; map = 0 ∷ 0 ∷ 1 ∷ 1 ∷ []; audit = finds 0 noFault } ∷
+      record { shape1 = shape 4 2; hops1 = p1; shape2 = shape 2 2; hops2 = []; map = 0 ∷ 0 ∷ 1 ∷ 1 ∷ []; audit = finds 2 (fault 2 1 0) } ∷
       record {
         shape1 = shape 4 2;
         hops1 = p1;
         shape2 = shape 2 2;
         hops2 = hop 0 1 1 ∷ hop 1 1 1 ∷ [];
         map = 0 ∷ 0 ∷ 1 ∷ 1 ∷ [];
-        audit = finds 2;
+        audit = finds 2 (fault 3 1 2);
       } ∷
       -- ours: the same begun in state 2, with a short graph that begins in its state 0 and not in 1, the map of 2
-      record { shape1 = shapeFrom 4 2 2; hops1 = p1; shape2 = shape 2 2; hops2 = hop 0 1 1 ∷ []; map = 0 ∷ 0 ∷ 1 ∷ 1 ∷ []; audit = finds 1 } ∷
+      record { shape1 = shapeFrom 4 2 2; hops1 = p1; shape2 = shape 2 2; hops2 = hop 0 1 1 ∷ []; map = 0 ∷ 0 ∷ 1 ∷ 1 ∷ []; audit = finds 1 (fault 1 0 0) } ∷
+      -- ours: a fault of each kind, (1,1,1) for the short hop, and the first is that of the initial states
+      record { shape1 = shapeFrom 4 2 2; hops1 = p1; shape2 = shape 2 2; hops2 = hop 1 1 1 ∷ []; map = 0 ∷ 0 ∷ 1 ∷ 1 ∷ []; audit = finds 5 (fault 1 0 0) } ∷
+      -- ours: a later state has the fault of an earlier hop, and that is the first
+      record {
+        shape1 = shape 2 3;
+        hops1 = hop 0 1 0 ∷ hop 1 2 1 ∷ [];
+        shape2 = shape 1 3;
+        hops2 = hop 0 1 0 ∷ hop 0 2 0 ∷ [];
+        map = 0 ∷ 0 ∷ [];
+        audit = finds 2 (fault 3 0 1);
+      } ∷
+      [];
+  -- ours: hops of P1; a hop that it has not, which would stand between two, before all or behind all; and numbers that no graph has
+  searches =
+      inP1 (hop 0 0 1) 1 0 ∷
+      inP1 (hop 2 0 3) 1 3 ∷
+      inP1 (hop 1 0 3) 0 2 ∷
+      inP1 (hop 0 0 0) 0 0 ∷
+      inP1 (hop 3 0 0) 0 4 ∷
+      inP1 (hop 0 70000 0) 0 2 ∷
       [];
 }

@@ -38,7 +38,8 @@ pub fn table(old: &str, new: &str) {
         [("old", old), ("new", new)].map(|(name, archive)| PLACES.map(|place| loaded(&linked(&folder, name, Path::new(archive), place))));
     let ratios: RefCell<BTreeMap<String, Vec<f64>>> = RefCell::default();
     let take = |row: &Row| {
-        if asked(row.entry, row.input) {
+        let both_have = row.entry != "find" || old.iter().chain(&new).all(Archive::finds);
+        if both_have && asked(row.entry, row.input) {
             ratios.borrow_mut().entry(row.entry.to_string()).or_default().push(beside(row, &old, &new));
         }
     };
@@ -95,10 +96,6 @@ fn loaded(object: &Path) -> Archive {
     unsafe {
         let opened = dlopen(text(object.to_str().expect("a folder with a plain name")).as_ptr(), RTLD_NOW);
         assert!(!opened.is_null(), "{} cannot be loaded", object.display());
-        Archive::at(|name| {
-            let address = dlsym(opened, text(name).as_ptr());
-            assert!(!address.is_null(), "{} has no {name}", object.display());
-            address
-        })
+        Archive::at(|name| dlsym(opened, text(name).as_ptr()))
     }
 }

@@ -286,6 +286,23 @@ pub fn worst_audits() -> Vec<(Named, Graph, Vec<u16>)> {
     ]
 }
 
+/// For the audit: as many faults as there can be; and a silent ring of 1,020 states in one class, one of which has 3,068 hops to four other states and so answers that
+/// many hops of the class for all of them, behind which come some that none answers.
+pub fn faulty_audits() -> Vec<(Named, Graph, Vec<u16>)> {
+    let most = graph("4,198,401 faults", 1024, 6, (0..4096).map(|i| [i / 4, 1, i % 4]));
+    let most_two = graph_of(1024, 6, (0..4096).map(|i| [0, 2 + i / 1024, i % 1024]));
+    let ring = || (0..1020).map(|s| [s, 0, (s + 1) % 1020]);
+    let row = |labels: u16, others: u16| (1..labels).flat_map(move |a| (0..4).map(move |i| [0, a, others + i]));
+    let one = |name| graph(name, 1024, 1024, ring().chain(row(768, 1020)));
+    let map: Vec<u16> = [vec![0; 1020], vec![1, 2, 3, 4]].concat();
+    vec![
+        (most, Graph { initial: 1, ..most_two }, vec![0; 1024]),
+        (one("ring in one class, 3,068 hops answered"), graph_of(5, 1024, row(768, 1)), map.clone()),
+        (one("ring in one class, 3,068 hops answered and the last one not"), graph_of(5, 1024, row(768, 1).chain([[0, 768, 0]])), map.clone()),
+        (one("ring in one class, 3,068 hops answered and 1,024 not"), graph_of(5, 1024, row(1024, 1)), map),
+    ]
+}
+
 /// For the round question: states with silent hops between most or all of them; each also has a visible hop, tried last, that nothing answers.
 pub fn dense_rounds() -> Vec<Named> {
     let most = (0..64).flat_map(|s| (0..64).filter(move |&t| s != t && (s * 5 + t * 3) % 61 != 1).map(move |t| [s, 0, t]));

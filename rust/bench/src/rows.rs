@@ -1,6 +1,6 @@
 //! The rows that are timed: entries on inputs.
 
-use crate::inputs::{self, Named};
+use crate::inputs::{self, Named, Random};
 use crate::timing::Outputs;
 use crate::{made, marking, names};
 use differential::entries::{Entries, Graph, Plain};
@@ -31,6 +31,7 @@ pub fn all(take: Take) {
     for Named { name, graph } in &graphs {
         row(take, "check", name, Some(graph), &|e, o| e.check(graph, &mut o.answer));
     }
+    finds(take, &graphs);
     graphs.iter().for_each(|input| mark(take, input, Some(&input.graph)));
     markings.iter().chain(&long).for_each(|input| mark(take, input, None));
     for Named { name, graph } in &graphs {
@@ -48,6 +49,28 @@ pub fn mark_fast(take: Take) {
     }
 }
 
+/// The hop in the middle of each graph; and of a full list hops at its ends, one that is not there, and many in no order, so that no search can be foreseen.
+fn finds(take: Take, graphs: &[Named]) {
+    let hop = |graph: &Graph, place: usize| [0, 1, 2].map(|i| u32::from(graph.hops[3 * place + i]));
+    for Named { name, graph } in graphs {
+        let middle = hop(graph, graph.hops.len() / 6);
+        row(take, "find", name, Some(graph), &|e, o| e.find(graph, middle, &mut o.answer));
+    }
+    let full = inputs::longest().graph;
+    let last = full.hops.len() / 3 - 1;
+    let ends = [("the first", hop(&full, 0)), ("the last", hop(&full, last)), ("one before all", [0; 3]), ("one out of range", [u32::MAX; 3])];
+    for (which, asked) in ends {
+        row(take, "find", &format!("4,096 hops, {which}"), Some(&full), &|e, o| e.find(&full, asked, &mut o.answer));
+    }
+    let mut random = Random::new();
+    let strewn: Vec<[u32; 3]> = (0..64).map(|_| hop(&full, random.below(4096).into())).collect();
+    row(take, "find", "4,096 hops, 64 of them one after the other, at random", None, &|e, o| {
+        strewn.iter().map(|&asked| e.find(&full, asked, &mut o.answer)).sum()
+    });
+    let few = Graph { states: 4, labels: 2, initial: 0, hops: vec![0, 0, 1, 0, 1, 2, 1, 1, 3, 2, 0, 3] };
+    row(take, "find", "P1, the last", Some(&few), &|e, o| e.find(&few, [2, 0, 3], &mut o.answer));
+}
+
 fn mark(take: Take, Named { name, graph }: &Named, checked: Option<&Graph>) {
     let plain = &|o: &mut Outputs| marking::plain_rounds(graph, o);
     take(&Row { entry: "mark", input: name, checked, plain, call: &|e, o| e.mark(graph, &mut o.marks, &mut o.answer) });
@@ -62,7 +85,11 @@ fn audits(take: Take, graphs: &[Named]) {
         let map: Vec<u16> = (0..graph.states as u16).collect();
         row(take, "audit with itself", name, Some(graph), &|e, o| e.audit(graph, graph, &map, &mut o.answer));
     }
-    for (Named { name, graph: one }, two, map) in &inputs::worst_audits() {
+    for Named { name, graph } in graphs {
+        let map = Random::new().shuffled(graph.states as u16);
+        row(take, "audit by a map at random", name, Some(graph), &|e, o| e.audit(graph, graph, &map, &mut o.answer));
+    }
+    for (Named { name, graph: one }, two, map) in inputs::worst_audits().iter().chain(&inputs::faulty_audits()) {
         row(take, "audit", name, None, &|e, o| e.audit(one, two, map, &mut o.answer));
     }
 }

@@ -1,4 +1,4 @@
-//! The graph, checks 1 to 4, and the hops of a state.
+//! The graph, checks 1 to 4, the search for a hop, and the hops of a state.
 
 use crate::{refuse, Answer, Refusal};
 
@@ -65,6 +65,17 @@ pub fn check(graph: &Graph) -> Answer {
         Ok(()) => Answer::accepted(vec![]),
         Err(refusal) => Answer::refused(refusal, 0),
     }
+}
+
+/// The entry find: "one search that tells whether a graph has a given hop should also return its place, or where it would stand". Figures: 1 or 0, and the place,
+/// which either way is the number of hops that come before the given one.
+pub fn find(graph: &Graph, from: u64, label: u64, to: u64) -> Answer {
+    if let Err(refusal) = graph.check_1_to_4(1) {
+        return Answer::refused(refusal, 2);
+    }
+    let (hops, given) = (graph.hop_list(), Hop { from, label, to });
+    let before = hops.iter().filter(|h| (h.from, h.label, h.to) < (from, label, to)).count();
+    Answer::accepted(vec![u64::from(hops.contains(&given)), before as u64])
 }
 
 /// The entry hops of a state: where the part starts and how many numbers it has; 0 and 0 for the empty part.

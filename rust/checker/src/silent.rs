@@ -288,15 +288,35 @@ fn classes_of(graph: &Admitted, u: &Pairs) -> Vec<usize> {
     class
 }
 
-/// The entry audit. One figure: the fault count.
+/// A fault by the figures that name it: "its kind 1, 2 or 3 in document 01's order, the hop's place in its graph, and the state for kind 3; figures a kind lacks are
+/// 0". Which comes first: kinds, and "within a kind, hops come in list order, then states ascending", the order of the figures.
+#[derive(Clone, Copy, Debug, PartialEq, Eq, PartialOrd, Ord)]
+pub struct Fault {
+    /// 1 the initial states, 2 a hop of graph 1 that graph 2 lacks, 3 a hop of graph 2 that a state of graph 1 does not answer.
+    pub kind: u64,
+    /// The hop's place in its graph.
+    pub place: u64,
+    /// The state of graph 1.
+    pub state: u64,
+}
+
+/// The entry audit. Figures: the fault count; kind, place and state of the first fault, 0 with none.
 pub fn audit(graph1: &Graph, graph2: &Graph, map: &[u16]) -> Answer {
+    audit_and_faults(graph1, graph2, map).0
+}
+
+/// The entry audit, and all faults in no order.
+pub fn audit_and_faults(graph1: &Graph, graph2: &Graph, map: &[u16]) -> (Answer, Vec<Fault>) {
     match try_audit(graph1, graph2, map) {
-        Ok(faults) => Answer::accepted(vec![faults]),
-        Err(refusal) => Answer::refused(refusal, 1),
+        Ok(faults) => {
+            let first = faults.iter().min().copied().unwrap_or(Fault { kind: 0, place: 0, state: 0 });
+            (Answer::accepted(vec![faults.len() as u64, first.kind, first.place, first.state]), faults)
+        }
+        Err(refusal) => (Answer::refused(refusal, 4), vec![]),
     }
 }
 
-fn try_audit(graph1: &Graph, graph2: &Graph, map: &[u16]) -> Result<u64, Refusal> {
+fn try_audit(graph1: &Graph, graph2: &Graph, map: &[u16]) -> Result<Vec<Fault>, Refusal> {
     graph1.check_1_to_4(1)?;
     graph2.check_1_to_4(2)?;
     if graph1.labels != graph2.labels {
@@ -310,26 +330,30 @@ fn try_audit(graph1: &Graph, graph2: &Graph, map: &[u16]) -> Result<u64, Refusal
     }
     let map: Vec<u64> = map.iter().map(|&m| m.into()).collect();
     let (one, two) = (Admitted::new(graph1), Admitted::new(graph2));
+    let mut faults = vec![];
 
     // "1 if the map of initial state 1 is not initial state 2"
-    let first = u64::from(map[graph1.initial as usize] != graph2.initial);
+    if map[graph1.initial as usize] != graph2.initial {
+        faults.push(Fault { kind: 1, place: 0, state: 0 });
+    }
 
     // "1 for each hop s, a, t of graph 1, unless a is silent and map(s) = map(t), or graph 2 has the hop map(s), a, map(t)"
-    let second = one
-        .list
-        .iter()
-        .filter(|h| {
-            let (s, t) = (map[h.from as usize], map[h.to as usize]);
-            !((h.label == 0 && s == t) || two.has(s, h.label, t))
-        })
-        .count() as u64;
+    for (place, h) in (0..).zip(&one.list) {
+        let (s, t) = (map[h.from as usize], map[h.to as usize]);
+        if !((h.label == 0 && s == t) || two.has(s, h.label, t)) {
+            faults.push(Fault { kind: 2, place, state: 0 });
+        }
+    }
 
     // "1 for each pair of a hop r, a, q of graph 2 and a state s with map(s) = r, unless a is silent and r = q, or s leads by zero or more silent
     // hops to some u with map(u) = r that has a hop a to some t with map(t) = q"
-    let mut third = 0;
+    let mut places_of = vec![vec![]; two.states];
+    for (place, hop) in (0..).zip(&two.list) {
+        places_of[hop.from as usize].push((place, hop));
+    }
     for s in 0..one.states {
         let r = map[s];
-        if two.leaving[r as usize].is_empty() {
+        if places_of[r as usize].is_empty() {
             continue;
         }
         let reached = one.leads_to(s as u64);
@@ -338,12 +362,12 @@ fn try_audit(graph1: &Graph, graph2: &Graph, map: &[u16]) -> Result<u64, Refusal
             .filter(|&u| reached[u] && map[u] == r)
             .flat_map(|u| one.leaving[u].iter().map(|h| (h.label, map[h.to as usize])))
             .collect();
-        for hop in &two.leaving[r as usize] {
+        for &(place, hop) in &places_of[r as usize] {
             let (a, q) = (hop.label, hop.to);
             if !((a == 0 && r == q) || offered.contains(&(a, q))) {
-                third += 1;
+                faults.push(Fault { kind: 3, place, state: s as u64 });
             }
         }
     }
-    Ok(first + second + third)
+    Ok(faults)
 }

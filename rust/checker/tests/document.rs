@@ -83,9 +83,10 @@ fn p7_and_p8() {
 fn p9() {
     let one = graph(4, 2, &P1);
     let map = [0, 0, 1, 1];
-    assert_eq!(audit(&one, &graph(2, 2, &[0, 1, 1]), &map).numbers(), [0, 1, 0, 0]);
-    assert_eq!(audit(&one, &graph(2, 2, &[]), &map).numbers(), [0, 1, 0, 2]);
-    assert_eq!(audit(&one, &graph(2, 2, &[0, 1, 1, 1, 1, 1]), &map).numbers(), [0, 1, 0, 2]);
+    assert_eq!(audit(&one, &graph(2, 2, &[0, 1, 1]), &map).numbers(), [0, 1, 0, 0, 0, 0, 0]);
+    // W3.5
+    assert_eq!(audit(&one, &graph(2, 2, &[]), &map).numbers(), [0, 1, 0, 2, 2, 1, 0]);
+    assert_eq!(audit(&one, &graph(2, 2, &[0, 1, 1, 1, 1, 1]), &map).numbers(), [0, 1, 0, 2, 3, 1, 2]);
 }
 
 #[test]
@@ -208,18 +209,38 @@ fn the_order_of_nine_and_ten() {
 fn audit_through_other_classes() {
     let one = graph(3, 2, &[0, 0, 1, 1, 0, 2, 2, 1, 2]);
     let two = graph(2, 2, &[0, 0, 1, 0, 1, 0, 1, 0, 0]);
-    assert_eq!(audit(&one, &two, &[0, 1, 0]).numbers(), [0, 1, 0, 1]);
+    assert_eq!(audit(&one, &two, &[0, 1, 0]).numbers(), [0, 1, 0, 1, 3, 0, 2]);
+}
+
+/// W3.2: kinds come first, whatever the places.
+#[test]
+fn the_first_fault_of_all_kinds() {
+    let one = graph(2, 2, &[0, 1, 1]);
+    let mapped = |two: &Graph, map: [u16; 2]| audit(&one, two, &map).figures;
+    assert_eq!(mapped(&one, [0, 1]), [0, 0, 0, 0]);
+    assert_eq!(mapped(&one, [1, 0]), [3, 1, 0, 0]);
+    assert_eq!(mapped(&Graph { initial: 1, ..one }, [1, 0]), [2, 2, 0, 0]);
+    assert_eq!(mapped(&Graph { initial: 1, ..one }, [1, 1]), [1, 2, 0, 0]);
+    assert_eq!(mapped(&graph(2, 2, &[0, 1, 0, 0, 1, 1]), [0, 1]), [1, 3, 0, 0]);
+}
+
+/// W3.3: the hop of graph 2 comes before the state, though the first state with a fault has it at a later hop.
+#[test]
+fn the_first_fault_of_kind_3_goes_by_hops() {
+    let one = graph(2, 3, &[0, 1, 0, 1, 2, 1]);
+    let two = graph(1, 3, &[0, 1, 0, 0, 2, 0]);
+    assert_eq!(audit(&one, &two, &[0, 0]).numbers(), [0, 1, 0, 2, 3, 0, 1]);
 }
 
 #[test]
 fn audit_refusals() {
     let good = graph(4, 2, &P1);
     let two = graph(2, 2, &[0, 1, 1]);
-    assert_eq!(audit(&graph(4, 1, &P1), &graph(2, 2, &[9, 9, 9]), &[]).numbers(), [3, 1, 1, 0]);
-    assert_eq!(audit(&good, &graph(2, 2, &[0, 1, 1, 0, 0, 0]), &[]).numbers(), [4, 2, 1, 0]);
-    assert_eq!(audit(&good, &graph(2, 3, &[0, 1, 1]), &[]).numbers(), [7, 1, 0, 0]);
-    assert_eq!(audit(&good, &two, &[9; 5]).numbers(), [8, 1, 5, 0]);
-    assert_eq!(audit(&good, &two, &[0, 1, 2, 9]).numbers(), [8, 1, 2, 0]);
+    assert_eq!(audit(&graph(4, 1, &P1), &graph(2, 2, &[9, 9, 9]), &[]).numbers(), [3, 1, 1, 0, 0, 0, 0]);
+    assert_eq!(audit(&good, &graph(2, 2, &[0, 1, 1, 0, 0, 0]), &[]).numbers(), [4, 2, 1, 0, 0, 0, 0]);
+    assert_eq!(audit(&good, &graph(2, 3, &[0, 1, 1]), &[]).numbers(), [7, 1, 0, 0, 0, 0, 0]);
+    assert_eq!(audit(&good, &two, &[9; 5]).numbers(), [8, 1, 5, 0, 0, 0, 0]);
+    assert_eq!(audit(&good, &two, &[0, 1, 2, 9]).numbers(), [8, 1, 2, 0, 0, 0, 0]);
 }
 
 /// The bound of the fault count is reached.
@@ -229,7 +250,37 @@ fn most_faults() {
     let two: Vec<u16> = (0..4096u16).flat_map(|i| [0, 2 + i / 1024, i % 1024]).collect();
     let g1 = graph(1024, 6, &one);
     let g2 = Graph { states: 1024, labels: 6, initial: 1, hops: &two };
-    assert_eq!(audit(&g1, &g2, &[0; 1024]).figures, [4_198_401]);
+    assert_eq!(audit(&g1, &g2, &[0; 1024]).figures, [4_198_401, 1, 0, 0]);
+}
+
+#[test]
+fn find_a_hop() {
+    let p1 = graph(4, 2, &P1);
+    let found = |from, label, to| find(&p1, from, label, to).numbers();
+    for (place, hop) in (0..).zip(p1.hop_list()) {
+        assert_eq!(found(hop.from, hop.label, hop.to), [0, 1, 0, 1, place]);
+    }
+    let gaps = [(0, 0, 0, 0), (0, 0, 2, 1), (0, 1, 1, 1), (0, 1, 3, 2), (1, 0, 3, 2), (1, 1, 2, 2), (2, 0, 0, 3), (2, 1, 0, 4), (3, 1, 3, 4)];
+    for (from, label, to, before) in gaps {
+        assert_eq!(found(from, label, to), [0, 1, 0, 0, before]);
+    }
+    // W3.6: a hop whose numbers are out of range is one that the graph hasn't
+    for high in [1024, 65_535, 65_536, 65_537, 4_294_967_295] {
+        assert_eq!(found(high, 0, 1), [0, 1, 0, 0, 4]);
+        assert_eq!(found(0, high, 1), [0, 1, 0, 0, 2]);
+        assert_eq!(found(0, 0, high), [0, 1, 0, 0, 1]);
+    }
+    assert_eq!(find(&graph(1, 1, &[]), 0, 0, 0).numbers(), [0, 1, 0, 0, 0]);
+}
+
+#[test]
+fn find_refusals() {
+    assert_eq!(find(&graph(1025, 2, &P1), 0, 0, 1).numbers(), [1, 1, 0, 0, 0]);
+    assert_eq!(find(&Graph { states: 4, labels: 2, initial: 4, hops: &P1 }, 0, 0, 1).numbers(), [2, 1, 0, 0, 0]);
+    assert_eq!(find(&graph(3, 2, &P1), 0, 0, 1).numbers(), [3, 1, 2, 0, 0]);
+    assert_eq!(find(&graph(4, 2, &[0, 0, 1, 0, 0, 1]), 0, 0, 1).numbers(), [4, 1, 1, 0, 0]);
+    // a ring is no matter
+    assert_eq!(find(&graph(1, 1, &[0, 0, 0]), 0, 0, 0).numbers(), [0, 1, 0, 1, 0]);
 }
 
 #[test]

@@ -4,6 +4,7 @@ use crate::entries::{Entries, Graph};
 use std::ffi::c_void;
 
 type Check = unsafe extern "C" fn(u32, u32, u32, *const u16, usize, *mut u64, usize) -> u32;
+type Find = unsafe extern "C" fn(u32, u32, u32, *const u16, usize, u32, u32, u32, *mut u64, usize) -> u32;
 type Mark = unsafe extern "C" fn(u32, u32, u32, *const u16, usize, *mut u8, usize, *mut u64, usize) -> u32;
 type Reduce = unsafe extern "C" fn(u32, u32, u32, *const u16, usize, *mut u16, usize, *mut u16, usize, *mut u64, usize) -> u32;
 type Audit = unsafe extern "C" fn(u32, u32, u32, *const u16, usize, u32, u32, u32, *const u16, usize, *const u16, usize, *mut u64, usize) -> u32;
@@ -15,6 +16,8 @@ type Write = unsafe extern "C" fn(u32, u32, u32, *const u16, usize, *const u8, u
 /// The functions, as `include/zundrafipo.h` declares them.
 pub struct Archive {
     check: Check,
+    /// The first archives have none.
+    find: Option<Find>,
     mark: Mark,
     mark_fast: Mark,
     reduce: Reduce,
@@ -31,6 +34,7 @@ pub static LINKED: Archive = {
     use zundrafipo::ffi::*;
     Archive {
         check: zf_check,
+        find: Some(zf_find),
         mark: zf_mark,
         mark_fast: zf_mark_fast,
         reduce: zf_reduce,
@@ -43,24 +47,35 @@ pub static LINKED: Archive = {
 };
 
 impl Archive {
-    /// The functions that stand where they are said to, by name.
+    /// The functions that stand where they are said to, by name; null where there is none.
     ///
     /// # Safety
     ///
-    /// Each address is that of the archive's function of this name, and stays it.
+    /// Each address that is not null is that of the archive's function of this name, and stays it.
     pub unsafe fn at(address: impl Fn(&str) -> *mut c_void) -> Archive {
         use std::mem::transmute;
+        let there = |name| {
+            let address = address(name);
+            assert!(!address.is_null(), "the archive has no {name}");
+            address
+        };
         Archive {
-            check: transmute::<*mut c_void, Check>(address("zf_check")),
-            mark: transmute::<*mut c_void, Mark>(address("zf_mark")),
-            mark_fast: transmute::<*mut c_void, Mark>(address("zf_mark_fast")),
-            reduce: transmute::<*mut c_void, Reduce>(address("zf_reduce")),
-            audit: transmute::<*mut c_void, Audit>(address("zf_audit")),
-            round: transmute::<*mut c_void, Round>(address("zf_round")),
-            hops_of: transmute::<*mut c_void, HopsOf>(address("zf_hops_of")),
-            read: transmute::<*mut c_void, Read>(address("zf_read")),
-            write: transmute::<*mut c_void, Write>(address("zf_write")),
+            check: transmute::<*mut c_void, Check>(there("zf_check")),
+            find: transmute::<*mut c_void, Option<Find>>(address("zf_find")),
+            mark: transmute::<*mut c_void, Mark>(there("zf_mark")),
+            mark_fast: transmute::<*mut c_void, Mark>(there("zf_mark_fast")),
+            reduce: transmute::<*mut c_void, Reduce>(there("zf_reduce")),
+            audit: transmute::<*mut c_void, Audit>(there("zf_audit")),
+            round: transmute::<*mut c_void, Round>(there("zf_round")),
+            hops_of: transmute::<*mut c_void, HopsOf>(there("zf_hops_of")),
+            read: transmute::<*mut c_void, Read>(there("zf_read")),
+            write: transmute::<*mut c_void, Write>(there("zf_write")),
         }
+    }
+
+    /// Whether it can look a hop up.
+    pub fn finds(&self) -> bool {
+        self.find.is_some()
     }
 }
 
@@ -72,6 +87,12 @@ impl Entries for Archive {
 
     fn check(&self, g: &Graph, answer: &mut [u64]) -> u32 {
         unsafe { (self.check)(g.states, g.labels, g.initial, g.hops.as_ptr(), g.hops.len(), answer.as_mut_ptr(), answer.len()) }
+    }
+
+    fn find(&self, g: &Graph, [from, label, to]: [u32; 3], answer: &mut [u64]) -> u32 {
+        let find = self.find.expect("an archive with zf_find");
+        let (hops, len) = (g.hops.as_ptr(), g.hops.len());
+        unsafe { find(g.states, g.labels, g.initial, hops, len, from, label, to, answer.as_mut_ptr(), answer.len()) }
     }
 
     fn mark(&self, g: &Graph, marks: &mut [u8], answer: &mut [u64]) -> u32 {

@@ -1,7 +1,7 @@
 //! One call of an entry against the checker: the returned number, every element of the answer and of every output, guard elements before and behind each
 //! of them, and inputs that must stay as they are.
 
-use crate::met::{fast_word, graph_word, hops_of_condition, read_word, round_word, write_word, Condition, Met};
+use crate::met::{fast_word, fault_word, find_word, graph_word, hops_of_condition, read_word, round_word, write_word, Condition, Met};
 use crate::random::Random;
 use checker::Answer;
 use differential::entries::{Entries, Graph};
@@ -166,6 +166,22 @@ impl<'a> Comparer<'a> {
         self.same_input(&g.hops, &input, &what);
     }
 
+    pub fn find(&mut self, g: &Graph, hop: [u32; 3]) -> Answer {
+        let what = || format!("find {hop:?} in {}", show(g));
+        let input = g.hops.clone();
+        let [from, label, to] = hop.map(u64::from);
+        let expected = checker::find(&g.lent(), from, label, to);
+        let mut answer = self.answer(5);
+        let returned = self.entries.find(g, hop, answer.part());
+        let met = match expected.number {
+            0 => find_word(g, hop, expected.figures[0] == 1, expected.figures[1]),
+            number => graph_word(g, number, expected.place),
+        };
+        self.judge(returned, expected.number, &expected.numbers(), ("find", met), &answer, &what);
+        self.same_input(&g.hops, &input, &what);
+        expected
+    }
+
     pub fn mark(&mut self, g: &Graph, len: Length) {
         let what = || format!("mark {}", show(g));
         let input = g.hops.clone();
@@ -242,12 +258,12 @@ impl<'a> Comparer<'a> {
 
     pub fn audit(&mut self, one: &Graph, two: &Graph, map: &[u16]) -> Answer {
         let what = || format!("audit, map {}, {}, {}", brief(map), show(one), show(two));
-        let expected = checker::audit(&one.lent(), &two.lent(), map);
+        let (expected, faults) = checker::audit_and_faults(&one.lent(), &two.lent(), map);
         let inputs = [one.hops.clone(), two.hops.clone(), map.to_vec()];
-        let mut answer = self.answer(4);
+        let mut answer = self.answer(7);
         let returned = self.entries.audit(one, two, map, answer.part());
         let met = match (expected.number, expected.table) {
-            (0, _) => ("audit", Some(if expected.figures[0] == 0 { "0 no faults" } else { "0 faults" })),
+            (0, _) => ("audit", Some(fault_word(&faults))),
             (7, _) => ("audit", Some("7")),
             (8, _) if map.len() < one.states as usize => ("audit", Some("8 too short")),
             (8, _) if map.len() > one.states as usize => ("audit", Some("8 too long")),

@@ -19,6 +19,7 @@ impl Graph {
 pub trait Entries {
     fn name(&self) -> &'static str;
     fn check(&self, g: &Graph, answer: &mut [u64]) -> u32;
+    fn find(&self, g: &Graph, hop: [u32; 3], answer: &mut [u64]) -> u32;
     fn mark(&self, g: &Graph, marks: &mut [u8], answer: &mut [u64]) -> u32;
     fn mark_fast(&self, g: &Graph, marks: &mut [u8], answer: &mut [u64]) -> u32;
     fn reduce(&self, g: &Graph, map: &mut [u16], short: &mut [u16], answer: &mut [u64]) -> u32;
@@ -73,6 +74,12 @@ impl Entries for Plain {
         give(plain::check(shape(g), &g.hops), &[], answer)
     }
 
+    fn find(&self, g: &Graph, [from, label, to]: [u32; 3], answer: &mut [u64]) -> u32 {
+        let (answered, found) = plain::find(shape(g), &g.hops, from, label, to);
+        let (Ok(place) | Err(place)) = found;
+        give(answered, &[found.is_ok().into(), place as u64], answer)
+    }
+
     fn mark(&self, g: &Graph, marks: &mut [u8], answer: &mut [u64]) -> u32 {
         with_copies(marks, answer.len() >= 3, |marks| give(plain::mark(shape(g), &g.hops, marks), &[], answer))
     }
@@ -96,7 +103,7 @@ impl Entries for Plain {
 
     fn audit(&self, one: &Graph, two: &Graph, map: &[u16], answer: &mut [u64]) -> u32 {
         let (found, faults) = plain::audit(shape(one), &one.hops, shape(two), &two.hops, map);
-        give(found, &[faults.into()], answer)
+        give(found, &[faults.count.into(), faults.kind.into(), faults.place.into(), faults.state.into()], answer)
     }
 
     fn round(&self, g: &Graph, place: u64, rounds: u32, answer: &mut [u64]) -> u32 {

@@ -265,7 +265,7 @@ pub fn over_one(ends: u16, ones: u16) -> (u16, Hops) {
 }
 
 /// Numbers around each limit, and such as lose bits where a number is cut to 16.
-const ODD: [u32; 12] = [0, 1, 2, 1023, 1024, 1025, 65_535, 65_536, 65_537, 70_000, 0x8000_0000, u32::MAX];
+pub const ODD: [u32; 12] = [0, 1, 2, 1023, 1024, 1025, 65_535, 65_536, 65_537, 70_000, 0x8000_0000, u32::MAX];
 
 /// Breaks a graph in one place; it may stay admitted.
 pub fn damaged(random: &mut Random, g: &Graph) -> Graph {

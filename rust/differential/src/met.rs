@@ -1,6 +1,7 @@
 //! What a run has met, entry by entry: which row of the table of answers spoke, and by which of its conditions. A run that never met one of them says
 //! nothing of it, and fails.
 
+use checker::Fault;
 use differential::entries::Graph;
 use std::collections::BTreeMap;
 
@@ -36,15 +37,56 @@ const FAST: &[&str] = &[
     "0 tested again and again",
 ];
 
+/// What the search for a hop found.
+const FOUND: &[&str] = &[
+    "0 the only hop",
+    "0 the first hop",
+    "0 the last hop",
+    "0 a hop between",
+    "0 not there, no hops",
+    "0 not there, before all hops",
+    "0 not there, behind all hops",
+    "0 not there, between hops",
+];
+
+/// What the search was asked for with one number out of range. Cut: to 16 bits it would be a hop of the graph.
+const FAR: &[&str] = &[
+    "0 from 1,024",
+    "0 from 65,535",
+    "0 from 65,536, cut",
+    "0 from 4,294,967,295",
+    "0 label 1,024",
+    "0 label 65,535",
+    "0 label 65,536, cut",
+    "0 label 4,294,967,295",
+    "0 to 1,024",
+    "0 to 65,535",
+    "0 to 65,536, cut",
+    "0 to 4,294,967,295",
+];
+
+/// The first fault of an accepted audit. One of kind 3 may not be the one that is met first by states, and may be at a hop that several states do not answer.
+const FAULTS: &[&str] = &[
+    "0 no faults",
+    "0 first of kind 1",
+    "0 first of kind 2, at the first hop",
+    "0 first of kind 2, at a later hop",
+    "0 first of kind 3, of the first state with one, alone at its hop",
+    "0 first of kind 3, of the first state with one, not alone at its hop",
+    "0 first of kind 3, of a later state, alone at its hop",
+    "0 first of kind 3, of a later state, not alone at its hop",
+];
+
 const SHORT_ANSWER: &[&str] = &["answer too short, else accepted", "answer too short, else refused"];
 
 /// All that a run must meet.
-const MUST: [(&str, &[&[&str]]); 13] = [
+const MUST: [(&str, &[&[&str]]); 14] = [
     ("check", &[&["0"], GRAPH, LENGTH, SHORT_ANSWER]),
+    ("find", &[FOUND, FAR, GRAPH, LENGTH, SHORT_ANSWER]),
     ("mark", &[&["0 some marked", "0 none marked"], GRAPH, LENGTH, &["5", "6"], SHORT_ANSWER]),
     ("mark_fast", &[FAST, GRAPH, LENGTH, &["5", "6"], SHORT_ANSWER]),
     ("reduce", &[&["0 smaller", "0 as many states"], GRAPH, LENGTH, &["5", "6 map", "6 short hops"], SHORT_ANSWER]),
-    ("audit", &[&["0 no faults", "0 faults"], &["7", "8 too short", "8 too long", "8 entry"], SHORT_ANSWER]),
+    ("audit", &[FAULTS, &["7", "8 too short", "8 too long", "8 entry"], SHORT_ANSWER]),
     ("audit, graph 1", &[GRAPH, LENGTH]),
     ("audit, graph 2", &[GRAPH, LENGTH]),
     (
@@ -141,6 +183,52 @@ pub fn graph_word(g: &Graph, number: u64, place: u64) -> Option<&'static str> {
         4 if hop(place) == hop(place - 1) => Some("4 the same"),
         4 => Some("4 below"),
         _ => None,
+    }
+}
+
+/// What an accepted search for a hop found or did not find at this place.
+pub fn find_word(g: &Graph, hop: [u32; 3], found: bool, place: u64) -> Option<&'static str> {
+    let count = g.hops.len() as u64 / 3;
+    let out_of_range = [hop[0] >= g.states, hop[1] >= g.labels, hop[2] >= g.states];
+    if out_of_range.contains(&true) {
+        let number = out_of_range.iter().position(|&out| out).filter(|_| out_of_range.iter().filter(|&&out| out).count() == 1)?;
+        let cut = g.hops.chunks_exact(3).any(|there| there == hop.map(|number| number as u16));
+        let far = match hop[number] {
+            1024 => 0,
+            65_535 => 1,
+            65_536 if cut => 2,
+            u32::MAX => 3,
+            _ => return None,
+        };
+        return Some(FAR[4 * number + far]);
+    }
+    Some(match (found, place) {
+        (true, _) if count == 1 => "0 the only hop",
+        (true, 0) => "0 the first hop",
+        (true, _) if place + 1 == count => "0 the last hop",
+        (true, _) => "0 a hop between",
+        (false, _) if count == 0 => "0 not there, no hops",
+        (false, 0) => "0 not there, before all hops",
+        (false, _) if place == count => "0 not there, behind all hops",
+        (false, _) => "0 not there, between hops",
+    })
+}
+
+/// Which fault of an accepted audit is the first.
+pub fn fault_word(faults: &[Fault]) -> &'static str {
+    let Some(first) = faults.iter().min() else {
+        return "0 no faults";
+    };
+    let later_state = faults.iter().any(|fault| fault.state < first.state);
+    let alone = faults.iter().all(|fault| fault == first || fault.place != first.place);
+    match (first.kind, later_state, alone) {
+        (1, _, _) => "0 first of kind 1",
+        (2, _, _) if first.place == 0 => "0 first of kind 2, at the first hop",
+        (2, _, _) => "0 first of kind 2, at a later hop",
+        (_, false, true) => "0 first of kind 3, of the first state with one, alone at its hop",
+        (_, false, false) => "0 first of kind 3, of the first state with one, not alone at its hop",
+        (_, true, true) => "0 first of kind 3, of a later state, alone at its hop",
+        (_, true, false) => "0 first of kind 3, of a later state, not alone at its hop",
     }
 }
 

@@ -33,9 +33,11 @@ pub fn worked(c: &mut Comparer) {
         assert_eq!(c.mark_fast(g, AtLeast(g.hops.len() / 3)).figures, [tests], "tests of {g:?}");
     }
     let map = [0, 0, 1, 1];
-    for hops in [&[0, 1, 1][..], &[], &[0, 1, 1, 1, 1, 1]] {
-        c.audit(&graphs[0], &graph(2, 2, hops), &map);
+    for (hops, figures) in [(&[0, 1, 1][..], [0, 0, 0, 0]), (&[], [2, 2, 1, 0]), (&[0, 1, 1, 1, 1, 1], [2, 3, 1, 2])] {
+        assert_eq!(c.audit(&graphs[0], &graph(2, 2, hops), &map).figures, figures, "P9 with {hops:?}");
     }
+    let by_states = c.audit(&graph(2, 3, &[0, 1, 0, 1, 2, 1]), &graph(1, 3, &[0, 1, 0, 0, 2, 0]), &[0, 0]);
+    assert_eq!(by_states.figures, [2, 3, 0, 1], "hops before states");
     c.audit(&graph(3, 2, &[0, 0, 1, 1, 0, 2, 2, 1, 2]), &graph(2, 2, &[0, 0, 1, 0, 1, 0, 1, 0, 0]), &[0, 1, 0]);
     c.answer_len = None;
 }
@@ -48,6 +50,13 @@ fn whole(c: &mut Comparer, g: &Graph) {
     let (states, numbers) = (g.states as usize, g.hops.len());
     let hops = numbers / 3;
     c.check(g);
+    for from in 0..=g.states {
+        for label in 0..=g.labels {
+            for to in 0..=g.states {
+                c.find(g, [from, label, to]);
+            }
+        }
+    }
     for len in 0..=hops + 2 {
         c.mark(g, Exactly(len));
         c.mark_fast(g, Exactly(len));
@@ -124,6 +133,7 @@ pub fn all_small(c: &mut Comparer) {
             for initial in 0..=2 {
                 let g = Graph { states: 2, labels: 2, initial, hops: hops.clone() };
                 c.check(&g);
+                c.find(&g, [0, 1, 1]);
                 c.mark(&g, About(2));
                 c.mark_fast(&g, About(2));
                 c.reduce(&g, About(2), About(6));
@@ -133,12 +143,22 @@ pub fn all_small(c: &mut Comparer) {
     }
 }
 
-/// Every list of two hops whose numbers are at an end or beside it: which comes first hangs on each of the three, and on their order.
+/// Every list of two hops whose numbers are at an end or beside it, and in each that is in order every such hop and some out of range: which comes first hangs on each
+/// of the three, and on their order.
 pub fn pairs_of_hops(c: &mut Comparer) {
     let ends = [0, 1, 1022, 1023];
     let hop = |i: usize| [ends[i / 16], ends[i / 4 % 4], ends[i % 4]];
     for pair in 0..64 * 64 {
-        c.check(&graph(1024, 1024, &[hop(pair / 64), hop(pair % 64)].concat()));
+        let g = graph(1024, 1024, &[hop(pair / 64), hop(pair % 64)].concat());
+        c.check(&g);
+        if pair / 64 < pair % 64 {
+            (0..64).for_each(|i| _ = c.find(&g, hop(i).map(u32::from)));
+            for (high, at) in make::ODD.into_iter().zip([0, 1, 2].into_iter().cycle()) {
+                let mut hop = hop(c.random.below(64)).map(u32::from);
+                hop[at] = high;
+                c.find(&g, hop);
+            }
+        }
     }
 }
 
@@ -151,6 +171,8 @@ pub fn answers(c: &mut Comparer) {
         for len in 0..=11 {
             c.answer_len = Some(len);
             c.check(&g);
+            c.find(&g, [0, 1, 2]);
+            c.find(&g, [0, 1, 3]);
             for short in [g.hops.len(), g.hops.len().saturating_sub(1)] {
                 c.mark(&g, Exactly(short / 3));
                 c.mark_fast(&g, Exactly(short / 3));
@@ -180,6 +202,8 @@ pub fn conditions(c: &mut Comparer) {
     for g in refused_graphs(&p1) {
         let (states, numbers) = (g.states as usize, g.hops.len());
         c.check(&g);
+        c.find(&g, [0, 0, 1]);
+        c.find(&g, [u32::MAX; 3]);
         c.mark(&g, Exactly(numbers / 3));
         c.mark_fast(&g, Exactly(numbers / 3));
         c.reduce(&g, Exactly(states), Exactly(numbers));
@@ -192,9 +216,67 @@ pub fn conditions(c: &mut Comparer) {
         c.read(&make::file(&g, &[]), Exactly(numbers));
         c.write(&g, &[], Exactly(checker::LONGEST_FILE));
     }
+    finds(c, &p1);
+    first_faults(c);
     places_and_numbers_that_would_be_cut(c, &p1);
     files_and_blocks(c);
     c.answer_len = None;
+}
+
+/// Hops that are there and that are not, at both ends and between, and with each number out of range.
+fn finds(c: &mut Comparer, p1: &Graph) {
+    let lone = graph(1, 1, &[0, 0, 0]);
+    for (g, hop, found, place) in [
+        (&lone, [0, 0, 0], 1, 0),
+        (&graph(1, 1, &[]), [0, 0, 0], 0, 0),
+        (p1, [0, 0, 1], 1, 0),
+        (p1, [1, 1, 3], 1, 2),
+        (p1, [2, 0, 3], 1, 3),
+        (p1, [0, 0, 0], 0, 0),
+        (p1, [0, 1, 3], 0, 2),
+        (p1, [3, 0, 0], 0, 4),
+    ] {
+        assert_eq!(c.find(g, hop).figures, [found, place], "find {hop:?} in {g:?}");
+    }
+    for high in [1024, 65_535, 65_536, u32::MAX] {
+        for hop in [[high, 0, 0], [0, high, 0], [0, 0, high]] {
+            assert_eq!(c.find(&lone, hop).figures, [0, 1], "find {hop:?} behind the only hop");
+        }
+        for (hop, place) in [([high, 0, 1], 4), ([0, high, 1], 2), ([0, 0, high], 1), ([high; 3], 4), ([1, high, high], 3)] {
+            assert_eq!(c.find(p1, hop).figures, [0, place], "find {hop:?} in P1");
+        }
+    }
+}
+
+/// A first fault of each kind; of kind 3 at a hop that one or several states do not answer, and met at first or after faults of a lower state at later hops.
+fn first_faults(c: &mut Comparer) {
+    let one = graph(2, 2, &[0, 1, 1]);
+    let elsewhere = Graph { initial: 1, ..one.clone() };
+    for (two, map, figures) in [
+        (&one, [0, 1], [0, 0, 0, 0]),
+        (&one, [1, 0], [3, 1, 0, 0]),
+        (&elsewhere, [1, 0], [2, 2, 0, 0]),
+        (&graph(2, 2, &[0, 1, 0, 0, 1, 1]), [0, 1], [1, 3, 0, 0]),
+    ] {
+        assert_eq!(c.audit(&one, two, &map).figures, figures, "the first fault of {map:?} to {two:?}");
+    }
+    // all states in one class: state s answers the hops labelled with its letters
+    let answering = |letters: &[&[u16]]| {
+        let hops = (0..).zip(letters).flat_map(|(s, labels)| labels.iter().flat_map(move |&label| [s, label, s])).collect();
+        Graph { states: letters.len() as u32, labels: 4, initial: 0, hops }
+    };
+    let two = graph(1, 4, &[0, 1, 0, 0, 2, 0, 0, 3, 0]);
+    for (letters, figures) in [
+        (&[&[1, 2, 3][..], &[1, 2], &[1, 2]][..], [2, 3, 2, 1]),
+        (&[&[1, 2], &[1, 3], &[1, 2, 3]], [2, 3, 1, 1]),
+        (&[&[1, 2], &[3], &[2, 3]], [4, 3, 0, 1]),
+        (&[&[], &[1, 2, 3]], [3, 3, 0, 0]),
+    ] {
+        let one = answering(letters);
+        assert_eq!(c.audit(&one, &two, &vec![0; letters.len()]).figures, figures, "the first fault of states that answer {letters:?}");
+    }
+    let without = graph(1, 4, &[0, 1, 0]);
+    assert_eq!(c.audit(&answering(&[&[1], &[1, 2]]), &without, &[0, 0]).figures, [1, 2, 2, 0], "a later hop of graph 1");
 }
 
 /// For each condition of rows 1 to 4 a graph that breaks no other: P1, altered.
@@ -279,6 +361,7 @@ fn every_entry(c: &mut Comparer, g: &Graph, other_states: usize) {
     let hops = g.hops.len() / 3;
     let states = (g.states as usize).min(1030);
     c.check(g);
+    finds_about(c, g);
     c.mark(g, About(hops));
     c.mark_fast(g, About(hops));
     let (map_len, short_len) = if c.random.percent(50) { (AtLeast(states), AtLeast(g.hops.len())) } else { (About(states), About(g.hops.len())) };
@@ -295,7 +378,7 @@ fn every_entry(c: &mut Comparer, g: &Graph, other_states: usize) {
     }
     if let Some((short, map)) = reduced {
         let answer = c.audit(g, &short, &map);
-        assert_eq!(answer.numbers(), [0, 1, 0, 0], "what reduce left has no faults");
+        assert_eq!(answer.numbers(), [0, 1, 0, 0, 0, 0, 0], "what reduce left has no faults");
         audits_about(c, g, &short, &map);
     }
     let mut other = make::graph(&mut c.random, other_states, (g.labels as usize).clamp(1, 1024), hops.min(4096));
@@ -312,6 +395,25 @@ fn every_entry(c: &mut Comparer, g: &Graph, other_states: usize) {
     c.hops_of(side, state, g, &other);
     let (side, state) = (c.random.below(4) as u32, c.random.next() as u32);
     c.hops_of(side, state, g, &other);
+}
+
+/// Searches for a hop that is there, for one that differs from it in a number, and for any.
+fn finds_about(c: &mut Comparer, g: &Graph) {
+    let counts = [g.states, g.labels, g.states].map(|count| count.clamp(1, 1030) as usize);
+    let mut hop = counts.map(|count| c.random.below(count + 1) as u32);
+    c.find(g, hop);
+    if let Some(there) = (g.hops.len() / 3).checked_sub(1).map(|last| c.random.between(0, last)) {
+        hop = [0, 1, 2].map(|i| g.hops[3 * there + i].into());
+        c.find(g, hop);
+    }
+    let at = c.random.below(3);
+    hop[at] = match c.random.below(4) {
+        0 => c.random.pick(&make::ODD),
+        1 => hop[at] + c.random.pick(&[1 << 16, 1 << 20, 1 << 31]),
+        2 => hop[at] + 1,
+        _ => hop[at].saturating_sub(1),
+    };
+    c.find(g, hop);
 }
 
 /// An audit, and others with the map or a graph altered in a place.
@@ -557,8 +659,30 @@ pub fn limits(c: &mut Comparer) {
     // every hop and every pair of a hop and a state is a fault, and so are the initial states
     let one = full(1024, 6, hops[..3 * 4096].to_vec());
     let two = Graph { states: 1024, labels: 6, initial: 1, hops: flat((0..4096u16).map(|i| [0, 2 + i / 1024, i % 1024])) };
-    assert_eq!(c.audit(&one, &two, &[0; 1024]).figures, [4_198_401]);
+    assert_eq!(c.audit(&one, &two, &[0; 1024]).figures, [4_198_401, 1, 0, 0]);
     c.audit(&one, &two, &vec![0; 70_000]);
+    first_faults_at_the_limits(c);
+    // each hop of a full list, and what stands on either side of it
+    let numbers: Vec<u32> = one.hops.iter().map(|&number| number.into()).collect();
+    for (place, hop) in (0..).zip(numbers.chunks_exact(3)) {
+        let (from, label, to) = (hop[0], hop[1], hop[2]);
+        assert_eq!(c.find(&one, [from, label, to]).figures, [1, place], "each hop is found");
+        c.find(&one, [from, label - 1, to]);
+        c.find(&one, [from, label, to + 4]);
+    }
+}
+
+/// All states in one class, and one row of graph 2 with all labels: no state answers the last hop, or only the last state does not; or each state lacks another hop,
+/// the higher the state the earlier.
+fn first_faults_at_the_limits(c: &mut Comparer) {
+    let row = graph(1, 1024, &flat((0..1024).map(|a| [0, a, 0])));
+    let of = |states: u16, hops: Hops| make::graph_of(states.into(), 1024, 0, &hops);
+    let ring = of(1024, (0..1024).map(|s| (s, 0, (s + 1) % 1024)).chain((1..1023).map(|a| (1023, a, 1023))).collect());
+    assert_eq!(c.audit(&ring, &row, &[0; 1024]).figures, [1024, 3, 1023, 0], "no state answers the last hop");
+    let last = of(4, (0..4).flat_map(|s| (1..if s == 3 { 1023 } else { 1024 }).map(move |a| (s, a, s))).collect());
+    assert_eq!(c.audit(&last, &row, &[0; 4]).figures, [1, 3, 1023, 3], "the last state does not answer the last hop");
+    let falling = of(4, (0..4).flat_map(|s| (1..1024).filter(move |a| *a != 1023 - s).map(move |a| (s, a, s))).collect());
+    assert_eq!(c.audit(&falling, &row, &[0; 4]).figures, [4, 3, 1020, 3], "the last state lacks the earliest hop");
 }
 
 /// A graph of `states` states with silent hops between most of them, in which most closings fail late.

@@ -3,7 +3,7 @@
 use crate::compare::Comparer;
 use crate::make;
 use differential::entries::Graph;
-use zundrafipo::{Hop, NameBlock, Refusal};
+use zundrafipo::{Audit, Fault, Found, Hop, NameBlock, Refusal};
 
 fn lent(g: &Graph) -> zundrafipo::Graph {
     zundrafipo::Graph::new(g.states, g.labels, g.initial, g.hops.clone())
@@ -26,7 +26,7 @@ pub fn wrappers(c: &mut Comparer, count: usize) {
         one_graph(c, &g);
         typed_views(c, &g);
         name_block(c);
-        c.calls += 12;
+        c.calls += 13;
     }
 }
 
@@ -55,8 +55,21 @@ fn one_graph(c: &mut Comparer, g: &Graph) {
     }
     let most = other.states as usize + usize::from(c.random.percent(10));
     let map: Vec<u16> = (0..g.states.min(1030)).map(|_| c.random.below(most) as u16).collect();
-    let expected = split(checker::audit(&g.lent(), &other.lent(), &map)).map(|figures| zundrafipo::Audit { faults: figures[0] });
-    assert_eq!(graph.audit(&lent(&other), &map), expected, "audit of {g:?} and {other:?} by {map:?}");
+    let expected = split(checker::audit(&g.lent(), &other.lent(), &map)).map(|figures| Audit { faults: figures[0], first: fault(&figures[1..]) });
+    let audit = graph.audit(&lent(&other), &map);
+    assert_eq!(audit, expected, "audit of {g:?} and {other:?} by {map:?}");
+    if let Ok(Audit { first: Some(first), .. }) = audit {
+        described(c, first, &graph, &lent(&other));
+    }
+
+    let mut hop = [g.states, g.labels, g.states].map(|count| c.random.below(count.min(1030) as usize + 1) as u16);
+    if hops > 0 && c.random.percent(50) {
+        let place = 3 * c.random.below(hops);
+        hop.copy_from_slice(&g.hops[place..place + 3]);
+    }
+    let [from, label, to] = hop.map(u64::from);
+    let found = |figures: Vec<u64>| if figures[0] == 1 { Found::At(figures[1] as usize) } else { Found::Gap(figures[1] as usize) };
+    assert_eq!(graph.find(Hop::from(hop)), split(checker::find(&g.lent(), from, label, to)).map(found), "find {hop:?} in {g:?}");
 
     let (place, rounds) = (c.random.below(hops + 1) as u64, c.random.below(6) as u32);
     let expected = split(checker::round(&g.lent(), place, rounds.into())).map(|figures| figures[0] == 1);
@@ -85,6 +98,37 @@ fn one_graph(c: &mut Comparer, g: &Graph) {
         name_block: &file[f[4] as usize..(f[4] + f[5]) as usize],
     });
     assert_eq!(zundrafipo::read(&file), expected, "read of {file:?}");
+}
+
+/// The fault of an answer's figures.
+fn fault(figures: &[u64]) -> Option<Fault> {
+    let place = figures[1] as usize;
+    let fault = match figures[0] {
+        0 => return None,
+        1 => Fault::Initial,
+        2 => Fault::Lost { place },
+        _ => Fault::MadeUp { place, state: figures[2] as u32 },
+    };
+    assert_eq!([fault.kind().into(), fault.place() as u64, fault.state().into()], figures, "the figures of {fault:?}");
+    Some(fault)
+}
+
+/// A fault's sentence has its hop's numbers; of other graphs and with any bytes for names there is one too.
+fn described(c: &mut Comparer, fault: Fault, one: &zundrafipo::Graph, two: &zundrafipo::Graph) {
+    let numbers = match fault {
+        Fault::Initial => format!("state {} of graph 1", one.initial),
+        Fault::Lost { place } | Fault::MadeUp { place, .. } => {
+            let graph = if fault.kind() == 2 { one } else { two };
+            let [from, label, to] = <[u16; 3]>::from(graph.hops().nth(place).expect("a hop of the graph"));
+            format!("hop ({from},{label},{to})")
+        }
+    };
+    let names = make::block(&mut c.random, one.labels as usize - 1, 4);
+    let sentence = fault.describe(one, two, &names);
+    assert!(sentence.contains(&numbers), "{fault:?} as {sentence}");
+    let names = make::damaged_bytes(&mut c.random, &names);
+    let elsewhere = fault.describe(two, one, &names);
+    assert!(!elsewhere.is_empty() && !fault.to_string().is_empty(), "{fault:?} as {elsewhere}");
 }
 
 /// The hops of a graph and of one of its states, as hops.

@@ -1,4 +1,4 @@
-use crate::{first_places, hop_at, hop_count, places, refuse, sum_of, Answer, Shape, ACCEPTED, MOST_HOPS, MOST_LABELS, MOST_STATES};
+use crate::{find_between, first_places, hop_at, hop_count, places, refuse, sum_of, Answer, Shape, ACCEPTED, MOST_HOPS, MOST_LABELS, MOST_STATES};
 
 /// The entry check: one pass for 3, one for 4, which keeps the sum of the hop before.
 pub fn check(shape: Shape, hops: &[u16]) -> Answer {
@@ -25,6 +25,17 @@ pub fn check(shape: Shape, hops: &[u16]) -> Answer {
         last = sum;
     }
     ACCEPTED
+}
+
+/// The entry find: whether the graph has a hop, with its place or the number of hops before it. A number that 16 bits do not hold is as far out of range as their
+/// highest, and comes behind the same hops.
+pub fn find(shape: Shape, hops: &[u16], from: u32, label: u32, to: u32) -> (Answer, Result<usize, usize>) {
+    let answer = check(shape, hops);
+    if answer.number != 0 {
+        return (answer, Err(0));
+    }
+    let [from, label, to] = [from, label, to].map(|number| number.min(u16::MAX.into()) as u16);
+    (answer, find_between(hops, (from, label, to), 0, hop_count(hops)))
 }
 
 /// The outgoing hops of a state, as a part of that side's list.

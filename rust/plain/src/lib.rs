@@ -16,7 +16,7 @@ mod round;
 mod rounds;
 
 pub use audit::audit;
-pub use check::{check, hops_of};
+pub use check::{check, find, hops_of};
 pub use file::{read, write};
 pub use mark::mark;
 pub use reduce::reduce;
@@ -57,6 +57,15 @@ pub struct Short {
     pub labels: u32,
     pub hops: u32,
     pub initial: u32,
+}
+
+/// How many faults an audit has, and of the first one kind, place and state; all 0 with a refusal.
+#[derive(Clone, Copy, Debug, Default, PartialEq, Eq)]
+pub struct Faults {
+    pub count: u32,
+    pub kind: u32,
+    pub place: u32,
+    pub state: u32,
 }
 
 /// What a file holds besides its hops; all 0 with a refusal.
@@ -141,8 +150,19 @@ pub(crate) fn lower_row(hops: &[u16], first: &[u16], hop: (u16, u16, u16)) -> us
     lower_between(hops, hop, row.start, row.end)
 }
 
+/// Where a hop stands between `first` and `past` of an ascending list, or would stand.
+#[inline]
+pub(crate) fn find_between(hops: &[u16], hop: (u16, u16, u16), first: usize, past: usize) -> Result<usize, usize> {
+    let place = lower_between(hops, hop, first, past);
+    if place < past && sum_of(hop_at(hops, place)) == sum_of(hop) {
+        Ok(place)
+    } else {
+        Err(place)
+    }
+}
+
 /// The place of a hop, searched for among the hops of its state.
 pub(crate) fn find_row(hops: &[u16], first: &[u16], hop: (u16, u16, u16)) -> Option<usize> {
-    let place = lower_row(hops, first, hop);
-    (place < hop_count(hops) && sum_of(hop_at(hops, place)) == sum_of(hop)).then_some(place)
+    let row = places(first, hop.0);
+    find_between(hops, hop, row.start, row.end).ok()
 }

@@ -1,13 +1,18 @@
-//! Reads a graph file from standard input and prints its short graph.
+//! Reads a graph file from standard input and prints its short graph, with what the audit of the two says.
 
 use std::io::Read;
 
 fn main() -> Result<(), Box<dyn std::error::Error>> {
     let mut bytes = vec![];
     std::io::stdin().read_to_end(&mut bytes)?;
-    let graph = zundrafipo::read(&bytes)?.graph;
+    let file = zundrafipo::read(&bytes)?;
+    let graph = &file.graph;
     let reduction = graph.reduce()?;
-    println!("{} states became {}, faults: {}", graph.states, reduction.graph.states, graph.audit(&reduction.graph, &reduction.map)?.faults);
+    let audit = graph.audit(&reduction.graph, &reduction.map)?;
+    println!("{} states became {}, faults: {}", graph.states, reduction.graph.states, audit.faults);
+    if let Some(fault) = audit.first {
+        println!("the first: {}", fault.describe(graph, &reduction.graph, file.name_block));
+    }
     for hop in reduction.graph.hops() {
         println!("{} {} {}", hop.from, hop.label, hop.to);
     }

@@ -49,7 +49,7 @@ extern "C" {
         answer_len: usize,
     ) -> u32;
 
-    /// Counts the faults of a map from graph 1 to graph 2. Answer: 4, with the fault count.
+    /// Counts the faults of a map from graph 1 to graph 2 and names the first. Answer: 7, with the fault count and the first fault's kind, place and state.
     pub fn zf_audit(
         states1: u32,
         labels1: u32,
@@ -76,6 +76,20 @@ extern "C" {
         hops_len: usize,
         place: u64,
         rounds: u32,
+        answer: *mut u64,
+        answer_len: usize,
+    ) -> u32;
+
+    /// Looks a hop up. Answer: 5, with 1 or 0 and its place, or the number of hops before it.
+    pub fn zf_find(
+        states: u32,
+        labels: u32,
+        initial: u32,
+        hops: *const u16,
+        hops_len: usize,
+        from: u32,
+        label: u32,
+        to: u32,
         answer: *mut u64,
         answer_len: usize,
     ) -> u32;

@@ -1,4 +1,4 @@
-use crate::{ffi, figure, judge, length, Hop, Hops, Refusal, LONGEST_FILE, MOST_HOPS, MOST_STATES};
+use crate::{ffi, figure, judge, length, Audit, Fault, Hop, Hops, Refusal, LONGEST_FILE, MOST_HOPS, MOST_STATES};
 use std::ops::Range;
 
 /// A mode graph: counts, initial state and one flat list of hops, which [`Graph::hops`] shows as [`Hop`]s.
@@ -84,20 +84,25 @@ pub struct ShortFigures {
     pub initial: u32,
 }
 
-/// What [`Graph::audit`] found.
+/// Where [`Graph::find`] found a hop, or where it would stand.
 ///
 /// ```
-/// use zundrafipo::{Audit, Graph};
+/// use zundrafipo::{Found, Graph, Hop};
 ///
-/// let graph = Graph::new(2, 2, 0, vec![0, 1, 1]);
-/// assert_eq!(graph.audit(&graph, &[0, 1])?, Audit { faults: 0 });
-/// assert_eq!(graph.audit(&graph, &[1, 0])?, Audit { faults: 3 });
+/// let mut graph = Graph::new(2, 2, 0, vec![0, 1, 1]);
+/// let missing = Hop::new(0, 0, 1);
+/// if let Found::Gap(place) = graph.find(missing)? {
+///     graph.flat_hops.splice(3 * place..3 * place, <[u16; 3]>::from(missing));
+/// }
+/// assert_eq!(graph.find(missing)?, Found::At(0));
 /// # Ok::<(), zundrafipo::Refusal>(())
 /// ```
 #[derive(Clone, Copy, Debug, PartialEq, Eq, Hash)]
-pub struct Audit {
-    /// The fault count, at most 4,198,401; 0 when, and only when, the map is a branching bisimulation that joins the initial states.
-    pub faults: u64,
+pub enum Found {
+    /// The graph has it, at this place.
+    At(usize),
+    /// The graph does not have it; so many hops come before it.
+    Gap(usize),
 }
 
 impl Graph {
@@ -153,6 +158,39 @@ impl Graph {
     pub fn hops_of(&self, state: u32) -> Hops<'_> {
         let other = Graph::new(1, 1, 0, vec![]);
         Hops::from(&self.flat_hops[part_of(1, state, self, &other)])
+    }
+
+    /// Looks a hop up: its place in the list, or how many hops come before it. The graph is checked as by [`Graph::check`], each time.
+    ///
+    /// ```
+    /// use zundrafipo::{Found, Graph, Hop};
+    ///
+    /// let graph = Graph::new(4, 2, 0, vec![0, 0, 1, 0, 1, 2, 1, 1, 3, 2, 0, 3]);
+    /// assert_eq!(graph.find(Hop::new(1, 1, 3))?, Found::At(2));
+    /// assert_eq!(graph.find(Hop::new(1, 1, 2))?, Found::Gap(2));
+    /// assert_eq!(graph.find(Hop::new(9, 9, 9))?, Found::Gap(4));
+    /// assert_eq!(Graph::new(1, 2, 0, vec![0, 1, 1]).find(Hop::new(0, 1, 1)).unwrap_err().number, 3);
+    /// # Ok::<(), zundrafipo::Refusal>(())
+    /// ```
+    pub fn find(&self, hop: Hop) -> Result<Found, Refusal> {
+        let mut answer = [0; 5];
+        // SAFETY: each pointer stands with the length of the slice it is of; the answer is borrowed alone.
+        let number = unsafe {
+            ffi::zf_find(
+                self.states,
+                self.labels,
+                self.initial,
+                self.flat_hops.as_ptr(),
+                self.flat_hops.len(),
+                hop.from.into(),
+                hop.label.into(),
+                hop.to.into(),
+                answer.as_mut_ptr(),
+                answer.len(),
+            )
+        };
+        let [_, _, _, found, place] = judge(number, answer)?;
+        Ok(if found == 1 { Found::At(length(place)) } else { Found::Gap(length(place)) })
     }
 
     /// Checks counts, initial state, and the range and order of the hops (refusals 1 to 4). Rings are not looked for.
@@ -316,18 +354,19 @@ impl Graph {
         Ok(ShortFigures { states: figure(states), labels: figure(labels), hops: figure(hops), initial: figure(initial) })
     }
 
-    /// Counts the faults of `map` as a map from this graph, graph 1, to `other`, graph 2. Rings are allowed in both.
+    /// Counts the faults of `map` as a map from this graph, graph 1, to `other`, graph 2, and names the first. Rings are allowed in both.
     ///
     /// ```
-    /// use zundrafipo::Graph;
+    /// use zundrafipo::{Fault, Graph};
     ///
     /// let graph = Graph::new(4, 2, 0, vec![0, 0, 1, 0, 1, 2, 1, 1, 3, 2, 0, 3]);
     /// assert_eq!(graph.audit(&Graph::new(2, 2, 0, vec![0, 1, 1]), &[0, 0, 1, 1])?.faults, 0);
-    /// assert_eq!(graph.audit(&Graph::new(2, 2, 0, vec![]), &[0, 0, 1, 1])?.faults, 2);
+    /// let audit = graph.audit(&Graph::new(2, 2, 0, vec![]), &[0, 0, 1, 1])?;
+    /// assert_eq!((audit.faults, audit.first), (2, Some(Fault::Lost { place: 1 })));
     /// # Ok::<(), zundrafipo::Refusal>(())
     /// ```
     pub fn audit(&self, other: &Graph, map: &[u16]) -> Result<Audit, Refusal> {
-        let mut answer = [0; 4];
+        let mut answer = [0; 7];
         // SAFETY: each pointer stands with the length of the slice it is of; the answer is borrowed alone.
         let number = unsafe {
             ffi::zf_audit(
@@ -347,8 +386,8 @@ impl Graph {
                 answer.len(),
             )
         };
-        let [_, _, _, faults] = judge(number, answer)?;
-        Ok(Audit { faults })
+        let [_, _, _, faults, kind, place, state] = judge(number, answer)?;
+        Ok(Audit { faults, first: Fault::named(kind, place, state) })
     }
 
     /// Whether the silent hop at `place` survives `rounds`, 0 to 4, of the marking. Rings do not matter.

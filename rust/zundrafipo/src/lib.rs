@@ -16,6 +16,7 @@
 //! ```
 //!
 //! A graph's hops are one flat list, three numbers a hop; [`Hop`] and [`Graph::hops`] are a typed view of it, and [`Graph::from_hops`] makes one of hops.
+//! [`Graph::find`] says where in the list a hop stands. Where an audit counts faults it names the first of them, and a [`Fault`] says itself in words.
 //!
 //! No entry panics on what it is given: whatever is not admitted comes back as a [`Refusal`], and numbers go through unchanged.
 //!
@@ -23,6 +24,7 @@
 
 #![deny(missing_docs)]
 
+mod fault;
 pub mod ffi;
 mod file;
 mod graph;
@@ -30,8 +32,9 @@ mod hop;
 mod names;
 mod refusal;
 
+pub use fault::{Audit, Fault};
 pub use file::{read, read_into, Figures, File};
-pub use graph::{hops_of, Audit, FastMarking, Graph, Reduction, ShortFigures};
+pub use graph::{hops_of, FastMarking, Found, Graph, Reduction, ShortFigures};
 pub use hop::{Hop, Hops};
 pub use names::{NameBlock, Names};
 pub use refusal::Refusal;

@@ -10,6 +10,9 @@ use Rattle.together.proofs.reduce_and_audit.Tie as tie
 reduce-requires : tie.Need-reduce-requires
 reduce-requires c κs = search needs
 
+no-fault-requires : tie.Need-no-fault-requires
+no-fault-requires c κs = search needs
+
 same-length : tie.Need-same-length
 same-length c = omega arith
 
@@ -18,8 +21,8 @@ same-length-2 c = omega arith
 
 returns : tie.Need-returns
 unfolding auditLeft
-returns c = let r = c .before .before .before .before .before .before .before .reduce in
-    (r .ensures .0, (rw (ne-eqb _ 0 (c .if1 .taken)), ((λ z. absurd (c .if1 .taken z)), (r .ensures .1 .0, r .ensures .1 .1))))
+returns c = let r = c .before .before .before .before .before .before .before .before .reduce in
+    (r .ensures .0, (rw (ne-eqb _ 0 (c .before .if1 .taken), c .no-fault .ensures), ((λ z. absurd (c .before .if1 .taken z)), (r .ensures .1 .0, r .ensures .1 .1))))
 
 audit-reduction-requires : tie.Need-audit-reduction-requires
 audit-reduction-requires c κs =
@@ -48,6 +51,7 @@ reduce-and-audit-spec =
     tie.close
     (tie.spec
     reduce-requires
+    no-fault-requires
     same-length
     same-length-2
     returns

@@ -1,77 +1,26 @@
--- `faults::lost::lost_faults` meets its contract: the count is that of the places passed so far. Assumes nothing.
+-- `faults::lost::lost_faults` meets its contract: a hop is lost exactly when the first place is below the hop count. Assumes nothing.
 use borrow.Author.Needs.{needs}
-use Prim.Native.Nat.{ℕ, _≤_, _-_}
-use mathlib.Core.Path.{_≡_, sym, _∙_}
-use mathlib.Core.Bool.{Bool, not}
-use mathlib.Core.Logic.{⊎-elim}
-use native.Mathlib.Omega.{arith}
-use Rattle.below.specs.Tests.{tally}
-use Rattle.graph.specs.Hops.{count}
-use Rattle.below.proofs.Tests.{tally-none, tally-more, tally-skip, tally-done, tally-within}
-use Rattle.faults.specs.Faults.{kept, lostFaults}
+use Rattle.faults.proofs.Keeping.{lost-first, lost-none}
 use Rattle.faults.proofs.lost.lost_faults.Statement.{statement}
 use Rattle.faults.proofs.lost.lost_faults.Tie as tie
 
-abbrev Inv-loop : tie.InvT-loop
-Inv-loop shape1 hops1 hops2 map images n faults₀ i₀ faults i = (n ≡ count hops1) × (i ≤ n) × (faults ≡ tally i (λ (j : ℕ). not (kept hops1 hops2 map j)))
+first-lost-requires : tie.Need-first-lost-requires
+first-lost-requires c κs = search needs
 
-abbrev μ-loop : tie.MeasureT-loop
-μ-loop shape1 hops1 hops2 map images n faults₀ i₀ faults i = n - i
+lost-from-requires : tie.Need-lost-from-requires
+lost-from-requires c κs = (c .before .before .before .before .pre .0, (c .before .before .before .before .pre .1, c .first-lost .ensures))
 
-hop-count-requires : tie.Need-hop-count-requires Inv-loop μ-loop
+hop-count-requires : tie.Need-hop-count-requires
 hop-count-requires c κs = search needs
 
-loop-holds : tie.Need-loop-holds Inv-loop μ-loop
-loop-holds c = (search needs, search needs, sym (tally-none _))
+returns : tie.Need-returns
+returns c = (c .before .before .lost-from .ensures, lost-first _ _ _ (c .before .before .before .first-lost .ensures) (c .before .hop-count .ensures) (c .if1 .taken))
 
--- what the function was called with, and the test that is counted
-module _ (c : tie.At-loop Inv-loop μ-loop) where
-  abbrev start : tie.Start Inv-loop μ-loop
-  start = c .before .before .before .before .before
+no-fault-requires : tie.Need-no-fault-requires
+no-fault-requires c κs = search needs
 
-  abbrev lost : ℕ → Bool
-  lost j = not (kept (start .args .hops1 .now) (start .args .hops2 .now) (start .args .map .now) j)
-
-is-kept-requires : tie.Need-is-kept-requires Inv-loop μ-loop
-is-kept-requires c κs =
-    let s = start (c .before) in (s .pre .0, (s .pre .1, omega (arith, c .before .loop .inv .0, c .loop-test .taken)))
-
--- the test at the place that was looked at
-lost-is : (c : tie.After-is-kept Inv-loop μ-loop) {x : Bool} → not (c .is-kept .result) ≡ x → lost (c .before .before) (c .before .before .loop .i) ≡ x
-lost-is c {x} e = rw (c .is-kept .ensures) at e
-
-add-faults : tie.Need-add-faults Inv-loop μ-loop
-add-faults c = let a = c .before .before .before in omega (arith, tally-within (lost a) (a .loop .i))
-
-add-i : tie.Need-add-i Inv-loop μ-loop
-add-i c = search needs
-
-loop-less : tie.Need-loop-less Inv-loop μ-loop
-loop-less c = search needs
-
-loop-again : tie.Need-loop-again Inv-loop μ-loop
-loop-again c = let a = c .before .before .before in (
-  search needs,
-  omega arith,
-  ⊎-elim (λ w. w .1 ∙ tally-more (lost a) (a .loop .i) (a .loop .inv .2) (lost-is (c .before) (w .0 .taken)))
-      (λ w. w .1 ∙ tally-skip (lost a) (a .loop .i) (a .loop .inv .2) (lost-is (c .before) (w .0 .left))) (c .if1 .came),
-)
-
-returns : tie.Need-returns Inv-loop μ-loop
-unfolding lostFaults
-returns c = tally-done _ (omega arith) (omega arith) (c .before .loop .inv .2)
+returns-2 : tie.Need-returns-2
+returns-2 c = (c .before .before .before .lost-from .ensures, lost-none _ _ _ (c .before .before .before .before .first-lost .ensures) (c .before .before .hop-count .ensures) (c .before .if1 .left) (c .no-fault .ensures))
 
 pub lost-faults-spec : {M : Type 1} → statement M
-lost-faults-spec =
-    tie.close
-    (tie.spec
-    Inv-loop
-    μ-loop
-    hop-count-requires
-    loop-holds
-    is-kept-requires
-    add-faults
-    add-i
-    loop-less
-    loop-again
-    returns)
+lost-faults-spec = tie.close (tie.spec first-lost-requires lost-from-requires hop-count-requires returns no-fault-requires returns-2)

@@ -1,4 +1,4 @@
--- `ticks::all_made_up` meets its contract: the tables are made, the working space is long enough, and its stamps are 0.
+-- `made_up::all_made_up` meets its contract: the tables are made, the working space is long enough, and its stamps are 0.
 -- Assumes nothing.
 use borrow.Author.Needs.{needs}
 use Prim.Native.Nat.{ℕ}
@@ -6,9 +6,9 @@ use native.Mathlib.Omega.{arith}
 use lib.ListN.{length-replicate}
 use Rattle.graph.specs.Answers.{most-states, most-hops}
 use Rattle.starts.proofs.Firsts.{admitted-ready}
-use Rattle.ticks.proofs.Ticking.{fresh-start}
-use Rattle.ticks.proofs.all_made_up.Statement.{statement}
-use Rattle.ticks.proofs.all_made_up.Tie as tie
+use Rattle.made_up.proofs.Backing.{fresh-start}
+use Rattle.made_up.proofs.all_made_up.Statement.{statement}
+use Rattle.made_up.proofs.all_made_up.Tie as tie
 
 starts-of-requires : tie.Need-starts-of-requires
 starts-of-requires c κs = admitted-ready (c .before .before .before .pre .0 .admitted)

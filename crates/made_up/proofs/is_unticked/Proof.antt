@@ -1,8 +1,8 @@
--- `ticks::is_unticked` meets its contract. Assumes nothing.
+-- `made_up::is_unticked` meets its contract. Assumes nothing.
 use borrow.Author.Needs.{needs}
-use Rattle.ticks.proofs.Ticking.{unticked-hop}
-use Rattle.ticks.proofs.is_unticked.Statement.{statement}
-use Rattle.ticks.proofs.is_unticked.Tie as tie
+use Rattle.made_up.proofs.Backing.{unticked-hop}
+use Rattle.made_up.proofs.is_unticked.Statement.{statement}
+use Rattle.made_up.proofs.is_unticked.Tie as tie
 
 new-from-at-requires : tie.Need-new-from-at-requires
 new-from-at-requires c κs = search needs

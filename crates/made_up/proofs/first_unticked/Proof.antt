@@ -1,27 +1,26 @@
--- `ticks::count_unticked` meets its contract: the count is that of the places passed so far, and of those before the first. Assumes nothing.
+-- `made_up::first_unticked` meets its contract: none of the hops passed so far is unticked, nor one before the first or past the last. Assumes nothing.
 use borrow.Author.Needs.{needs}
 use Prim.Native.Nat.{ℕ, _+_, _≤_, _-_}
-use mathlib.Core.Path.{_≡_, ap, _∙_}
+use mathlib.Core.Path.{_≡_, sym, ap, _∙_}
 use mathlib.Core.Bool.{Bool}
-use mathlib.Core.Logic.{⊎-elim}
 use native.Mathlib.Omega.{arith}
-use Rattle.below.specs.Tests.{tally}
+use Rattle.below.specs.Tests.{least}
 use Rattle.graph.specs.Hops.{count}
 use Rattle.graph.specs.Search.{firstOf}
-use Rattle.below.proofs.Tests.{tally-more, tally-skip, tally-within}
+use Rattle.below.proofs.Tests.{least-more, least-found}
 use Rattle.graph.proofs.Lookup.{first-within}
 use Rattle.starts.proofs.Firsts.{first-next, start-is}
-use Rattle.ticks.specs.Ticks.{unticked}
-use Rattle.ticks.proofs.Rows.{unticked-before, unticked-after}
-use Rattle.ticks.proofs.count_unticked.Statement.{statement}
-use Rattle.ticks.proofs.count_unticked.Tie as tie
+use Rattle.made_up.specs.States.{unticked}
+use Rattle.made_up.proofs.Own.{first-begins, first-ends}
+use Rattle.made_up.proofs.first_unticked.Statement.{statement}
+use Rattle.made_up.proofs.first_unticked.Tie as tie
 
 abbrev Inv-loop : tie.InvT-loop
-Inv-loop hops2 starts2 stamps r k at past faults₀ j₀ faults j =
-    (past ≡ firstOf hops2 (r .0 + 1)) × (past ≤ count hops2) × (j ≤ past) × (faults ≡ tally j (unticked hops2 stamps (r .0) k))
+Inv-loop hops2 starts2 stamps r k at past j₀ j =
+    (past ≡ firstOf hops2 (r .0 + 1)) × (past ≤ count hops2) × (j ≤ past) × (least j (unticked hops2 stamps (r .0) k) ≡ j)
 
 abbrev μ-loop : tie.MeasureT-loop
-μ-loop hops2 starts2 stamps r k at past faults₀ j₀ faults j = past - j
+μ-loop hops2 starts2 stamps r k at past j₀ j = past - j
 
 wide-requires : tie.Need-wide-requires Inv-loop μ-loop
 wide-requires c κs = search needs
@@ -47,10 +46,10 @@ loop-holds c =
       p,
       omega (arith, first-within hs up (s .args .r .0 + 1)),
       omega (arith, first-next hs up (s .args .r .0)),
-      rw f (unticked-before hs (s .args .stamps .now) up (s .args .r .0) (s .args .k)),
+      rw f (first-begins hs (s .args .stamps .now) up (s .args .r .0) (s .args .k)),
     )
 
--- the test that is counted
+-- the test of a hop
 module _ (c : tie.At-loop Inv-loop μ-loop) where
   abbrev start : tie.Start Inv-loop μ-loop
   start = c .before .before .before .before .before .before
@@ -61,10 +60,14 @@ module _ (c : tie.At-loop Inv-loop μ-loop) where
 is-unticked-requires : tie.Need-is-unticked-requires Inv-loop μ-loop
 is-unticked-requires c κs = search needs
 
-add-faults : tie.Need-add-faults Inv-loop μ-loop
-add-faults c =
-    let s = c .before .before .before .before .before .before .before .before .before in
-    omega (arith, tally-within (unticked (s .args .hops2 .now) (s .args .stamps .now) (s .args .r .0) (s .args .k)) (c .before .before .before .loop .j))
+-- the test at the place that was looked at
+told : (c : tie.After-is-unticked Inv-loop μ-loop) {x : Bool} → c .is-unticked .result ≡ x → test (c .before .before) (c .before .before .loop .j) ≡ x
+told c {x} e = rw (c .is-unticked .ensures) at e
+
+returns : tie.Need-returns Inv-loop μ-loop
+returns c =
+    let a = c .before .before .before in
+    sym (least-found (test a) (count (start a .args .hops2 .now)) (omega arith) (a .loop .inv .3) (told (c .before) (c .if1 .taken)))
 
 add-j : tie.Need-add-j Inv-loop μ-loop
 add-j c = search needs
@@ -72,27 +75,25 @@ add-j c = search needs
 loop-less : tie.Need-loop-less Inv-loop μ-loop
 loop-less c = search needs
 
--- the test at the place that was looked at
-told : (c : tie.After-is-unticked Inv-loop μ-loop) {x : Bool} → c .is-unticked .result ≡ x → test (c .before .before) (c .before .before .loop .j) ≡ x
-told c {x} e = rw (c .is-unticked .ensures) at e
-
 loop-again : tie.Need-loop-again Inv-loop μ-loop
 loop-again c = let a = c .before .before .before in (
   search needs,
   search needs,
   omega arith,
-  ⊎-elim (λ w. w .1 ∙ tally-more (test a) (a .loop .j) (a .loop .inv .3) (told (c .before) (w .0 .taken)))
-      (λ w. w .1 ∙ tally-skip (test a) (a .loop .j) (a .loop .inv .3) (told (c .before) (w .0 .left))) (c .if1 .came),
+  least-more (test a) (a .loop .j) (a .loop .inv .3) (told (c .before) (c .if1 .left)),
 )
 
-returns : tie.Need-returns Inv-loop μ-loop
-returns c =
-    let s = c .before .before .before .before .before .before .before in
-    let q : c .before .loop .j ≡ firstOf (s .args .hops2 .now) (s .args .r .0 + 1) = omega arith in
-    c .before .loop .inv .3 ∙ rw q (unticked-after (s .args .hops2 .now) (s .args .stamps .now) (s .pre .0 .ascending) (s .args .r .0) (s .args .k))
+hop-count-requires : tie.Need-hop-count-requires Inv-loop μ-loop
+hop-count-requires c κs = search needs
 
-pub count-unticked-spec : {M : Type 1} → statement M
-count-unticked-spec =
+returns-2 : tie.Need-returns-2 Inv-loop μ-loop
+returns-2 c =
+    let s = c .before .before .before .before .before .before .before .before in
+    c .hop-count .ensures ∙
+    first-ends (s .args .hops2 .now) (s .args .stamps .now) (s .pre .0 .ascending) (s .args .r .0) (s .args .k) (omega (arith, c .before .before .loop .inv .0)) (c .before .before .loop .inv .3)
+
+pub first-unticked-spec : {M : Type 1} → statement M
+first-unticked-spec =
     tie.close
     (tie.spec
     Inv-loop
@@ -103,8 +104,9 @@ count-unticked-spec =
     start-of-requires-2
     loop-holds
     is-unticked-requires
-    add-faults
+    returns
     add-j
     loop-less
     loop-again
-    returns)
+    hop-count-requires
+    returns-2)
