@@ -11,7 +11,7 @@ use borrow.Author.Tests.{ltb-true, lt-ltb, le-ltb}
 use lib.Dec.{ltb}
 use Rattle.below.specs.Tests.{any, least, tally}
 use Rattle.below.proofs.Bools.{clash, lt-or-le, or-right}
-use Rattle.below.proofs.Tests.{any-at, any-never, least-within, least-passes, least-before, least-is, tally-zero, tally-each}
+use Rattle.below.proofs.Tests.{any-at, any-never, least-within, least-passes, least-before, least-is, tally-zero}
 
 module _ (p : ℕ → Bool) (n : ℕ) where
   -- nothing that comes before it counts
@@ -26,9 +26,6 @@ module _ (p : ℕ → Bool) (n : ℕ) where
 
   pub least-all : n ≤ least n p → {j : ℕ} → j < n → p j ≡ false
   least-all h l = least-before p n (omega arith)
-
-  pub least-zero : tally n p ≡ 0 → n ≤ least n p
-  least-zero e = ⊎-elim (λ h. clash (least-passes p n h) (tally-each p n e h)) (λ h. h) (lt-or-le (least n p) n)
 
   pub zero-least : n ≤ least n p → tally n p ≡ 0
   zero-least h = tally-zero p n (λ j l. least-all h l)

@@ -18,7 +18,7 @@ use Rattle.faults.specs.Faults.{initialFault, kept, lostFaults, madeUp, 
 use Rattle.faults.specs.First.{fault, noFault, firstInitial, lostPlace, firstLost, madeUpPlace, madeUpState, firstMadeUp, firstFault, IsFault, sooner, IsFirst}
 use Rattle.faults.specs.declared.Fault.{Fault}
 
--- of two faults of one kind, the one with the lower place is not after the other, nor that with the same place and the lower state
+-- a fault whose place is not below p, and at p its state not below t, is not before the fault of that kind with p and t
 not-sooner : (k : ℕ) {i p : ℕ} → p ≤ i → {s t : ℕ} → (i ≡ p → t ≤ s) → sooner (fault k i s) (fault k p t) ≡ false
 unfolding sooner
 not-sooner k {i} {p} l {s} {t} f =
@@ -27,7 +27,7 @@ not-sooner k {i} {p} l {s} {t} f =
       go (inl e) = and-no-right (eqb i p) (le-ltb s t (f e))
       go (inr d) = and-no-left (ltb s t) (ne-eqb i p d)
 
--- nor a fault of a higher kind
+-- nor is a fault of a higher kind
 higher : (f g : Fault) → g .kind < f .kind → sooner f g ≡ false
 unfolding sooner
 higher f g l = or-no (le-ltb (f .kind) (g .kind) (omega arith)) (and-no-left _ (ne-eqb (f .kind) (g .kind) (λ e. omega arith)))
@@ -97,20 +97,20 @@ module _ (sh1 sh2 : Shape) (h1 h2 m : List ℕ) where
         )
 
   -- a hop that is made up is not before the place of the first, nor, at that place, its state before the first state
-  place-first : {j s : ℕ} → j < count h2 → s < sh1 .states → madeUp sh1 h1 h2 m j s ≡ true → madeUpPlace sh1 h1 h2 m ≤ j
+  made-up-not-before : {j s : ℕ} → j < count h2 → s < sh1 .states → madeUp sh1 h1 h2 m j s ≡ true → madeUpPlace sh1 h1 h2 m ≤ j
   unfolding madeUpPlace
-  place-first {j} {s} a b d =
+  made-up-not-before {j} {s} a b d =
       ⊎-elim (λ l. clash (any-found (madeUp sh1 h1 h2 m j) (sh1 .states) b d) (least-before made (count h2) l)) (λ l. l) (lt-or-le j (least (count h2) made))
 
-  state-first : {j s : ℕ} → s < sh1 .states → madeUp sh1 h1 h2 m j s ≡ true → j ≡ madeUpPlace sh1 h1 h2 m → madeUpState sh1 h1 h2 m ≤ s
+  state-not-before : {j s : ℕ} → s < sh1 .states → madeUp sh1 h1 h2 m j s ≡ true → j ≡ madeUpPlace sh1 h1 h2 m → madeUpState sh1 h1 h2 m ≤ s
   unfolding madeUpState
-  state-first {j} {s} b d e =
+  state-not-before {j} {s} b d e =
       let test = madeUp sh1 h1 h2 m (madeUpPlace sh1 h1 h2 m) in
       ⊎-elim (λ l. clash (rw e at d) (least-before test (sh1 .states) l)) (λ l. l) (lt-or-le s (least (sh1 .states) test))
 
-  lost-first : {i : ℕ} → i < count h1 → kept h1 h2 m i ≡ false → lostPlace h1 h2 m ≤ i
+  lost-not-before : {i : ℕ} → i < count h1 → kept h1 h2 m i ≡ false → lostPlace h1 h2 m ≤ i
   unfolding lostPlace
-  lost-first {i} l d = ⊎-elim (λ k. clash (not-no d) (least-before lost (count h1) k)) (λ k. k) (lt-or-le i (least (count h1) lost))
+  lost-not-before {i} l d = ⊎-elim (λ k. clash (not-no d) (least-before lost (count h1) k)) (λ k. k) (lt-or-le i (least (count h1) lost))
 
   is-lost : lostPlace h1 h2 m < count h1 → kept h1 h2 m (lostPlace h1 h2 m) ≡ false
   unfolding lostPlace
@@ -128,9 +128,9 @@ module _ (sh1 sh2 : Shape) (h1 h2 m : List ℕ) where
       let some : least (sh1 .states) test < sh1 .states = least-some test (sh1 .states) (least-passes made (count h2) k) in
       (least (count h2) made, least (sh1 .states) test, k, some, least-passes test (sh1 .states) some, refl)
 
-  first-parted : Parted → IsFirst sh1 sh2 h1 h2 m (firstFault sh1 sh2 h1 h2 m)
+  when-parted : Parted → IsFirst sh1 sh2 h1 h2 m (firstFault sh1 sh2 h1 h2 m)
   unfolding Parted firstFault faultsOf
-  first-parted (d, e, z) = rw e (record {
+  when-parted (d, e, z) = rw e (record {
     none = (λ q. absurd (omega arith), λ q. absurd (omega (arith, z)));
     none-at-all = λ q. absurd (omega arith);
     a-fault = λ _. inl (d, refl);
@@ -141,9 +141,9 @@ module _ (sh1 sh2 : Shape) (h1 h2 m : List ℕ) where
     before g (inr (inl (i, _, _, q))) = rw q (higher _ _ (omega arith))
     before g (inr (inr (j, s, _, _, _, q))) = rw q (higher _ _ (omega arith))
 
-  first-lost : Joined → Lost → IsFirst sh1 sh2 h1 h2 m (firstFault sh1 sh2 h1 h2 m)
+  when-lost : Joined → Lost → IsFirst sh1 sh2 h1 h2 m (firstFault sh1 sh2 h1 h2 m)
   unfolding Joined Lost firstFault faultsOf
-  first-lost (c, e, z) (l, f, y) = rw (e, f) (record {
+  when-lost (c, e, z) (l, f, y) = rw (e, f) (record {
     none = (λ q. absurd (omega arith), λ q. absurd (y (omega arith)));
     none-at-all = λ q. absurd (omega arith);
     a-fault = λ _. inr (inl (lostPlace h1 h2 m, l, is-lost l, refl));
@@ -151,12 +151,12 @@ module _ (sh1 sh2 : Shape) (h1 h2 m : List ℕ) where
   }) where
     before : (g : Fault) → IsFault sh1 sh2 h1 h2 m g → sooner g (fault 2 (lostPlace h1 h2 m) 0) ≡ false
     before g (inl (d, q)) = absurd (d c)
-    before g (inr (inl (i, a, d, q))) = rw q (not-sooner 2 (lost-first a d) (λ _. omega arith))
+    before g (inr (inl (i, a, d, q))) = rw q (not-sooner 2 (lost-not-before a d) (λ _. omega arith))
     before g (inr (inr (j, s, _, _, _, q))) = rw q (higher _ _ (omega arith))
 
-  first-made-up : Joined → Kept → MadeUp → IsFirst sh1 sh2 h1 h2 m (firstFault sh1 sh2 h1 h2 m)
+  when-made-up : Joined → Kept → MadeUp → IsFirst sh1 sh2 h1 h2 m (firstFault sh1 sh2 h1 h2 m)
   unfolding Joined Kept MadeUp firstFault faultsOf
-  first-made-up (c, e, z) (k, f, y) (l, h, x) = rw (e, f, h) (record {
+  when-made-up (c, e, z) (k, f, y) (l, h, x) = rw (e, f, h) (record {
     none = (λ q. absurd (omega arith), λ q. absurd (x (omega arith)));
     none-at-all = λ q. absurd (omega arith);
     a-fault = λ _. inr (inr (is-made l));
@@ -165,11 +165,11 @@ module _ (sh1 sh2 : Shape) (h1 h2 m : List ℕ) where
     before : (g : Fault) → IsFault sh1 sh2 h1 h2 m g → sooner g (fault 3 (madeUpPlace sh1 h1 h2 m) (madeUpState sh1 h1 h2 m)) ≡ false
     before g (inl (d, q)) = absurd (d c)
     before g (inr (inl (i, a, d, q))) = clash (k i a) d
-    before g (inr (inr (j, s, a, b, d, q))) = rw q (not-sooner 3 (place-first a b d) (state-first b d))
+    before g (inr (inr (j, s, a, b, d, q))) = rw q (not-sooner 3 (made-up-not-before a b d) (state-not-before b d))
 
-  first-none : Joined → Kept → Backed → IsFirst sh1 sh2 h1 h2 m (firstFault sh1 sh2 h1 h2 m)
+  when-none : Joined → Kept → Backed → IsFirst sh1 sh2 h1 h2 m (firstFault sh1 sh2 h1 h2 m)
   unfolding Joined Kept Backed firstFault faultsOf
-  first-none (c, e, z) (k, f, y) (b, h, x) = rw (e, f, h) (record {
+  when-none (c, e, z) (k, f, y) (b, h, x) = rw (e, f, h) (record {
     none = (λ _. omega arith, λ _. refl);
     none-at-all = λ _. never;
     a-fault = λ d. absurd (d refl);
@@ -182,7 +182,7 @@ module _ (sh1 sh2 : Shape) (h1 h2 m : List ℕ) where
 
   -- the fault that is named is the first: for every two graphs and map, admitted or not
   pub first-is-first : IsFirst sh1 sh2 h1 h2 m (firstFault sh1 sh2 h1 h2 m)
-  first-is-first = ⊎-elim (λ j. ⊎-elim (λ k. ⊎-elim (first-none j k) (first-made-up j k) making) (first-lost j) losing) first-parted initially
+  first-is-first = ⊎-elim (λ j. ⊎-elim (λ k. ⊎-elim (when-none j k) (when-made-up j k) making) (when-lost j) losing) when-parted initially
 
   -- no fault is counted, and none is named
   pub none-named : faultsOf sh1 sh2 h1 h2 m ≡ 0 → noFault ≡ firstFault sh1 sh2 h1 h2 m

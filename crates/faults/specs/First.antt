@@ -31,7 +31,8 @@ lostPlace h1 h2 m = least (count h1) (λ (i : ℕ). not (kept h1 h2 m i))
 unfoldable pub firstLost : List ℕ → List ℕ → List ℕ → Fault
 firstLost h1 h2 m = cond (ltb (lostPlace h1 h2 m) (count h1)) (fault 2 (lostPlace h1 h2 m) 0) noFault
 
--- kind 3, the hops of graph 2 "in list order, then states ascending": the place of the first that is made up for some state, or the hop count, and the first such state
+-- kind 3, the hops of graph 2 "in list order, then states ascending": the place of the first that is made up for some state, or the hop count, and the
+-- first such state
 unfoldable pub madeUpPlace : Shape → List ℕ → List ℕ → List ℕ → ℕ
 madeUpPlace sh1 h1 h2 m = least (count h2) (λ (j : ℕ). any (sh1 .states) (madeUp sh1 h1 h2 m j))
 

@@ -1,7 +1,7 @@
 -- `bisimulation::counting::fault_count` meets its contract: the three sums, which fit, and the first fault of the lowest kind. Assumes nothing.
 use borrow.Author.Needs.{needs}
 use Prim.Native.Nat.{_+_, _≤_}
-use mathlib.Core.Path.{_≡_, ap, _∙_}
+use mathlib.Core.Path.{_≡_, _∙_}
 use native.Mathlib.Omega.{arith}
 use Rattle.graph.specs.Answers.{most-hops}
 use Rattle.faults.specs.Faults.{faultsOf}
