@@ -24,7 +24,7 @@
 #include <stdint.h>
 
 #define ZF_VERSION_MAJOR 0
-#define ZF_VERSION_MINOR 2
+#define ZF_VERSION_MINOR 3
 #define ZF_VERSION_PATCH 0
 
 /* The limits. State and label counts are 1 at least. */
@@ -53,6 +53,15 @@
 #define ZF_NAME 14 /* a name of length 0 or over ZF_LONGEST_NAME, or one equal to an earlier one (place: the length byte of the first such name; for writing,
                       counted from the block's start); for writing, before any fault in a name, a block that ends early (place: its length) or has bytes
                       left over (place: the first of them) */
+#define ZF_SENSE 19 /* a sense that is none of ZF_SENSE_.. */
+
+/* The senses. The hops of a set U of silent hops close when for each hop s1 to s2 of U and each hop s1, a, s3 a hop labelled a answers (or a is silent) and both
+ * ways meet in a state s4; what hops of U may do besides is said by the sense, and zf_mark marks the hops of the greatest such set. R1's are among R2's and
+ * R3's, and theirs among R8's. */
+#define ZF_SENSE_R1 1 /* strong confluence: the answering hop leaves s2 and leads to s4, and s3 is s4 or a hop of U leads from s3 to s4 */
+#define ZF_SENSE_R2 2 /* as R1, but after the answering hop zero or more hops of U lead to s4 */
+#define ZF_SENSE_R3 3 /* as R1, but zero or more hops of U come before the answering hop */
+#define ZF_SENSE_R8 8 /* weak confluence: as R2 and R3 at once, and s3 reaches s4 by zero or more hops of U */
 
 /* The kinds of faults, in the order in which an audit names the first of them. */
 #define ZF_FAULT_NONE 0 /* there is none */
@@ -92,19 +101,19 @@ extern "C" {
 /* Checks a graph for 1 to 4. */
 uint32_t zf_check(uint32_t states, uint32_t labels, uint32_t initial, const uint16_t *hops, size_t hops_len, uint64_t *answer, size_t answer_len);
 
-/* Marks the hops of the greatest confluent set. Output: `marks`, one 1 or 0 a hop. */
-uint32_t zf_mark(uint32_t states, uint32_t labels, uint32_t initial, const uint16_t *hops, size_t hops_len, uint8_t *marks, size_t marks_len,
-                 uint64_t *answer, size_t answer_len);
+/* Marks the hops of the greatest set of a sense (ZF_SENSE_..). Output: `marks`, one 1 or 0 a hop. */
+uint32_t zf_mark(uint32_t states, uint32_t labels, uint32_t initial, const uint16_t *hops, size_t hops_len, uint32_t sense,
+                 uint8_t *marks, size_t marks_len, uint64_t *answer, size_t answer_len);
 
-/* Marks the same hops by rounds, with the same refusals: the first round tests every silent hop, each later one those still marked that have a hop to
+/* Marks the hops of R1 by rounds, with the refusals of zf_mark but ZF_SENSE: the first round tests every silent hop, each later one those still marked that have a hop to
  * try with a closing that fell in the round before. Output: `marks`, one 1 or 0 a hop. Figure: the number of tests. */
 uint32_t zf_mark_fast(uint32_t states, uint32_t labels, uint32_t initial, const uint16_t *hops, size_t hops_len, uint8_t *marks, size_t marks_len,
                       uint64_t *answer, size_t answer_len);
 
-/* Reduces a graph. Outputs: `map`, one number a state; `short_hops`, for which room is asked as for the input, hops_len numbers, and of which three
+/* Reduces a graph in a sense (ZF_SENSE_..). Outputs: `map`, one number a state; `short_hops`, for which room is asked as for the input, hops_len numbers, and of which three
  * are written for each hop of the short graph. Figures: the short graph's state count, label count, hop count and initial state. */
-uint32_t zf_reduce(uint32_t states, uint32_t labels, uint32_t initial, const uint16_t *hops, size_t hops_len, uint16_t *map, size_t map_len,
-                   uint16_t *short_hops, size_t short_len, uint64_t *answer, size_t answer_len);
+uint32_t zf_reduce(uint32_t states, uint32_t labels, uint32_t initial, const uint16_t *hops, size_t hops_len, uint32_t sense,
+                   uint16_t *map, size_t map_len, uint16_t *short_hops, size_t short_len, uint64_t *answer, size_t answer_len);
 
 /* Counts the faults of a map from graph 1 to graph 2, and names the first; none: the map is a branching bisimulation that joins the initial states.
  * Figures: the fault count; the first fault's kind (ZF_FAULT_..), place and state, 0 with none. The first is that of the least kind, then place, then
@@ -113,7 +122,8 @@ uint32_t zf_audit(uint32_t states1, uint32_t labels1, uint32_t initial1, const u
                   uint32_t states2, uint32_t labels2, uint32_t initial2, const uint16_t *hops2, size_t hops2_len,
                   const uint16_t *map, size_t map_len, uint64_t *answer, size_t answer_len);
 
-/* The round question: whether the silent hop at a place survives so many rounds, 0 to ZF_MOST_ROUNDS, of the marking. Figure: 1 or 0. */
+/* The round question: whether the silent hop at a place survives so many rounds, 0 to ZF_MOST_ROUNDS, of the marking
+ * of R1. Figure: 1 or 0. */
 uint32_t zf_round(uint32_t states, uint32_t labels, uint32_t initial, const uint16_t *hops, size_t hops_len, uint64_t place, uint32_t rounds,
                   uint64_t *answer, size_t answer_len);
 

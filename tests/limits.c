@@ -1,4 +1,4 @@
-/* What include/zundrafipo.h promises to a caller, tried on the library: its limits, the name of each number and of each kind of fault, where a hop is found,
+/* What include/zundrafipo.h promises to a caller, tried on the library: its limits, the name of each number, of each sense and of each kind of fault, where a hop is found,
  * how long each answer is and what a short one does, and null pointers beside a length of 0. The same file is C and C++. */
 #include <stdio.h>
 #include <string.h>
@@ -57,13 +57,69 @@ static void numbers(void) {
     expect("ZF_INITIAL", zf_check(4, 2, 4, p1, 12, answer, ZF_ANSWER_CHECK), ZF_INITIAL);
     expect("ZF_HOP", zf_check(4, 2, 0, absent, 3, answer, ZF_ANSWER_CHECK), ZF_HOP);
     expect("ZF_ORDER", zf_check(4, 2, 0, descending, 6, answer, ZF_ANSWER_CHECK), ZF_ORDER);
-    expect("ZF_RING", zf_mark(4, 2, 0, silent_ring, 3, marks, 1, answer, ZF_ANSWER_MARK), ZF_RING);
-    expect("ZF_ROOM", zf_mark(P1, marks, 3, answer, ZF_ANSWER_MARK), ZF_ROOM);
+    expect("ZF_RING", zf_mark(4, 2, 0, silent_ring, 3, ZF_SENSE_R1, marks, 1, answer, ZF_ANSWER_MARK), ZF_RING);
+    expect("ZF_ROOM", zf_mark(P1, ZF_SENSE_R1, marks, 3, answer, ZF_ANSWER_MARK), ZF_ROOM);
     expect("ZF_LABELS", zf_audit(P1, 2, 3, 0, p1_short, 3, p1_map, 4, answer, ZF_ANSWER_AUDIT), ZF_LABELS);
     expect("ZF_MAP", zf_audit(P1, 2, 2, 0, p1_short, 3, p1_map, 3, answer, ZF_ANSWER_AUDIT), ZF_MAP);
     expect("ZF_NO_SILENT_HOP", zf_round(P1, 1, 0, answer, ZF_ANSWER_ROUND), ZF_NO_SILENT_HOP);
     expect("ZF_FILE_ENDS", zf_read(high_bit, 0, list, NUMBERS, answer, ZF_ANSWER_READ), ZF_FILE_ENDS);
     expect("ZF_BIT_MAP", zf_read(high_bit, 5, list, NUMBERS, answer, ZF_ANSWER_READ), ZF_BIT_MAP);
+}
+
+/* Which of four hops' marks a sense writes, as a number of bits, and how many states it leaves. */
+static void sense(const char *what, uint32_t number, const uint16_t *list_of, size_t states, uint64_t wanted, uint64_t states_left) {
+    uint64_t found = 0;
+    size_t i;
+    expect(what, zf_mark((uint32_t)states, 2, 0, list_of, 15, number, marks, 5, answer, ZF_ANSWER_MARK), ZF_ACCEPTED);
+    for (i = 0; i < 5; i++) found = 2 * found + marks[i];
+    expect(what, found, wanted);
+    expect(what, zf_reduce((uint32_t)states, 2, 0, list_of, 15, number, map, states, list, 15, answer, ZF_ANSWER_REDUCE), ZF_ACCEPTED);
+    expect(what, answer[3], states_left);
+}
+
+/* A number that is no sense is refused after the graph's own faults, and before a ring or too little room. */
+static void no_sense(const char *what, uint32_t number) {
+    static const uint16_t silent_ring[3] = {0, 0, 0}, repeated[6] = {0, 0, 1, 0, 0, 1};
+    expect(what, zf_mark(P1, number, marks, 4, answer, ZF_ANSWER_MARK), ZF_SENSE);
+    expect(what, answer[0], ZF_SENSE);
+    expect(what, answer[1], 1);
+    expect(what, answer[2], 0);
+    expect(what, zf_reduce(P1, number, map, 4, list, 12, answer, ZF_ANSWER_REDUCE), ZF_SENSE);
+    expect(what, answer[3] + answer[4] + answer[5] + answer[6], 0);
+    expect(what, zf_mark(4, 2, 0, repeated, 6, number, marks, 4, answer, ZF_ANSWER_MARK), ZF_ORDER);
+    expect(what, zf_reduce(4, 2, 0, repeated, 6, number, map, 4, list, 12, answer, ZF_ANSWER_REDUCE), ZF_ORDER);
+    expect(what, zf_mark(4, 2, 0, silent_ring, 3, number, NULL, 0, answer, ZF_ANSWER_MARK), ZF_SENSE);
+    expect(what, zf_reduce(4, 2, 0, silent_ring, 3, number, NULL, 0, NULL, 0, answer, ZF_ANSWER_REDUCE), ZF_SENSE);
+    expect(what, zf_mark(P1, number, NULL, 0, NULL, 0), ZF_SENSE);
+    expect(what, zf_reduce(P1, number, NULL, 0, NULL, 0, NULL, 0), ZF_SENSE);
+}
+
+/* The case that only R8 marks whole; one that R2 marks and R3 does not, and the other way round, each with a hop more so that there are five. */
+static void senses(void) {
+    static const uint16_t only_r8[15] = {0, 0, 1, 0, 1, 2, 1, 1, 3, 2, 0, 4, 4, 0, 3};
+    static const uint16_t not_r3[15] = {0, 1, 1, 1, 0, 0, 1, 1, 0, 2, 0, 3, 3, 0, 4};
+    static const uint16_t not_r2[15] = {0, 0, 1, 0, 1, 0, 1, 0, 2, 2, 1, 1, 3, 0, 4};
+    sense("R1", ZF_SENSE_R1, only_r8, 5, 3, 3);
+    sense("R2", ZF_SENSE_R2, only_r8, 5, 3, 3);
+    sense("R3", ZF_SENSE_R3, only_r8, 5, 3, 3);
+    sense("R8", ZF_SENSE_R8, only_r8, 5, 19, 2);
+    sense("R1, not R3", ZF_SENSE_R1, not_r3, 5, 3, 3);
+    sense("R2, not R3", ZF_SENSE_R2, not_r3, 5, 11, 2);
+    sense("R3, not R3", ZF_SENSE_R3, not_r3, 5, 3, 3);
+    sense("R8, not R3", ZF_SENSE_R8, not_r3, 5, 11, 2);
+    sense("R1, not R2", ZF_SENSE_R1, not_r2, 5, 5, 3);
+    sense("R2, not R2", ZF_SENSE_R2, not_r2, 5, 5, 3);
+    sense("R3, not R2", ZF_SENSE_R3, not_r2, 5, 21, 2);
+    sense("R8, not R2", ZF_SENSE_R8, not_r2, 5, 21, 2);
+    no_sense("sense 0", 0);
+    no_sense("sense 4", 4);
+    no_sense("sense 5", 5);
+    no_sense("sense 6", 6);
+    no_sense("sense 7", 7);
+    no_sense("sense 9", 9);
+    no_sense("sense 258", 258);
+    no_sense("sense 65,537", 65537);
+    no_sense("the highest sense", UINT32_MAX);
 }
 
 /* An audit of P1 with so many numbers of p1_short and an initial state: its fault count, and the first fault. */
@@ -116,9 +172,9 @@ static void places(void) {
 /* An accepted call of each entry, with an answer of so many elements. */
 static size_t length;
 static uint32_t check(size_t n) { return zf_check(P1, answer, n); }
-static uint32_t mark(size_t n) { return zf_mark(P1, marks, 4, answer, n); }
+static uint32_t mark(size_t n) { return zf_mark(P1, ZF_SENSE_R1, marks, 4, answer, n); }
 static uint32_t mark_fast(size_t n) { return zf_mark_fast(P1, marks, 4, answer, n); }
-static uint32_t reduce(size_t n) { return zf_reduce(P1, map, 4, list, 12, answer, n); }
+static uint32_t reduce(size_t n) { return zf_reduce(P1, ZF_SENSE_R1, map, 4, list, 12, answer, n); }
 static uint32_t audit(size_t n) { return zf_audit(P1, 2, 2, 0, p1_short, 6, p1_map, 4, answer, n); }
 static uint32_t round_of(size_t n) { return zf_round(P1, 0, 1, answer, n); }
 static uint32_t find(size_t n) { return zf_find(P1, 2, 0, 3, answer, n); }
@@ -161,19 +217,19 @@ static void answers(void) {
 static void nothing(void) {
     expect("check no hops", zf_check(1, 1, 0, NULL, 0, answer, ZF_ANSWER_CHECK), ZF_ACCEPTED);
     expect("check no answer", zf_check(1, 1, 0, NULL, 0, NULL, 0), ZF_ROOM);
-    expect("mark no hops", zf_mark(1, 1, 0, NULL, 0, NULL, 0, answer, ZF_ANSWER_MARK), ZF_ACCEPTED);
-    expect("mark no room", zf_mark(P1, NULL, 0, answer, ZF_ANSWER_MARK), ZF_ROOM);
-    expect("mark no answer", zf_mark(P1, marks, 4, NULL, 0), ZF_ROOM);
+    expect("mark no hops", zf_mark(1, 1, 0, NULL, 0, ZF_SENSE_R8, NULL, 0, answer, ZF_ANSWER_MARK), ZF_ACCEPTED);
+    expect("mark no room", zf_mark(P1, ZF_SENSE_R1, NULL, 0, answer, ZF_ANSWER_MARK), ZF_ROOM);
+    expect("mark no answer", zf_mark(P1, ZF_SENSE_R1, marks, 4, NULL, 0), ZF_ROOM);
     expect("mark_fast no hops", zf_mark_fast(1, 1, 0, NULL, 0, NULL, 0, answer, ZF_ANSWER_MARK_FAST), ZF_ACCEPTED);
     expect("its tests", answer[3], 0);
     expect("mark_fast no room", zf_mark_fast(P1, NULL, 0, answer, ZF_ANSWER_MARK_FAST), ZF_ROOM);
     expect("mark_fast no answer", zf_mark_fast(P1, marks, 4, NULL, 0), ZF_ROOM);
-    expect("reduce no hops", zf_reduce(1, 1, 0, NULL, 0, map, 1, NULL, 0, answer, ZF_ANSWER_REDUCE), ZF_ACCEPTED);
+    expect("reduce no hops", zf_reduce(1, 1, 0, NULL, 0, ZF_SENSE_R8, map, 1, NULL, 0, answer, ZF_ANSWER_REDUCE), ZF_ACCEPTED);
     expect("its states", answer[3], 1);
     expect("its hops", answer[5], 0);
-    expect("reduce no map", zf_reduce(1, 1, 0, NULL, 0, NULL, 0, NULL, 0, answer, ZF_ANSWER_REDUCE), ZF_ROOM);
-    expect("reduce no room", zf_reduce(P1, map, 4, NULL, 0, answer, ZF_ANSWER_REDUCE), ZF_ROOM);
-    expect("reduce no answer", zf_reduce(P1, map, 4, list, 12, NULL, 0), ZF_ROOM);
+    expect("reduce no map", zf_reduce(1, 1, 0, NULL, 0, ZF_SENSE_R8, NULL, 0, NULL, 0, answer, ZF_ANSWER_REDUCE), ZF_ROOM);
+    expect("reduce no room", zf_reduce(P1, ZF_SENSE_R1, map, 4, NULL, 0, answer, ZF_ANSWER_REDUCE), ZF_ROOM);
+    expect("reduce no answer", zf_reduce(P1, ZF_SENSE_R1, map, 4, list, 12, NULL, 0), ZF_ROOM);
     expect("audit no hops", zf_audit(4, 2, 0, NULL, 0, 2, 2, 0, NULL, 0, p1_map, 4, answer, ZF_ANSWER_AUDIT), ZF_ACCEPTED);
     expect("its faults", answer[3], 0);
     expect("its first fault", answer[4], ZF_FAULT_NONE);
@@ -201,6 +257,7 @@ static void nothing(void) {
 int main(void) {
     limits();
     numbers();
+    senses();
     faults();
     places();
     answers();

@@ -94,10 +94,21 @@ static void fill_names(void) {
 static uint32_t check(void) { return zf_check(FULL, LIST(tiles), answer, ZF_ANSWER_CHECK); }
 static uint32_t check_order(void) { return zf_check(FULL, LIST(unordered), answer, ZF_ANSWER_CHECK); }
 
-static uint32_t mark(void) { return zf_mark(FULL, LIST(tiles), marks, ZF_MOST_HOPS, answer, ZF_ANSWER_MARK); }
-static uint32_t mark_falling(void) { return zf_mark(FULL, LIST(falling), marks, ZF_MOST_HOPS, answer, ZF_ANSWER_MARK); }
-static uint32_t mark_ring(void) { return zf_mark(FULL, LIST(ring), marks, ZF_MOST_HOPS, answer, ZF_ANSWER_MARK); }
-static uint32_t mark_short(void) { return zf_mark(FULL, LIST(tiles), marks, ZF_MOST_HOPS, answer, ZF_ANSWER_MARK - 1); }
+static uint32_t mark_in(uint32_t sense, const uint16_t *hops, size_t answer_len) {
+    return zf_mark(FULL, LIST(hops), sense, marks, ZF_MOST_HOPS, answer, answer_len);
+}
+static uint32_t mark(void) { return mark_in(ZF_SENSE_R1, tiles, ZF_ANSWER_MARK); }
+static uint32_t mark_r2(void) { return mark_in(ZF_SENSE_R2, tiles, ZF_ANSWER_MARK); }
+static uint32_t mark_r3(void) { return mark_in(ZF_SENSE_R3, tiles, ZF_ANSWER_MARK); }
+static uint32_t mark_r8(void) { return mark_in(ZF_SENSE_R8, tiles, ZF_ANSWER_MARK); }
+static uint32_t mark_falling(void) { return mark_in(ZF_SENSE_R1, falling, ZF_ANSWER_MARK); }
+static uint32_t mark_falling_r2(void) { return mark_in(ZF_SENSE_R2, falling, ZF_ANSWER_MARK); }
+static uint32_t mark_falling_r3(void) { return mark_in(ZF_SENSE_R3, falling, ZF_ANSWER_MARK); }
+static uint32_t mark_falling_r8(void) { return mark_in(ZF_SENSE_R8, falling, ZF_ANSWER_MARK); }
+static uint32_t mark_sense(void) { return mark_in(4, tiles, ZF_ANSWER_MARK); }
+static uint32_t mark_ring(void) { return mark_in(ZF_SENSE_R8, ring, ZF_ANSWER_MARK); }
+static uint32_t mark_short(void) { return mark_in(ZF_SENSE_R1, tiles, ZF_ANSWER_MARK - 1); }
+static uint32_t mark_short_r8(void) { return mark_in(ZF_SENSE_R8, tiles, ZF_ANSWER_MARK - 1); }
 
 static uint32_t fast_at(const uint16_t *hops, size_t answer_len) { return zf_mark_fast(FULL, LIST(hops), marks, ZF_MOST_HOPS, answer, answer_len); }
 static uint32_t fast(void) { return fast_at(tiles, ZF_ANSWER_MARK_FAST); }
@@ -105,15 +116,23 @@ static uint32_t fast_falling(void) { return fast_at(falling, ZF_ANSWER_MARK_FAST
 static uint32_t fast_ring(void) { return fast_at(ring, ZF_ANSWER_MARK_FAST); }
 static uint32_t fast_short(void) { return fast_at(falling, ZF_ANSWER_MARK_FAST - 1); }
 
-static uint32_t reduce(void) { return zf_reduce(FULL, LIST(tiles), written_map, ZF_MOST_STATES, LIST(written_hops), answer, ZF_ANSWER_REDUCE); }
-static uint32_t reduce_falling(void) {
-    return zf_reduce(FULL, LIST(falling), written_map, ZF_MOST_STATES, LIST(written_hops), answer, ZF_ANSWER_REDUCE);
+static uint32_t reduce_in(uint32_t sense, const uint16_t *hops, size_t answer_len) {
+    return zf_reduce(FULL, LIST(hops), sense, written_map, ZF_MOST_STATES, LIST(written_hops), answer, answer_len);
 }
-static uint32_t reduce_turned(void) {
-    return zf_reduce(FULL, LIST(turned), written_map, ZF_MOST_STATES, LIST(written_hops), answer, ZF_ANSWER_REDUCE);
-}
-static uint32_t reduce_ring(void) { return zf_reduce(FULL, LIST(ring), written_map, ZF_MOST_STATES, LIST(written_hops), answer, ZF_ANSWER_REDUCE); }
-static uint32_t reduce_short(void) { return zf_reduce(FULL, LIST(tiles), written_map, ZF_MOST_STATES, LIST(written_hops), answer, ZF_ANSWER_REDUCE - 1); }
+static uint32_t reduce(void) { return reduce_in(ZF_SENSE_R1, tiles, ZF_ANSWER_REDUCE); }
+static uint32_t reduce_r2(void) { return reduce_in(ZF_SENSE_R2, tiles, ZF_ANSWER_REDUCE); }
+static uint32_t reduce_r3(void) { return reduce_in(ZF_SENSE_R3, tiles, ZF_ANSWER_REDUCE); }
+static uint32_t reduce_r8(void) { return reduce_in(ZF_SENSE_R8, tiles, ZF_ANSWER_REDUCE); }
+static uint32_t reduce_falling(void) { return reduce_in(ZF_SENSE_R1, falling, ZF_ANSWER_REDUCE); }
+static uint32_t reduce_falling_r3(void) { return reduce_in(ZF_SENSE_R3, falling, ZF_ANSWER_REDUCE); }
+static uint32_t reduce_turned(void) { return reduce_in(ZF_SENSE_R1, turned, ZF_ANSWER_REDUCE); }
+static uint32_t reduce_turned_r2(void) { return reduce_in(ZF_SENSE_R2, turned, ZF_ANSWER_REDUCE); }
+static uint32_t reduce_turned_r3(void) { return reduce_in(ZF_SENSE_R3, turned, ZF_ANSWER_REDUCE); }
+static uint32_t reduce_turned_r8(void) { return reduce_in(ZF_SENSE_R8, turned, ZF_ANSWER_REDUCE); }
+static uint32_t reduce_sense(void) { return reduce_in(4, tiles, ZF_ANSWER_REDUCE); }
+static uint32_t reduce_ring(void) { return reduce_in(ZF_SENSE_R8, ring, ZF_ANSWER_REDUCE); }
+static uint32_t reduce_short(void) { return reduce_in(ZF_SENSE_R1, tiles, ZF_ANSWER_REDUCE - 1); }
+static uint32_t reduce_short_r8(void) { return reduce_in(ZF_SENSE_R8, tiles, ZF_ANSWER_REDUCE - 1); }
 
 static uint32_t audit_with(const uint16_t *by) {
     return zf_audit(FULL, LIST(tiles), ZF_MOST_STATES / 2, ZF_MOST_LABELS, ZF_MOST_STATES / 2 - 1, small, small_len, by, ZF_MOST_STATES, answer, ZF_ANSWER_AUDIT);
@@ -169,19 +188,36 @@ struct call {
 static const struct call calls[] = {
     {"zf_check", "accepted", check, ZF_ACCEPTED, 1, 1, ZF_STACK_CHECK},
     {"zf_check", "the last hop not above the one before", check_order, ZF_ORDER, 2, ZF_MOST_HOPS - 1, ZF_STACK_CHECK},
-    {"zf_mark", "accepted", mark, ZF_ACCEPTED, 1, 1, ZF_STACK_MARK},
-    {"zf_mark", "a chain that falls a hop a round", mark_falling, ZF_ACCEPTED, 1, 1, ZF_STACK_MARK},
+    {"zf_mark", "R1", mark, ZF_ACCEPTED, 1, 1, ZF_STACK_MARK},
+    {"zf_mark", "R2", mark_r2, ZF_ACCEPTED, 1, 1, ZF_STACK_MARK},
+    {"zf_mark", "R3", mark_r3, ZF_ACCEPTED, 1, 1, ZF_STACK_MARK},
+    {"zf_mark", "R8", mark_r8, ZF_ACCEPTED, 1, 1, ZF_STACK_MARK},
+    {"zf_mark", "R1, a chain that falls a hop a round", mark_falling, ZF_ACCEPTED, 1, 1, ZF_STACK_MARK},
+    {"zf_mark", "R2, the chain", mark_falling_r2, ZF_ACCEPTED, 1, 1, ZF_STACK_MARK},
+    {"zf_mark", "R3, the chain", mark_falling_r3, ZF_ACCEPTED, 1, 1, ZF_STACK_MARK},
+    {"zf_mark", "R8, the chain", mark_falling_r8, ZF_ACCEPTED, 1, 1, ZF_STACK_MARK},
+    {"zf_mark", "a sense that is none", mark_sense, ZF_SENSE, 2, 0, ZF_STACK_MARK},
     {"zf_mark", "a ring of 1,024 states", mark_ring, ZF_RING, 2, 0, ZF_STACK_MARK},
-    {"zf_mark", "answer too short", mark_short, ZF_ROOM, 0, 0, ZF_STACK_MARK},
+    {"zf_mark", "R1, answer too short", mark_short, ZF_ROOM, 0, 0, ZF_STACK_MARK},
+    {"zf_mark", "R8, answer too short", mark_short_r8, ZF_ROOM, 0, 0, ZF_STACK_MARK},
     {"zf_mark_fast", "nothing falls", fast, ZF_ACCEPTED, 3, 512, ZF_STACK_MARK_FAST},
     {"zf_mark_fast", "a chain that falls a hop a round", fast_falling, ZF_ACCEPTED, 3, 2045, ZF_STACK_MARK_FAST},
     {"zf_mark_fast", "a ring of 1,024 states", fast_ring, ZF_RING, 3, 0, ZF_STACK_MARK_FAST},
     {"zf_mark_fast", "answer too short", fast_short, ZF_ROOM, 0, 0, ZF_STACK_MARK_FAST},
-    {"zf_reduce", "accepted", reduce, ZF_ACCEPTED, 5, 1792, ZF_STACK_REDUCE},
-    {"zf_reduce", "a chain that falls a hop a round", reduce_falling, ZF_ACCEPTED, 5, ZF_MOST_HOPS, ZF_STACK_REDUCE},
-    {"zf_reduce", "3,585 images in descending order", reduce_turned, ZF_ACCEPTED, 5, 3585, ZF_STACK_REDUCE},
+    {"zf_reduce", "R1", reduce, ZF_ACCEPTED, 5, 1792, ZF_STACK_REDUCE},
+    {"zf_reduce", "R2", reduce_r2, ZF_ACCEPTED, 5, 1792, ZF_STACK_REDUCE},
+    {"zf_reduce", "R3", reduce_r3, ZF_ACCEPTED, 5, 1792, ZF_STACK_REDUCE},
+    {"zf_reduce", "R8", reduce_r8, ZF_ACCEPTED, 5, 1792, ZF_STACK_REDUCE},
+    {"zf_reduce", "R1, a chain that falls a hop a round", reduce_falling, ZF_ACCEPTED, 5, ZF_MOST_HOPS, ZF_STACK_REDUCE},
+    {"zf_reduce", "R3, the chain", reduce_falling_r3, ZF_ACCEPTED, 5, ZF_MOST_HOPS, ZF_STACK_REDUCE},
+    {"zf_reduce", "R1, 3,585 images in descending order", reduce_turned, ZF_ACCEPTED, 5, 3585, ZF_STACK_REDUCE},
+    {"zf_reduce", "R2, the images", reduce_turned_r2, ZF_ACCEPTED, 5, 3585, ZF_STACK_REDUCE},
+    {"zf_reduce", "R3, the images", reduce_turned_r3, ZF_ACCEPTED, 5, 3585, ZF_STACK_REDUCE},
+    {"zf_reduce", "R8, the images", reduce_turned_r8, ZF_ACCEPTED, 5, 3585, ZF_STACK_REDUCE},
+    {"zf_reduce", "a sense that is none", reduce_sense, ZF_SENSE, 5, 0, ZF_STACK_REDUCE},
     {"zf_reduce", "a ring of 1,024 states", reduce_ring, ZF_RING, 5, 0, ZF_STACK_REDUCE},
-    {"zf_reduce", "answer too short", reduce_short, ZF_ROOM, 0, 0, ZF_STACK_REDUCE},
+    {"zf_reduce", "R1, answer too short", reduce_short, ZF_ROOM, 0, 0, ZF_STACK_REDUCE},
+    {"zf_reduce", "R8, answer too short", reduce_short_r8, ZF_ROOM, 0, 0, ZF_STACK_REDUCE},
     {"zf_audit", "of what reduce left", audit, ZF_ACCEPTED, 3, 0, ZF_STACK_AUDIT},
     {"zf_audit", "a ring of 1,024 states in one class", audit_ring, ZF_ACCEPTED, 3, 0, ZF_STACK_AUDIT},
     {"zf_audit", "all states to one, the initial one too", audit_apart, ZF_ACCEPTED, 4, ZF_FAULT_INITIAL, ZF_STACK_AUDIT},
@@ -252,7 +288,7 @@ static int prepare(const char *path) {
     if (zf_write(FULL, LIST(tiles), names, BLOCK, file, sizeof file, answer, ZF_ANSWER_WRITE) != ZF_ACCEPTED || answer[3] != ZF_LONGEST_FILE) return 0;
     memcpy(repeated_file, file, ZF_LONGEST_FILE);
     memcpy(repeated_file + ZF_LONGEST_FILE - BLOCK, repeated, BLOCK);
-    if (zf_reduce(FULL, LIST(tiles), map, ZF_MOST_STATES, LIST(small), answer, ZF_ANSWER_REDUCE) != ZF_ACCEPTED || answer[3] != 512) return 0;
+    if (zf_reduce(FULL, LIST(tiles), ZF_SENSE_R1, map, ZF_MOST_STATES, LIST(small), answer, ZF_ANSWER_REDUCE) != ZF_ACCEPTED || answer[3] != 512) return 0;
     small_len = 3 * (size_t)answer[5];
     memcpy(wrong_map, map, sizeof map);
     wrong_map[ZF_MOST_STATES - 1] = ZF_MOST_STATES / 2;

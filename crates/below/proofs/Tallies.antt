@@ -1,4 +1,5 @@
--- How many numbers pass below a bound that grows: one more behind each that passes, so each number below the count is reached. Assumes nothing.
+-- How many numbers pass below a bound that grows: one more behind each that passes, so each number below the count is reached; and how many pass one of two
+-- tests. Assumes nothing.
 use Prim.Native.Nat.{ℕ, zero, suc, _+_, _<_, _≤_}
 use mathlib.Core.Path.{_≡_, refl}
 use mathlib.Core.Bool.{Bool, true, false, cond}
@@ -8,8 +9,8 @@ use native.Mathlib.Omega.{arith}
 use borrow.Author.Tests.{lt-ltb, le-ltb, eq-eqb, ne-eqb}
 use lib.Dec.{ltb, eqb}
 use Rattle.below.specs.Tests.{tally}
-use Rattle.below.proofs.Bools.{lt-or-le, eq-or-not}
-use Rattle.below.proofs.Tests.{tally-more}
+use Rattle.below.proofs.Bools.{clash, lt-or-le, eq-or-not}
+use Rattle.below.proofs.Tests.{tally-more, tally-same}
 
 module _ (p : ℕ → Bool) where
   tally-up : (n : ℕ) {i : ℕ} → i ≤ n → tally i p ≤ tally n p
@@ -58,3 +59,35 @@ tally-upto f s (suc n) = go (tally-upto f s n) (lt-or-le (f n) s) (eq-or-not (f 
       ⊎-elim (λ m. absurd (e (omega arith)))
       (λ m. rw (le-ltb (f n) (s + 1) m, le-ltb (f n) s l, ne-eqb (f n) s e) (omega arith))
       (lt-or-le (f n) (s + 1))
+
+-- one more passes q than p
+pub tally-one : (p q : ℕ → Bool) (n : ℕ) {i : ℕ} → i < n → p i ≡ false → q i ≡ true → ((j : ℕ) → (j ≡ i → ⊥) → q j ≡ p j) → tally n p + 1 ≡ tally n q
+unfolding tally
+tally-one p q zero l a b f = absurd (not-suc-le-zero l)
+tally-one p q (suc n) {i} l a b f = go (λ m. tally-one p q n m a b f) (eq-or-lt-of-le (le-of-suc-le-suc l)) where
+  go : (i < n → tally n p + 1 ≡ tally n q) → (i ≡ n) ⊎ (i < n) → (cond (p n) 1 0 + tally n p) + 1 ≡ cond (q n) 1 0 + tally n q
+  go ih (inl e) =
+      let x : q n ≡ true = rw e at b in
+      let y : p n ≡ false = rw e at a in
+      let z : tally n q ≡ tally n p = tally-same q p n (λ j m. f j (λ d. absurd (omega arith))) in
+      rw (x, y) (omega arith)
+  go ih (inr m) =
+      let x : q n ≡ p n = f n (λ d. absurd (omega arith)) in
+      rw x (omega (arith, ih m))
+
+-- nothing passes both p and q, and what passes one of them passes r
+pub tally-both : (p q r : ℕ → Bool) (n : ℕ) → ((j : ℕ) → j < n → p j ≡ true → (q j ≡ false) × (r j ≡ true)) → ((j : ℕ) → j < n → q j ≡ true → r j ≡ true) →
+    tally n p + tally n q ≤ tally n r
+unfolding tally
+tally-both p q r zero f g = le-refl 0
+tally-both p q r (suc n) f g =
+    go (p n) (q n) (r n) (f n (omega arith)) (g n (omega arith)) (tally-both p q r n (λ j l. f j (omega arith)) (λ j l. g j (omega arith))) where
+      go : (x y z : Bool) → (x ≡ true → (y ≡ false) × (z ≡ true)) → (y ≡ true → z ≡ true) → tally n p + tally n q ≤ tally n r →
+          (cond x 1 0 + tally n p) + (cond y 1 0 + tally n q) ≤ cond z 1 0 + tally n r
+      go true true z d e h = clash refl (d refl .0)
+      go true false true d e h = omega arith
+      go true false false d e h = clash (d refl .1) refl
+      go false true true d e h = omega arith
+      go false true false d e h = clash (e refl) refl
+      go false false true d e h = omega arith
+      go false false false d e h = omega arith

@@ -1,5 +1,5 @@
-// A program for tests: the two entries over records, `check_records` and `mark_records`, over P1, bad input and the limits. What they answer is printed
-// and held to the file stdout. An element of the output for marks that was not written is 7.
+// A program for tests: the two entries over records, `check_records` and `mark_records`, over P1, bad input, the senses and the limits. What they answer is
+// printed and held to the file stdout. An element of the output for marks that was not written is 7.
 // Stands on records (the entries) and show (how it is printed).
 use graph::Answer;
 use graph::Hop;
@@ -31,12 +31,15 @@ fn print_both(checked: Answer, marked: Answer) {
     text(b", marks");
 }
 
-// Both entries over the first n records, lent.
-fn ask(shape: Shape, hops: [Hop; RECORDS], n: usize, marks: &mut [u8])
+// Both entries over the first n records, lent, marking in the sense given.
+fn ask(shape: Shape, hops: [Hop; RECORDS], n: usize, sense: u32, marks: &mut [u8])
     requires { ⌜ n ≤ most-hops + 1 ⌝ }
 {
     let list = &hops[..n];
-    print_both(check_records(shape, list), mark_records(shape, list, marks));
+    print_both(
+        check_records(shape, list),
+        mark_records(shape, list, sense, marks),
+    );
 }
 
 // The records of a flat list, and records of zeros behind them.
@@ -58,7 +61,7 @@ fn records_of(nums: &[u16]) -> [Hop; RECORDS]
 }
 
 // Both entries over the records of a flat list, with the first `room` elements for marks.
-fn ask_list(shape: Shape, nums: &[u16], marks: &mut [u8], room: usize) {
+fn ask_list(shape: Shape, nums: &[u16], sense: u32, marks: &mut [u8], room: usize) {
     let n = hop_count(nums);
     if RECORDS < n {
         return;
@@ -66,14 +69,14 @@ fn ask_list(shape: Shape, nums: &[u16], marks: &mut [u8], room: usize) {
     if marks.len() < room {
         return;
     }
-    ask(shape, records_of(nums), n, &mut marks[..room]);
+    ask(shape, records_of(nums), n, sense, &mut marks[..room]);
 }
 
 // A list of few records, and six elements, of which the first `room` were lent.
-fn few(name: &[u8], shape: Shape, nums: &[u16], room: usize) {
+fn few(name: &[u8], shape: Shape, nums: &[u16], sense: u32, room: usize) {
     let mut marks = [7u8; 6];
     text(name);
-    ask_list(shape, nums, &mut marks, room);
+    ask_list(shape, nums, sense, &mut marks, room);
     bytes(&marks);
     text(b"\n");
 }
@@ -128,7 +131,7 @@ fn ask_first(nums: &[u16], n: usize, marks: &mut [u8], room: usize) {
     if hop_count(nums) < n {
         return;
     }
-    ask_list(shape_of(1024, 5, 0), part(nums, 0, n), marks, room);
+    ask_list(shape_of(1024, 5, 0), part(nums, 0, n), 1, marks, room);
 }
 
 // The first n hops of the list at the limit, and of 4,098 elements, of which the first `room` were lent: the first six, the last thirteen, and how
@@ -148,7 +151,7 @@ fn many(name: &[u8], n: usize, room: usize) {
 
 fn p1(name: &[u8], shape: Shape, room: usize) {
     let hops = [0u16, 0, 1, 0, 1, 2, 1, 1, 3, 2, 0, 3];
-    few(name, shape, &hops, room);
+    few(name, shape, &hops, 1, room);
 }
 
 fn small() {
@@ -164,12 +167,39 @@ fn others() {
     let none = [0u16; 0];
     let p8 = [0u16, 0, 1, 1, 0, 2, 2, 0, 1];
     let falling = [0u16, 0, 1, 1, 1, 3, 0, 1, 2];
-    few(b"no records", shape_of(1, 1, 0), &none, 6);
-    few(b"P8", shape_of(3, 1, 0), &p8, 6);
+    few(b"no records", shape_of(1, 1, 0), &none, 1, 6);
+    few(b"P8", shape_of(3, 1, 0), &p8, 1, 6);
     few(
         b"a hop below the one before",
         shape_of(4, 2, 0),
         &falling,
+        1,
+        6,
+    );
+}
+
+// The case of the text, in which 0 to 1 is marked by R8 alone, and P8, whose ring speaks behind a sense that is none.
+fn in_sense(name: &[u8], sense: u32, room: usize) {
+    let hops = [0u16, 0, 1, 0, 1, 2, 1, 1, 3, 2, 0, 4, 4, 0, 3];
+    few(name, shape_of(5, 2, 0), &hops, sense, room);
+}
+
+fn senses() {
+    let p8 = [0u16, 0, 1, 1, 0, 2, 2, 0, 1];
+    let falling = [0u16, 0, 1, 1, 1, 3, 0, 1, 2];
+    in_sense(b"sense 1", 1, 6);
+    in_sense(b"sense 2", 2, 6);
+    in_sense(b"sense 3", 3, 6);
+    in_sense(b"sense 8", 8, 6);
+    in_sense(b"sense 0", 0, 6);
+    in_sense(b"sense 4, too short", 4, 4);
+    few(b"P8, sense 7", shape_of(3, 1, 0), &p8, 7, 6);
+    few(b"P8, sense 8", shape_of(3, 1, 0), &p8, 8, 6);
+    few(
+        b"a hop below the one before, sense 9",
+        shape_of(4, 2, 0),
+        &falling,
+        9,
         6,
     );
 }
@@ -184,5 +214,6 @@ fn limits() {
 fn main() {
     small();
     others();
+    senses();
     limits();
 }

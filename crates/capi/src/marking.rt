@@ -34,20 +34,21 @@ pub extern "C" fn zf_mark(
     labels: u32,
     initial: u32,
     hops: &[u16],
+    sense: u32,
     marks: &mut [u8],
     answer: &mut [u64],
 ) -> u32
     ensures returns { λ r. ⌜ r ≡
-        returned (markAnswer (shapeOf states labels initial) (now (hops .entry)) (now (marks .entry))) 3 (length (now (answer .entry))) ⌝ }
+        returned (markAnswer (shapeOf states labels initial) (now (hops .entry)) sense (now (marks .entry))) 3 (length (now (answer .entry))) ⌝ }
     ensures marks { λ r. ⌜ now (marks .exit) ≡
         unlessShort 3
         (now (answer .entry))
-        (markOutput (shapeOf states labels initial) (now (hops .entry)) (now (marks .entry)))
+        (markOutput (shapeOf states labels initial) (now (hops .entry)) sense (now (marks .entry)))
         (now (marks .entry)) ⌝ }
     ensures tells { λ r. ⌜ now (answer .exit) ≡
-        told 3 (numbersOf (markAnswer (shapeOf states labels initial) (now (hops .entry)) (now (marks .entry))) []) (now (answer .entry)) ⌝ }
+        told 3 (numbersOf (markAnswer (shapeOf states labels initial) (now (hops .entry)) sense (now (marks .entry))) []) (now (answer .entry)) ⌝ }
 {
-    tell_mark(states, labels, initial, hops, marks, answer)
+    tell_mark(states, labels, initial, hops, sense, marks, answer)
 }
 
 #[no_mangle]
@@ -60,11 +61,11 @@ pub extern "C" fn zf_mark_fast(
     answer: &mut [u64],
 ) -> u32
     ensures returns { λ r. ⌜ r ≡
-        returned (markAnswer (shapeOf states labels initial) (now (hops .entry)) (now (marks .entry))) 4 (length (now (answer .entry))) ⌝ }
+        returned (markAnswer (shapeOf states labels initial) (now (hops .entry)) 1 (now (marks .entry))) 4 (length (now (answer .entry))) ⌝ }
     ensures marks { λ r. ⌜ now (marks .exit) ≡
         unlessShort 4
         (now (answer .entry))
-        (markOutput (shapeOf states labels initial) (now (hops .entry)) (now (marks .entry)))
+        (markOutput (shapeOf states labels initial) (now (hops .entry)) 1 (now (marks .entry)))
         (now (marks .entry)) ⌝ }
     ensures tells { λ r. ⌜ now (answer .exit) ≡
         told 4 (countedNumbers (countedOf (shapeOf states labels initial) (now (hops .entry)) (now (marks .entry)))) (now (answer .entry)) ⌝ }

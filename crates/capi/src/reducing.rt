@@ -16,31 +16,32 @@ pub extern "C" fn zf_reduce(
     labels: u32,
     initial: u32,
     hops: &[u16],
+    sense: u32,
     map: &mut [u16],
     short: &mut [u16],
     answer: &mut [u64],
 ) -> u32
     ensures returns { λ r. ⌜ r ≡
         returned
-        (reduceAnswer (shapeOf states labels initial) (now (hops .entry)) (length (now (map .entry))) (length (now (short .entry))))
+        (reduceAnswer (shapeOf states labels initial) (now (hops .entry)) sense (length (now (map .entry))) (length (now (short .entry))))
         7
         (length (now (answer .entry))) ⌝ }
     ensures mapped { λ r. ⌜ now (map .exit) ≡
         unlessShort 7
         (now (answer .entry))
-        (mapOutput (shapeOf states labels initial) (now (hops .entry)) (now (map .entry)) (now (short .entry)))
+        (mapOutput (shapeOf states labels initial) (now (hops .entry)) sense (now (map .entry)) (now (short .entry)))
         (now (map .entry)) ⌝ }
     ensures shortened { λ r. ⌜ now (short .exit) ≡
         unlessShort 7
         (now (answer .entry))
-        (shortOutput (shapeOf states labels initial) (now (hops .entry)) (now (map .entry)) (now (short .entry)))
+        (shortOutput (shapeOf states labels initial) (now (hops .entry)) sense (now (map .entry)) (now (short .entry)))
         (now (short .entry)) ⌝ }
     ensures tells { λ r. ⌜ now (answer .exit) ≡
         told 7
-        (reductionNumbers (reduceOf (shapeOf states labels initial) (now (hops .entry)) (length (now (map .entry))) (length (now (short .entry)))))
+        (reductionNumbers (reduceOf (shapeOf states labels initial) (now (hops .entry)) sense (length (now (map .entry))) (length (now (short .entry)))))
         (now (answer .entry)) ⌝ }
 {
-    tell_reduce(states, labels, initial, hops, map, short, answer)
+    tell_reduce(states, labels, initial, hops, sense, map, short, answer)
 }
 
 #[no_mangle]

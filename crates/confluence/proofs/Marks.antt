@@ -16,9 +16,8 @@ use Rattle.outputs.specs.Output.{onFront}
 use Rattle.graph.specs.Hops.{count, from, label, to, is, has}
 use Rattle.graph.proofs.Places.{is-yes, is-from, is-to, has-place, place-has}
 use Rattle.shrinking.specs.Pairs.{Pairs, In, Within}
-use Rattle.confluence.specs.Rounds.{silentHops, marked}
+use Rattle.confluence.specs.Rounds.{silentHops}
 use Rattle.confluence.specs.Held.{isMarked, heldBy, markOf, marksOf, everyPair}
-use Rattle.confluence.proofs.Marked.{marked-confluent}
 use Rattle.confluence.proofs.Held.{held-says, held-yes}
 
 -- a list that is written from the front keeps its length
@@ -132,7 +131,3 @@ pub marks-over : (hs : List ℕ) (u v : Pairs) {ms : List ℕ} (out : List ℕ) 
 marks-over hs u v {ms} out e d =
     d ∙ ap (λ (k : ℕ). marksOf hs u ++ drop k ms) (length-marks hs u) ∙
     ap (λ (rest : List ℕ). marksOf hs u ++ rest) (marks-beyond hs v ms out e) ∙ ap (λ (k : ℕ). marksOf hs u ++ drop k out) (sym (length-marks hs u))
-
--- the marks that marking leaves hold the marked set
-pub held-marked : (hs ms out : List ℕ) → ms ≡ onFront (marksOf hs (marked hs)) out → heldBy hs ms ≡ marked hs
-held-marked hs ms out e = held-set hs (marked hs) ms out e (marked-confluent hs .silent)

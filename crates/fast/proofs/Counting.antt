@@ -10,11 +10,11 @@ use Rattle.due.specs.Due.{testsOf}
 use Rattle.fast.specs.Fast.{countedOf}
 use Rattle.fast.specs.declared.Counted.{Counted}
 
-module _ (sh : Shape) (hs out : List ℕ) {c : Answer} (e : c ≡ markAnswer sh hs out) where
+module _ (sh : Shape) (hs out : List ℕ) {c : Answer} (e : c ≡ markAnswer sh hs 1 out) where
   pub counted-refused : (c .number ≡ 0 → ⊥) → _≡_ {A = Counted} (record { answer = c; tests = 0 }) (countedOf sh hs out)
   unfolding countedOf
-  counted-refused n = rw (e, ne-eqb (markAnswer sh hs out .number) 0 (rw e at n))
+  counted-refused n = rw (e, ne-eqb (markAnswer sh hs 1 out .number) 0 (rw e at n))
 
   pub counted-done : {t : ℕ} → c .number ≡ 0 → t ≡ testsOf hs → _≡_ {A = Counted} (record { answer = c; tests = t }) (countedOf sh hs out)
   unfolding countedOf
-  counted-done z d = rw (e, d, eq-eqb (markAnswer sh hs out .number) 0 (rw e at z))
+  counted-done z d = rw (e, d, eq-eqb (markAnswer sh hs 1 out .number) 0 (rw e at z))

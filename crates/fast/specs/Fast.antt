@@ -1,5 +1,5 @@
 -- The entry `mark_fast`: "Its marks equal the first R1 marking's on all inputs, refusals too; it also returns the number of tests". The answer and the output
--- are those of `mark`, and with a refusal the number is 0. Assumes nothing: this is a definition.
+-- are those of `mark` in sense 1, and with a refusal the number is 0. Assumes nothing: this is a definition.
 use Prim.Native.Nat.{ℕ}
 use mathlib.Core.Bool.{cond}
 use mathlib.Core.List.{List}
@@ -10,4 +10,4 @@ use Rattle.due.specs.Due.{testsOf}
 use Rattle.fast.specs.declared.Counted.{Counted}
 
 unfoldable pub countedOf : Shape → List ℕ → List ℕ → Counted
-countedOf sh hs out = record { answer = markAnswer sh hs out; tests = cond (eqb (markAnswer sh hs out .number) 0) (testsOf hs) 0 }
+countedOf sh hs out = record { answer = markAnswer sh hs 1 out; tests = cond (eqb (markAnswer sh hs 1 out .number) 0) (testsOf hs) 0 }

@@ -1,6 +1,7 @@
-// The entry `mark_fast`: document 02's faster marking. It answers, refuses and writes as `mark` does, and returns the number of tests too. That the rounds
-// which it goes through and the sweeps of the first marking leave the same marks is the theorem `joined` (proofs/). It stands on `falling` (the marking
-// behind the refusals), `due` (the number of tests), `marks` (the answer and the output) and, for the theorem, `sweeps`.
+// The entry `mark_fast`: document 02's faster marking. It answers, refuses and writes as `mark` does in sense 1, and returns the number of tests too. That
+// the rounds which it goes through and the sweeps of the first marking leave the same marks is the theorem `joined` (proofs/). It stands on `falling` (the
+// marking behind the refusals), `due` (the number of tests), `marks` (the answer and the output), `senses` (which marked set is that of sense 1) and, for the
+// theorem, `sweeps`.
 use falling::mark_rounds;
 use graph::Answer;
 use graph::Shape;
@@ -11,7 +12,7 @@ ghost use mathlib.Core.Path.{_≡_};
 ghost use Rattle.marks.specs.Mark.{markOutput};
 ghost use Rattle.fast.specs.Fast.{countedOf};
 
-// What the entry returns: the answer of `mark`, and the number of tests.
+// What the entry returns: the answer of `mark` in sense 1, and the number of tests.
 pub struct Counted {
     pub answer: Answer,
     pub tests: usize,
@@ -20,7 +21,7 @@ pub struct Counted {
 // The entry. A refusal writes nothing, and its number of tests is 0.
 pub fn mark_fast(shape: Shape, hops: &[u16], marks: &mut [u8]) -> Counted
     ensures answers { λ r. ⌜ r ≡ countedOf shape (now (hops .entry)) (now (marks .entry)) ⌝ }
-    ensures writes { λ r. ⌜ now (marks .exit) ≡ markOutput shape (now (hops .entry)) (now (marks .entry)) ⌝ }
+    ensures writes { λ r. ⌜ now (marks .exit) ≡ markOutput shape (now (hops .entry)) 1 (now (marks .entry)) ⌝ }
 {
     let checked = check(shape, hops);
     if checked.number != 0 {

@@ -1,8 +1,8 @@
--- The answer of `mark` row by row, and what its acceptance gives: an admitted graph, with room for one mark a hop. Assumes nothing.
+-- The answer of `mark` row by row, and what its acceptance gives: an admitted graph without rings, with room for one mark a hop. Assumes nothing.
 use Prim.Native.Nat.{ℕ, _<_, _≤_}
 use mathlib.Core.Path.{_≡_, sym, _∙_}
 use mathlib.Core.List.{List}
-use lib.ListN.{length, getD}
+use lib.ListN.{length}
 use borrow.Author.Tests.{eq-eqb, ne-eqb, le-leb, lt-leb}
 use Rattle.outputs.specs.Output.{onFront}
 use Rattle.graph.specs.Hops.{count}
@@ -13,10 +13,8 @@ use Rattle.graph.specs.declared.Answer.{Answer}
 use Rattle.limits.proofs.Checked.{check-admitted}
 use Rattle.graph.proofs.Accepts.{then-first, then-next, both-accept, room-accepts}
 use Rattle.silent.specs.Silent.{ringless}
-use Rattle.confluence.specs.Rounds.{marked}
-use Rattle.confluence.specs.Held.{marksOf}
-use Rattle.confluence.proofs.Marks.{marks-at}
-use Rattle.marks.specs.Mark.{marksMade, markAt, markAnswer, markOutput}
+use Rattle.senses.specs.Senses.{senseAnswer}
+use Rattle.marks.specs.Mark.{marksMade, markAnswer, markOutput}
 
 -- rows 5 and 6 of an admitted graph: the ways out of the code, in order
 module _ (sh : Shape) (hs : List ℕ) (room : ℕ) {d : Answer} (f : d ≡ ringless sh hs) where
@@ -40,35 +38,48 @@ module _ (sh : Shape) (hs : List ℕ) (room : ℕ) {d : Answer} (f : d ≡ ringl
       wide : accepted ≡ roomFor (count hs) room
       wide = rw (le-leb (count hs) room l)
 
-module _ (sh : Shape) (hs out : List ℕ) where
-  -- the ways out of the entry: rows 1 to 4, and the later ones
-  pub mark-refused : {c : Answer} → c ≡ checkOf sh hs → (c .number ≡ 0 → ⊥) → c ≡ markAnswer sh hs out
-  unfolding markAnswer
-  mark-refused e n = e ∙ sym (then-first (checkOf sh hs) _ (rw e at n))
+module _ (sh : Shape) (hs : List ℕ) (k : ℕ) (out : List ℕ) where
+  abbrev behind-sense : Answer
+  behind-sense = andThen (ringless sh hs) (roomFor (count hs) (length out))
 
-  pub mark-later : {c : Answer} → c ≡ checkOf sh hs → c .number ≡ 0 → {d : Answer} → d ≡ andThen (ringless sh hs) (roomFor (count hs) (length out)) →
-      d ≡ markAnswer sh hs out
-  unfolding markAnswer
-  mark-later e z f = f ∙ sym (then-next (checkOf sh hs) _ (rw e at z))
+  -- the ways out of the entry: rows 1 to 4, row 19, and the later ones
+  module _ {c : Answer} (e : c ≡ checkOf sh hs) where
+    pub mark-refused : (c .number ≡ 0 → ⊥) → c ≡ markAnswer sh hs k out
+    unfolding markAnswer
+    mark-refused n = e ∙ sym (then-first (checkOf sh hs) _ (rw e at n))
 
-  pub mark-admitted : markAnswer sh hs out .number ≡ 0 → Admitted sh hs
-  unfolding markAnswer
-  mark-admitted e = check-admitted sh hs (both-accept (checkOf sh hs) _ e .0)
+    module _ (z : c .number ≡ 0) {b : Answer} (g : b ≡ senseAnswer k) where
+      passed : andThen (senseAnswer k) behind-sense ≡ markAnswer sh hs k out
+      unfolding markAnswer
+      passed = sym (then-next (checkOf sh hs) _ (rw e at z))
 
-  pub mark-room : markAnswer sh hs out .number ≡ 0 → count hs ≤ length out
-  unfolding markAnswer
-  mark-room e =
-      room-accepts (count hs) (length out) (both-accept (ringless sh hs) _ (both-accept (checkOf sh hs) _ e .1) .1) .1
+      pub mark-sensed : (b .number ≡ 0 → ⊥) → b ≡ markAnswer sh hs k out
+      mark-sensed n = g ∙ sym (then-first (senseAnswer k) _ (rw g at n)) ∙ passed
 
-  -- what stands in the output afterwards
-  pub output-marked : markAnswer sh hs out .number ≡ 0 → onFront (marksOf hs (marked hs)) out ≡ markOutput sh hs out
+      pub mark-later : b .number ≡ 0 → {d : Answer} → d ≡ behind-sense → d ≡ markAnswer sh hs k out
+      mark-later y f = f ∙ sym (then-next (senseAnswer k) _ (rw g at y)) ∙ passed
+
+  -- what acceptance gives
+  module _ (e : markAnswer sh hs k out .number ≡ 0) where
+    pub mark-admitted : Admitted sh hs
+    unfolding markAnswer
+    mark-admitted = check-admitted sh hs (both-accept (checkOf sh hs) _ e .0)
+
+    later-accepted : behind-sense .number ≡ 0
+    unfolding markAnswer
+    later-accepted = both-accept (senseAnswer k) _ (both-accept (checkOf sh hs) _ e .1) .1
+
+    pub mark-ringless : ringless sh hs .number ≡ 0
+    mark-ringless = both-accept (ringless sh hs) _ later-accepted .0
+
+    pub mark-room : count hs ≤ length out
+    mark-room = room-accepts (count hs) (length out) (both-accept (ringless sh hs) _ later-accepted .1) .1
+
+    -- what stands in the output afterwards
+    pub output-marked : {ms : List ℕ} → ms ≡ onFront (marksMade sh hs k) out → ms ≡ markOutput sh hs k out
+    unfolding markOutput
+    output-marked m = rw (eq-eqb (markAnswer sh hs k out .number) 0 e) m
+
+  pub output-same : (markAnswer sh hs k out .number ≡ 0 → ⊥) → out ≡ markOutput sh hs k out
   unfolding markOutput
-  output-marked e = rw (eq-eqb (markAnswer sh hs out .number) 0 e)
-
-  pub output-same : (markAnswer sh hs out .number ≡ 0 → ⊥) → out ≡ markOutput sh hs out
-  unfolding markOutput
-  output-same n = rw (ne-eqb (markAnswer sh hs out .number) 0 n)
-
--- what `mark_rounds` leaves, by its places
-pub made-at : (hs ms out : List ℕ) → ms ≡ onFront (marksMade hs) out → (i : ℕ) → i < count hs → getD ms i 0 ≡ markAt hs i
-made-at hs ms out e i l = marks-at hs (marked hs) ms out e l
+  output-same n = rw (ne-eqb (markAnswer sh hs k out .number) 0 n)

@@ -9,20 +9,17 @@ use Rattle.limits.specs.Check.{checkOf}
 use Rattle.graph.specs.declared.Shape.{Shape}
 use Rattle.graph.specs.declared.Answer.{Answer}
 use Rattle.silent.specs.Silent.{ringless}
-use Rattle.confluence.specs.Rounds.{marked}
-use Rattle.confluence.specs.Held.{markOf, marksOf}
+use Rattle.confluence.specs.Held.{marksOf}
+use Rattle.senses.specs.Senses.{markedBy, senseAnswer}
 
--- the marks of the marked set, and the one of the hop at a place
-abbrev pub marksMade : List ℕ → List ℕ
-marksMade hs = marksOf hs (marked hs)
+-- the marks of the marked set, in the sense with the number k
+abbrev pub marksMade : Shape → List ℕ → ℕ → List ℕ
+marksMade sh hs k = marksOf hs (markedBy k sh hs)
 
-abbrev pub markAt : List ℕ → ℕ → ℕ
-markAt hs = markOf hs (marked hs)
-
--- rows 1 to 4, then 5, then 6: "marks, one a hop"
-unfoldable pub markAnswer : Shape → List ℕ → List ℕ → Answer
-markAnswer sh hs out = andThen (checkOf sh hs) (andThen (ringless sh hs) (roomFor (count hs) (length out)))
+-- rows 1 to 4, then 19 ("after 4 and before 5"), then 5, then 6: "marks, one a hop"
+unfoldable pub markAnswer : Shape → List ℕ → ℕ → List ℕ → Answer
+markAnswer sh hs k out = andThen (checkOf sh hs) (andThen (senseAnswer k) (andThen (ringless sh hs) (roomFor (count hs) (length out))))
 
 -- "A refusal leaves all lent elements untouched"; "Acceptance writes the named elements and none past them"
-unfoldable pub markOutput : Shape → List ℕ → List ℕ → List ℕ
-markOutput sh hs out = written (markAnswer sh hs out .number) (marksMade hs) out
+unfoldable pub markOutput : Shape → List ℕ → ℕ → List ℕ → List ℕ
+markOutput sh hs k out = written (markAnswer sh hs k out .number) (marksMade sh hs k) out

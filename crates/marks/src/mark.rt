@@ -1,4 +1,4 @@
-// The entry `mark`: the marks of a graph without rings, or the row that refuses it.
+// The entry `mark`: the marks of a graph without rings in the sense asked, or the row that refuses it.
 use falling::mark_rounds;
 use graph::Answer;
 use graph::Shape;
@@ -7,13 +7,20 @@ use graph::answers::refuse;
 use graph::hops::hop_count;
 use limits::check;
 use rings::ring_answer;
+use senses::sense_answer;
 use starts::STARTS;
 use starts::starts_of;
+use weaker::mark_by_sweeps;
 ghost use mathlib.Core.Path.{_≡_};
+ghost use Prim.Native.Nat.{_≤_};
+ghost use lib.ListN.{length};
+ghost use Rattle.outputs.specs.Output.{onFront};
 ghost use Rattle.graph.specs.Hops.{count};
 ghost use Rattle.graph.specs.Answers.{andThen, roomFor};
 ghost use Rattle.starts.specs.Starts.{Tabled};
 ghost use Rattle.silent.specs.Silent.{ringless};
+ghost use Rattle.confluence.specs.Held.{marksOf};
+ghost use Rattle.senses.specs.Senses.{markedBy};
 ghost use Rattle.marks.specs.Mark.{markAnswer, markOutput};
 
 // Rows 5 and 6 of an admitted graph, by its table of first places.
@@ -31,32 +38,56 @@ pub fn later_answer(shape: Shape, hops: &[u16], starts: &[u16; STARTS], room: us
     accept()
 }
 
-// The answer alone: rows 1 to 4, then 5, then 6.
-pub fn mark_answer(shape: Shape, hops: &[u16], marks: &[u8]) -> Answer
-    ensures { λ r. ⌜ r ≡ markAnswer shape (now (hops .entry)) (now (marks .entry)) ⌝ }
+// The answer alone: rows 1 to 4, then 19, then 5, then 6.
+pub fn mark_answer(shape: Shape, hops: &[u16], sense: u32, marks: &[u8]) -> Answer
+    ensures { λ r. ⌜ r ≡ markAnswer shape (now (hops .entry)) sense (now (marks .entry)) ⌝ }
 {
     let checked = check(shape, hops);
     if checked.number != 0 {
         return checked;
+    }
+    let sensed = sense_answer(sense);
+    if sensed.number != 0 {
+        return sensed;
     }
     let starts = starts_of(hops);
     later_answer(shape, hops, &starts, marks.len())
 }
 
+// Marks in the sense with the number: 1 in rounds that test only what is due, any other by sweeps. Each entry that marks has this
+// choice to itself: in one function the two would share a frame, and sense 1 would take the stack of the others.
+fn mark_in(shape: Shape, hops: &[u16], starts: &[u16; STARTS], sense: u32, marks: &mut [u8])
+    requires tabled { ⌜ Tabled shape (now hops) (now starts) ⌝ }
+    requires free { ⌜ ringless shape (now hops) .number ≡ 0 ⌝ }
+    requires room { ⌜ count (now hops) ≤ length (now marks) ⌝ }
+    ensures { λ r. ⌜ now (marks .exit) ≡
+        onFront (marksOf (now (hops .entry)) (markedBy sense shape (now (hops .entry)))) (now (marks .entry)) ⌝ }
+{
+    if sense == 1 {
+        mark_rounds(hops, starts, marks);
+        return;
+    }
+    mark_by_sweeps(shape, hops, starts, sense, marks);
+}
+
 // The entry. A refusal writes nothing; acceptance writes one mark a hop and nothing past them. The table of first places is made once, for row 5 and for
 // marking.
-pub fn mark(shape: Shape, hops: &[u16], marks: &mut [u8]) -> Answer
-    ensures answers { λ r. ⌜ r ≡ markAnswer shape (now (hops .entry)) (now (marks .entry)) ⌝ }
-    ensures writes { λ r. ⌜ now (marks .exit) ≡ markOutput shape (now (hops .entry)) (now (marks .entry)) ⌝ }
+pub fn mark(shape: Shape, hops: &[u16], sense: u32, marks: &mut [u8]) -> Answer
+    ensures answers { λ r. ⌜ r ≡ markAnswer shape (now (hops .entry)) sense (now (marks .entry)) ⌝ }
+    ensures writes { λ r. ⌜ now (marks .exit) ≡ markOutput shape (now (hops .entry)) sense (now (marks .entry)) ⌝ }
 {
     let checked = check(shape, hops);
     if checked.number != 0 {
         return checked;
     }
+    let sensed = sense_answer(sense);
+    if sensed.number != 0 {
+        return sensed;
+    }
     let starts = starts_of(hops);
     let answer = later_answer(shape, hops, &starts, marks.len());
     if answer.number == 0 {
-        mark_rounds(hops, &starts, marks);
+        mark_in(shape, hops, &starts, sense, marks);
     }
     answer
 }

@@ -1,35 +1,21 @@
 -- Laws of the queue: nothing comes, one place comes, one set comes after another, and a set said otherwise. Assumes nothing.
-use Prim.Native.Nat.{ℕ, zero, suc, _+_, _<_, _≤_}
+use Prim.Native.Nat.{ℕ, _+_, _<_, _≤_}
 use mathlib.Core.Path.{_≡_, refl, sym, _∙_}
-use mathlib.Core.Bool.{Bool, true, false, cond}
+use mathlib.Core.Bool.{true, false}
 use mathlib.Core.List.{List}
 use mathlib.Core.Logic.{_⊎_, inl, inr, ⊎-elim}
-use native.Mathlib.Nat.{eq-or-lt-of-le, le-of-suc-le-suc, not-suc-le-zero}
+use native.Mathlib.Nat.{not-suc-le-zero}
 use native.Mathlib.Omega.{arith}
 use lib.ListN.{length, getD, set, length-set}
 use lib.Seq.{getD-set-same, getD-set-other}
 use borrow.Author.Tests.{eq-eqb, ne-eqb, eqb-true}
 use Rattle.below.specs.Tests.{tally}
 use Rattle.below.proofs.Bools.{clash, eq-or-not, lt-or-le}
-use Rattle.below.proofs.Tests.{tally-within, tally-same, tally-zero, tally-less}
+use Rattle.below.proofs.Tests.{tally-within, tally-zero, tally-less}
+use Rattle.below.proofs.Tallies.{tally-one}
 use Rattle.graph.specs.Hops.{count, from, label}
 use Rattle.confluence.specs.Held.{isMarked}
 use Rattle.noting.specs.Queue.{Among, Queue, Wanted, Noted, Only, Unset}
-
--- one more passes q than p
-tally-one : (p q : ℕ → Bool) (n : ℕ) {i : ℕ} → i < n → p i ≡ false → q i ≡ true → ((j : ℕ) → (j ≡ i → ⊥) → q j ≡ p j) → tally n p + 1 ≡ tally n q
-unfolding tally
-tally-one p q zero l a b f = absurd (not-suc-le-zero l)
-tally-one p q (suc n) {i} l a b f = go (λ m. tally-one p q n m a b f) (eq-or-lt-of-le (le-of-suc-le-suc l)) where
-  go : (i < n → tally n p + 1 ≡ tally n q) → (i ≡ n) ⊎ (i < n) → (cond (p n) 1 0 + tally n p) + 1 ≡ cond (q n) 1 0 + tally n q
-  go ih (inl e) =
-      let x : q n ≡ true = rw e at b in
-      let y : p n ≡ false = rw e at a in
-      let z : tally n q ≡ tally n p = tally-same q p n (λ j m. f j (λ d. absurd (omega arith))) in
-      rw (x, y) (omega arith)
-  go ih (inr m) =
-      let x : q n ≡ p n = f n (λ d. absurd (omega arith)) in
-      rw x (omega (arith, ih m))
 
 -- flags, as they are set and taken
 pub flag-yes : (fs : List ℕ) (i : ℕ) → getD fs i 0 ≡ 1 → isMarked fs i ≡ true

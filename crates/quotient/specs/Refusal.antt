@@ -1,4 +1,4 @@
--- Parts of the refusals of `reduce`: rows 5 and 6, and what it returns with a refusal. Assumes nothing: these are definitions.
+-- Parts of the refusals of `reduce`: rows 19, 5 and 6, and what it returns with a refusal. Assumes nothing: these are definitions.
 use Prim.Native.Nat.{ℕ}
 use mathlib.Core.List.{List}
 use lib.ListN.{length}
@@ -6,6 +6,7 @@ use Rattle.graph.specs.Answers.{andThen, roomFor}
 use Rattle.graph.specs.declared.Shape.{Shape}
 use Rattle.graph.specs.declared.Answer.{Answer}
 use Rattle.silent.specs.Silent.{ringless}
+use Rattle.senses.specs.Senses.{senseAnswer}
 use Rattle.quotient.specs.Reduce.{noShape}
 use Rattle.quotient.specs.declared.Reduction.{Reduction}
 
@@ -13,6 +14,7 @@ use Rattle.quotient.specs.declared.Reduction.{Reduction}
 abbrev pub refusal : Answer → Reduction
 refusal a = record { answer = a; shape = noShape; hops = 0 }
 
--- rows 5 and 6 of `reduceAnswer`, of an admitted graph
-abbrev pub laterAnswer : Shape → List ℕ → ℕ → ℕ → Answer
-laterAnswer sh hs map-room short-room = andThen (ringless sh hs) (andThen (roomFor (sh .states) map-room) (roomFor (length hs) short-room))
+-- rows 19, 5 and 6 of `reduceAnswer`, of an admitted graph
+abbrev pub laterAnswer : Shape → List ℕ → ℕ → ℕ → ℕ → Answer
+laterAnswer sh hs k map-room short-room =
+    andThen (senseAnswer k) (andThen (ringless sh hs) (andThen (roomFor (sh .states) map-room) (roomFor (length hs) short-room)))

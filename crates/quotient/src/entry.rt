@@ -1,4 +1,4 @@
-// The entry `reduce`: the map and the short graph of a graph without rings, or the row that refuses it.
+// The entry `reduce`: the map and the short graph of a graph without rings, in the sense asked, or the row that refuses it.
 use super::Reduction;
 use falling::mark_rounds;
 use graph::Answer;
@@ -9,30 +9,40 @@ use graph::answers::refuse;
 use limits::check;
 use reducing::reduce_marked;
 use rings::ring_answer;
+use senses::sense_answer;
 use starts::STARTS;
 use starts::starts_of;
+use weaker::mark_by_sweeps;
 ghost use mathlib.Core.Path.{_≡_};
 ghost use Prim.Native.Nat.{_≤_};
 ghost use lib.ListN.{length};
 ghost use Rattle.outputs.specs.Output.{onFront};
-ghost use Rattle.graph.specs.Hops.{flat};
+ghost use Rattle.graph.specs.Hops.{count, flat};
 ghost use Rattle.graph.specs.Answers.{accepted};
 ghost use Rattle.starts.specs.Starts.{Table, Tabled};
+ghost use Rattle.silent.specs.Silent.{ringless};
+ghost use Rattle.confluence.specs.Held.{marksOf};
+ghost use Rattle.senses.specs.Senses.{markedBy};
 ghost use Rattle.representatives.specs.Tables.{Reducible};
 ghost use Rattle.quotient.specs.Reduce.{reduceAnswer, reduceOf, mapOutput, shortOutput, reduction, markedMap, markedHops};
 ghost use Rattle.quotient.specs.Refusal.{refusal, laterAnswer};
 
-// Rows 5 and 6 of an admitted graph, by its table of first places.
+// Rows 19, 5 and 6 of an admitted graph, by its table of first places.
 fn later_answer(
     shape: Shape,
     hops: &[u16],
     starts: &[u16; STARTS],
+    sense: u32,
     entries: usize,
     numbers: usize,
 ) -> Answer
     requires { ⌜ Tabled shape (now hops) (now starts) ⌝ }
-    ensures { λ r. ⌜ r ≡ laterAnswer shape (now (hops .entry)) entries numbers ⌝ }
+    ensures { λ r. ⌜ r ≡ laterAnswer shape (now (hops .entry)) sense entries numbers ⌝ }
 {
+    let sensed = sense_answer(sense);
+    if sensed.number != 0 {
+        return sensed;
+    }
     let ringed = ring_answer(shape, hops, starts);
     if ringed.number != 0 {
         return ringed;
@@ -43,23 +53,46 @@ fn later_answer(
     accept()
 }
 
-// The answer alone: rows 1 to 4, then 5, then 6.
-pub fn reduce_answer(shape: Shape, hops: &[u16], entries: usize, numbers: usize) -> Answer
-    ensures { λ r. ⌜ r ≡ reduceAnswer shape (now (hops .entry)) entries numbers ⌝ }
+// The answer alone: rows 1 to 4, then 19, 5 and 6.
+pub fn reduce_answer(
+    shape: Shape,
+    hops: &[u16],
+    sense: u32,
+    entries: usize,
+    numbers: usize,
+) -> Answer
+    ensures { λ r. ⌜ r ≡ reduceAnswer shape (now (hops .entry)) sense entries numbers ⌝ }
 {
     let checked = check(shape, hops);
     if checked.number != 0 {
         return checked;
     }
     let starts = starts_of(hops);
-    later_answer(shape, hops, &starts, entries, numbers)
+    later_answer(shape, hops, &starts, sense, entries, numbers)
 }
 
-// The reduction of a graph that every row lets pass: it is marked, and reduced along the marks.
+// Marks in the sense with the number: 1 in rounds that test only what is due, any other by sweeps. As in `marks`, the choice
+// is the entry's own, so that sense 1 takes no stack of the others'.
+fn mark_in(shape: Shape, hops: &[u16], starts: &[u16; STARTS], sense: u32, marks: &mut [u8])
+    requires tabled { ⌜ Tabled shape (now hops) (now starts) ⌝ }
+    requires free { ⌜ ringless shape (now hops) .number ≡ 0 ⌝ }
+    requires room { ⌜ count (now hops) ≤ length (now marks) ⌝ }
+    ensures { λ r. ⌜ now (marks .exit) ≡
+        onFront (marksOf (now (hops .entry)) (markedBy sense shape (now (hops .entry)))) (now (marks .entry)) ⌝ }
+{
+    if sense == 1 {
+        mark_rounds(hops, starts, marks);
+        return;
+    }
+    mark_by_sweeps(shape, hops, starts, sense, marks);
+}
+
+// The reduction of a graph that every row lets pass: it is marked in the sense, and reduced along the marks.
 fn accepted_reduction(
     shape: Shape,
     hops: &[u16],
     starts: &[u16; STARTS],
+    sense: u32,
     map: &mut [u16],
     short: &mut [u16],
 ) -> Reduction
@@ -67,12 +100,12 @@ fn accepted_reduction(
     requires table { ⌜ Table (now hops) (now starts) ⌝ }
     requires map_room { ⌜ shape .states ≤ length (now map) ⌝ }
     requires short_room { ⌜ length (now hops) ≤ length (now short) ⌝ }
-    ensures returned { λ r. ⌜ r ≡ reduction shape (now (hops .entry)) accepted ⌝ }
-    ensures mapped { λ r. ⌜ now (map .exit) ≡ onFront (markedMap shape (now (hops .entry))) (now (map .entry)) ⌝ }
-    ensures shortened { λ r. ⌜ now (short .exit) ≡ onFront (flat (markedHops shape (now (hops .entry)))) (now (short .entry)) ⌝ }
+    ensures returned { λ r. ⌜ r ≡ reduction shape (now (hops .entry)) sense accepted ⌝ }
+    ensures mapped { λ r. ⌜ now (map .exit) ≡ onFront (markedMap shape (now (hops .entry)) sense) (now (map .entry)) ⌝ }
+    ensures shortened { λ r. ⌜ now (short .exit) ≡ onFront (flat (markedHops shape (now (hops .entry)) sense)) (now (short .entry)) ⌝ }
 {
     let mut marks = [0u8; MOST_HOPS];
-    mark_rounds(hops, starts, &mut marks);
+    mark_in(shape, hops, starts, sense, &mut marks);
     let made = reduce_marked(shape, hops, &marks, map, short);
     let short_shape = made.shape;
     Reduction {
@@ -99,19 +132,25 @@ fn refused_reduction(answer: Answer) -> Reduction
 
 // The entry. A refusal writes nothing; acceptance writes the map and the short hops, and nothing past them. The table of first places is made once, for
 // row 5 and for marking.
-pub fn reduce(shape: Shape, hops: &[u16], map: &mut [u16], short: &mut [u16]) -> Reduction
-    ensures returned { λ r. ⌜ r ≡ reduceOf shape (now (hops .entry)) (length (now (map .entry))) (length (now (short .entry))) ⌝ }
-    ensures mapped { λ r. ⌜ now (map .exit) ≡ mapOutput shape (now (hops .entry)) (now (map .entry)) (now (short .entry)) ⌝ }
-    ensures shortened { λ r. ⌜ now (short .exit) ≡ shortOutput shape (now (hops .entry)) (now (map .entry)) (now (short .entry)) ⌝ }
+pub fn reduce(
+    shape: Shape,
+    hops: &[u16],
+    sense: u32,
+    map: &mut [u16],
+    short: &mut [u16],
+) -> Reduction
+    ensures returned { λ r. ⌜ r ≡ reduceOf shape (now (hops .entry)) sense (length (now (map .entry))) (length (now (short .entry))) ⌝ }
+    ensures mapped { λ r. ⌜ now (map .exit) ≡ mapOutput shape (now (hops .entry)) sense (now (map .entry)) (now (short .entry)) ⌝ }
+    ensures shortened { λ r. ⌜ now (short .exit) ≡ shortOutput shape (now (hops .entry)) sense (now (map .entry)) (now (short .entry)) ⌝ }
 {
     let checked = check(shape, hops);
     if checked.number != 0 {
         return refused_reduction(checked);
     }
     let starts = starts_of(hops);
-    let answer = later_answer(shape, hops, &starts, map.len(), short.len());
+    let answer = later_answer(shape, hops, &starts, sense, map.len(), short.len());
     if answer.number != 0 {
         return refused_reduction(answer);
     }
-    accepted_reduction(shape, hops, &starts, map, short)
+    accepted_reduction(shape, hops, &starts, sense, map, short)
 }

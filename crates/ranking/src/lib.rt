@@ -23,7 +23,7 @@ ghost use Rattle.starts.specs.Starts.{Tabled};
 ghost use Rattle.ranking.specs.Ranks.{endsNoted, Ranks, Ranked};
 
 // Whether every silent hop of v leads to a ranked state. The silent hops are the first of its hops.
-fn ends_ranked(
+pub fn ends_ranked(
     shape: Shape,
     hops: &[u16],
     starts: &[u16; STARTS],

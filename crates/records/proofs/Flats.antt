@@ -71,10 +71,10 @@ unfolding countsFit
 check-over sh ys l =
     sym (check-counts sh (flat ys) refl (not-no (and-no-left (whole (flat ys)) (and-no-right (leb 1 (sh .states) && leb (sh .states) most-states && leb 1 (sh .labels) && leb (sh .labels) most-labels) (lt-leb (count (flat ys)) most-hops (rw (count-flat ys) l))))))
 
-pub mark-over : (sh : Shape) (ys : List Hop) (out : List ℕ) → most-hops < length ys → markAnswer sh (flat ys) out ≡ refused 1 0
+pub mark-over : (sh : Shape) (ys : List Hop) (k : ℕ) (out : List ℕ) → most-hops < length ys → markAnswer sh (flat ys) k out ≡ refused 1 0
 unfolding markAnswer
-mark-over sh ys out l = rw (check-over sh ys l)
+mark-over sh ys k out l = rw (check-over sh ys l)
 
-pub output-over : (sh : Shape) (ys : List Hop) (out : List ℕ) → most-hops < length ys → markOutput sh (flat ys) out ≡ out
+pub output-over : (sh : Shape) (ys : List Hop) (k : ℕ) (out : List ℕ) → most-hops < length ys → markOutput sh (flat ys) k out ≡ out
 unfolding markOutput
-output-over sh ys out l = rw (mark-over sh ys out l)
+output-over sh ys k out l = rw (mark-over sh ys k out l)

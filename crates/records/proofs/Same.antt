@@ -42,8 +42,8 @@ holds-flat hs ys h = sym (append-nil (flat ys)) ∙ ap (λ (l : List ℕ). flat 
   written : over ys hs ≡ hs
   written = ap (λ (xs : List Hop). over xs hs) (sym firsts) ∙ over-front hs (length ys) (omega (arith, h .as-many))
 
-pub same-answers : (sh : Shape) (ys : List Hop) (hs out : List ℕ) → Holds hs ys
-    → (checkOf sh (flat ys) ≡ checkOf sh hs) × (markAnswer sh (flat ys) out ≡ markAnswer sh hs out) × (markOutput sh (flat ys) out ≡ markOutput sh hs out)
-same-answers sh ys hs out h =
+pub same-answers : (sh : Shape) (ys : List Hop) (hs : List ℕ) (k : ℕ) (out : List ℕ) → Holds hs ys →
+    (checkOf sh (flat ys) ≡ checkOf sh hs) × (markAnswer sh (flat ys) k out ≡ markAnswer sh hs k out) × (markOutput sh (flat ys) k out ≡ markOutput sh hs k out)
+same-answers sh ys hs k out h =
     let e = holds-flat hs ys h in
-    (ap (checkOf sh) e, ap (λ (l : List ℕ). markAnswer sh l out) e, ap (λ (l : List ℕ). markOutput sh l out) e)
+    (ap (checkOf sh) e, ap (λ (l : List ℕ). markAnswer sh l k out) e, ap (λ (l : List ℕ). markOutput sh l k out) e)

@@ -63,21 +63,27 @@ pub fn check_records(shape: Shape, hops: &[Hop]) -> Answer
 }
 
 // `mark` of the first n hops of an array, where a graph may have as many.
-fn mark_of(shape: Shape, nums: [u16; MOST_NUMBERS], n: usize, marks: &mut [u8]) -> Answer
-    ensures { λ r. ⌜ (r ≡ unlessOver n (refused 1 0) (markAnswer shape (between nums 0 n) (now (marks .entry)))) ×
-        (now (marks .exit) ≡ unlessOver n (now (marks .entry)) (markOutput shape (between nums 0 n) (now (marks .entry)))) ⌝ }
+fn mark_of(
+    shape: Shape,
+    nums: [u16; MOST_NUMBERS],
+    n: usize,
+    sense: u32,
+    marks: &mut [u8],
+) -> Answer
+    ensures { λ r. ⌜ (r ≡ unlessOver n (refused 1 0) (markAnswer shape (between nums 0 n) sense (now (marks .entry)))) ×
+        (now (marks .exit) ≡ unlessOver n (now (marks .entry)) (markOutput shape (between nums 0 n) sense (now (marks .entry)))) ⌝ }
 {
     if is_over(n) {
         return refuse(1, 0);
     }
-    mark(shape, part(&nums, 0, n), marks)
+    mark(shape, part(&nums, 0, n), sense, marks)
 }
 
-// The entry `mark` over records: a refusal writes nothing.
-pub fn mark_records(shape: Shape, hops: &[Hop], marks: &mut [u8]) -> Answer
-    ensures answers { λ r. ⌜ r ≡ markAnswer shape (flat (now (hops .entry))) (now (marks .entry)) ⌝ }
-    ensures writes { λ r. ⌜ now (marks .exit) ≡ markOutput shape (flat (now (hops .entry))) (now (marks .entry)) ⌝ }
+// The entry `mark` over records, in the sense asked: a refusal writes nothing.
+pub fn mark_records(shape: Shape, hops: &[Hop], sense: u32, marks: &mut [u8]) -> Answer
+    ensures answers { λ r. ⌜ r ≡ markAnswer shape (flat (now (hops .entry))) sense (now (marks .entry)) ⌝ }
+    ensures writes { λ r. ⌜ now (marks .exit) ≡ markOutput shape (flat (now (hops .entry))) sense (now (marks .entry)) ⌝ }
 {
     let n = hops.len();
-    mark_of(shape, flat_of(hops), n, marks)
+    mark_of(shape, flat_of(hops), n, sense, marks)
 }

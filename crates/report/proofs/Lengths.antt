@@ -11,10 +11,14 @@ use Rattle.graph.specs.Hops.{count, from, label, to, flat}
 use Rattle.limits.specs.Check.{Admitted}
 use Rattle.graph.specs.declared.Shape.{Shape}
 use Rattle.graph.specs.declared.Answer.{Answer}
-use Rattle.marks.specs.Mark.{markAt}
-use Rattle.quotient.specs.Reduce.{markedTo, markedHops, markedShape}
+use Rattle.confluence.specs.Rounds.{marked}
+use Rattle.confluence.specs.Held.{markOf}
+use Rattle.confluence.proofs.Marked.{marked-confluent}
+use Rattle.representatives.specs.Representative.{Settles, mapOf}
 use Rattle.representatives.specs.Tables.{Reducible}
-use Rattle.quotient.proofs.Reduced.{short-admitted, map-inside}
+use Rattle.representatives.proofs.Marked.{silent-settles}
+use Rattle.short.specs.Short.{shortHops, shortShape}
+use Rattle.short.proofs.Reduces.{shape-admitted, map-inside}
 use Rattle.text.specs.Text.{digits, decimal, spaced, numbered, line, lines, in-word, marked-word, map-word, out-word, hop-word, no-word}
 use Rattle.rows.specs.Rows.{markedLine, mapLine, hopLine, linesOf, refusalOf}
 use Rattle.report.specs.Report.{reportOf, most-text}
@@ -106,19 +110,22 @@ report-most {sh} {hs} red =
     (omega (
       arith,
       line2-most 20 in-word (sh .states) (count hs) (decimal-any (sh .states)) (decimal-any (count hs)),
-      lines-most (markedLine hs (markAt hs)) 19 (count hs) (marked-most sh hs (red .admitted) (markAt hs)),
-      lines-most (mapLine (markedTo sh hs)) 16 (sh .states) (map-most sh hs (red .admitted) (markedTo sh hs) (λ s l. omega (arith, map-inside red s l, short .states-most))),
+      lines-most (markedLine hs (markOf hs (marked hs))) 19 (count hs) (marked-most sh hs (red .admitted) (markOf hs (marked hs))),
+      lines-most (mapLine (mapOf sh hs (marked hs))) 16 (sh .states) (map-most sh hs (red .admitted) (mapOf sh hs (marked hs)) (λ s l. omega (arith, map-inside (red .admitted) settles s l, short .states-most))),
       line3-most 20 out-word (new .states) (count xs) (decimal-any (new .states)) (decimal-any (count xs)) (new .initial) (decimal-any (new .initial)),
       lines-most (hopLine xs) 22 (count xs) (hop-most new xs short),
       red .admitted .hops-most,
       red .admitted .states-most,
       short .hops-most,
     )) where
+      settles : Settles sh hs (marked hs)
+      settles = silent-settles red (marked hs) (marked-confluent hs .silent)
+
       new : Shape
-      new = markedShape sh hs
+      new = shortShape sh hs (marked hs)
 
       xs : List ℕ
-      xs = flat (markedHops sh hs)
+      xs = flat (shortHops sh hs (marked hs))
 
-      short : Admitted (markedShape sh hs) (flat (markedHops sh hs))
-      short = short-admitted red
+      short : Admitted (shortShape sh hs (marked hs)) (flat (shortHops sh hs (marked hs)))
+      short = shape-admitted (red .admitted) settles

@@ -20,15 +20,18 @@ use Rattle.graph.proofs.Fronts.{flat-front}
 use Rattle.limits.specs.Check.{checkOf, Admitted}
 use Rattle.limits.proofs.Checked.{check-admitted, admitted-check}
 use Rattle.silent.specs.Silent.{ringless}
-use Rattle.confluence.specs.Held.{heldBy}
-use Rattle.marks.specs.Mark.{marksMade, markAt}
-use Rattle.marks.proofs.Entry.{made-at}
+use Rattle.shrinking.specs.Pairs.{In, Within}
+use Rattle.confluence.specs.Rounds.{silentHops, marked}
+use Rattle.confluence.specs.Held.{heldBy, markOf, marksOf}
+use Rattle.confluence.proofs.Marked.{marked-confluent}
+use Rattle.confluence.proofs.Marks.{marks-at}
+use Rattle.representatives.specs.Representative.{mapOf}
 use Rattle.representatives.specs.Tables.{Reducible}
-use Rattle.short.specs.Short.{mapList}
+use Rattle.short.specs.Short.{shortHops, shortShape, mapList}
+use Rattle.short.proofs.Images.{short-within}
 use Rattle.reducing.specs.Reducing.{shortGraph, mapLeft, shortLeft}
 use Rattle.reducing.specs.declared.ShortGraph.{ShortGraph}
-use Rattle.quotient.specs.Reduce.{markedTo, markedHops, markedShape}
-use Rattle.quotient.proofs.Marked.{left-map, left-short, left-shape, left-hops, marked-within}
+use Rattle.quotient.proofs.Marked.{left-map, left-short, left-shape, left-hops}
 use Rattle.fields.specs.Format.{hopsIn, shapeIn, hopListIn}
 use Rattle.fields.proofs.Laws.{length-hop-list, count-hop-list}
 use Rattle.format.specs.Rows.{formatAnswer}
@@ -86,32 +89,35 @@ module _ {sh : Shape} {hs : List ℕ} (adm : Admitted sh hs) {a : Answer} (e : a
 
 -- what marking, and reducing along the marks, leave
 module _ {sh : Shape} {hs : List ℕ} (red : Reducible sh hs) where
-  module _ (ms0 : List ℕ) {ms : List ℕ} (e : ms ≡ onFront (marksMade hs) ms0) where
-    pub reduced-marks : (i : ℕ) → i < count hs → getD ms i 0 ≡ markAt hs i
-    reduced-marks = made-at hs ms ms0 e
+  silent : Within (In (marked hs)) (In (silentHops hs))
+  silent = marked-confluent hs .silent
 
-    pub reduced-map : (m0 : List ℕ) {m : List ℕ} → m ≡ mapLeft sh hs ms m0 → (s : ℕ) → s < sh .states → getD m s 0 ≡ markedTo sh hs s
+  module _ (ms0 : List ℕ) {ms : List ℕ} (e : ms ≡ onFront (marksOf hs (marked hs)) ms0) where
+    pub reduced-marks : (i : ℕ) → i < count hs → getD ms i 0 ≡ markOf hs (marked hs) i
+    reduced-marks i l = marks-at hs (marked hs) ms ms0 e l
+
+    pub reduced-map : (m0 : List ℕ) {m : List ℕ} → m ≡ mapLeft sh hs ms m0 → (s : ℕ) → s < sh .states → getD m s 0 ≡ mapOf sh hs (marked hs) s
     unfolding mapList
     reduced-map m0 f s l =
-        rw (left-map sh hs ms ms0 e m0 f)
-        (List·getD-append (listed (sh .states) (markedTo sh hs)) _ 0 s (rw (length-listed (markedTo sh hs) (sh .states)) l) ∙
-        getD-listed (markedTo sh hs) (sh .states) l)
+        rw (left-map sh hs (marked hs) ms ms0 e silent m0 f)
+        (List·getD-append (listed (sh .states) (mapOf sh hs (marked hs))) _ 0 s (rw (length-listed (mapOf sh hs (marked hs)) (sh .states)) l) ∙
+        getD-listed (mapOf sh hs (marked hs)) (sh .states) l)
 
     module _ {r : ShortGraph} (d : r ≡ shortGraph sh hs (heldBy hs ms)) where
-      pub reduced-shape : r .shape ≡ markedShape sh hs
-      reduced-shape = left-shape sh hs ms ms0 e d
+      pub reduced-shape : r .shape ≡ shortShape sh hs (marked hs)
+      reduced-shape = left-shape sh hs (marked hs) ms ms0 e silent d
 
-      reduced-hops : r .hops ≡ length (markedHops sh hs)
-      reduced-hops = left-hops sh hs ms ms0 e d
+      reduced-hops : r .hops ≡ length (shortHops sh hs (marked hs))
+      reduced-hops = left-hops sh hs (marked hs) ms ms0 e silent d
 
       pub reduced-most : r .hops ≤ most-hops
-      reduced-most = omega (arith, reduced-hops, marked-within sh hs, red .admitted .hops-most)
+      reduced-most = omega (arith, reduced-hops, short-within sh hs (marked hs), red .admitted .hops-most)
 
-      pub reduced-short : (s0 : List ℕ) {s part : List ℕ} → s ≡ shortLeft sh hs ms s0 → part ≡ between s 0 (r .hops) → part ≡ flat (markedHops sh hs)
-      reduced-short s0 g p = p ∙ rw (left-short sh hs ms ms0 e s0 g) (flat-front (markedHops sh hs) _ reduced-hops)
+      pub reduced-short : (s0 : List ℕ) {s part : List ℕ} → s ≡ shortLeft sh hs ms s0 → part ≡ between s 0 (r .hops) → part ≡ flat (shortHops sh hs (marked hs))
+      reduced-short s0 g p = p ∙ rw (left-short sh hs (marked hs) ms ms0 e silent s0 g) (flat-front (shortHops sh hs (marked hs)) _ reduced-hops)
 
-  pub reduced-lines : {mark map : ℕ → ℕ} {new : Shape} {short : List ℕ} → ((i : ℕ) → i < count hs → mark i ≡ markAt hs i) →
-      ((s : ℕ) → s < sh .states → map s ≡ markedTo sh hs s) → new ≡ markedShape sh hs → short ≡ flat (markedHops sh hs) →
+  pub reduced-lines : {mark map : ℕ → ℕ} {new : Shape} {short : List ℕ} → ((i : ℕ) → i < count hs → mark i ≡ markOf hs (marked hs) i) →
+      ((s : ℕ) → s < sh .states → map s ≡ mapOf sh hs (marked hs) s) → new ≡ shortShape sh hs (marked hs) → short ≡ flat (shortHops sh hs (marked hs)) →
       linesOf sh hs mark map new short ≡ reportOf sh hs
   unfolding reportOf
   reduced-lines f g d e = report-same sh hs f g d e

@@ -8,15 +8,17 @@ use Rattle.limits.specs.Check.{checkOf}
 use Rattle.graph.specs.declared.Shape.{Shape}
 use Rattle.graph.specs.declared.Answer.{Answer}
 use Rattle.silent.specs.Silent.{ringless}
-use Rattle.marks.specs.Mark.{markAt}
-use Rattle.quotient.specs.Reduce.{markedTo, markedHops, markedShape}
+use Rattle.confluence.specs.Rounds.{marked}
+use Rattle.confluence.specs.Held.{markOf}
+use Rattle.representatives.specs.Representative.{mapOf}
+use Rattle.short.specs.Short.{shortHops, shortShape}
 use Rattle.fields.specs.Format.{shapeIn, hopListIn}
 use Rattle.format.specs.Rows.{formatAnswer}
 use Rattle.rows.specs.Rows.{linesOf, refusalOf}
 
--- the report of an accepted graph: its marks, its map and its short graph
+-- the report of an accepted graph: its marks, its map and its short graph ("the program keeps 1", whose marked set is document 01's)
 unfoldable pub reportOf : Shape → List ℕ → List ℕ
-reportOf sh hs = linesOf sh hs (markAt hs) (markedTo sh hs) (markedShape sh hs) (flat (markedHops sh hs))
+reportOf sh hs = linesOf sh hs (markOf hs (marked hs)) (mapOf sh hs (marked hs)) (shortShape sh hs (marked hs)) (flat (shortHops sh hs (marked hs)))
 
 -- the refusal, or what follows an acceptance
 unfoldable pub unlessRefused : Answer → List ℕ → List ℕ

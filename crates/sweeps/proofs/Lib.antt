@@ -1,1 +1,2 @@
-pub mod Sweeping  -- a sweep takes no hop of the marked set, and where none falls the marks are those of the marked set
+pub mod Settling  -- marks that lose what does not close until nothing falls, for any condition
+pub mod Sweeping  -- one test of strong confluence

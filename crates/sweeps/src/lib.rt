@@ -2,6 +2,7 @@
 // sweep goes over the places in list order, and a marked hop that no longer closes loses its mark at once; sweeps go on until one takes nothing. The
 // marks hold the marked set throughout, and are a confluent set when they rest. The entries mark in rounds now (`falling`), which leave the same marks
 // (`fast: joined`); this one stays as the plain way to them, with a proof that knows of no rounds.
+// What marks keep while they fall, and that they end as the greatest set, is said here of any condition (proofs/Settling); `weaker` sweeps by it too.
 // It stands on `confluence` (the marked set and its theorems) and `closes` (whether a hop closes with the marks).
 use closes::closes_at;
 use confluence::start_marks;
@@ -15,16 +16,16 @@ ghost use Rattle.outputs.specs.Output.{onFront};
 ghost use Rattle.graph.specs.Hops.{count};
 ghost use Rattle.confluence.specs.Rounds.{marked};
 ghost use Rattle.confluence.specs.Held.{marksOf};
-ghost use Rattle.sweeps.specs.Sweep.{Marking, Tested, Swept};
+ghost use Rattle.sweeps.specs.Sweep.{Marking, Swept, Stands, StandsTo};
 ghost use Rattle.starts.specs.Starts.{Table, Ready};
 
 // Takes the mark of the hop at place i if it does not close; returns how many marks went.
 fn test_at(hops: &[u16], starts: &[u16; STARTS], marks: &mut [u8], i: usize) -> usize
     requires ready { ⌜ Ready (now hops) ⌝ }
     requires table { ⌜ Table (now hops) (now starts) ⌝ }
-    requires marking { ⌜ Marking (now hops) (now marks) ⌝ }
+    requires marking { ⌜ Marking (now hops) (marked (now hops)) (now marks) ⌝ }
     requires place { ⌜ i < count (now hops) ⌝ }
-    ensures { λ r. ⌜ Tested (now (hops .entry)) (now (marks .entry)) i (now (marks .exit)) r ⌝ }
+    ensures { λ r. ⌜ Swept (now (hops .entry)) (marked (now (hops .entry))) (Stands (now (hops .entry)) i) (now (marks .entry)) (now (marks .exit)) r ⌝ }
 {
     if marks[i] == 0 {
         return 0;
@@ -40,8 +41,9 @@ fn test_at(hops: &[u16], starts: &[u16; STARTS], marks: &mut [u8], i: usize) -> 
 fn sweep(hops: &[u16], starts: &[u16; STARTS], marks: &mut [u8]) -> usize
     requires ready { ⌜ Ready (now hops) ⌝ }
     requires table { ⌜ Table (now hops) (now starts) ⌝ }
-    requires marking { ⌜ Marking (now hops) (now marks) ⌝ }
-    ensures { λ r. ⌜ Swept (now (hops .entry)) (now (marks .entry)) (count (now (hops .entry))) (now (marks .exit)) r ⌝ }
+    requires marking { ⌜ Marking (now hops) (marked (now hops)) (now marks) ⌝ }
+    ensures { λ r. ⌜ Swept (now (hops .entry)) (marked (now (hops .entry))) (StandsTo (now (hops .entry)) (count (now (hops .entry))))
+        (now (marks .entry)) (now (marks .exit)) r ⌝ }
 {
     let n = hop_count(hops);
     let mut lost = 0;
@@ -57,7 +59,7 @@ fn sweep(hops: &[u16], starts: &[u16; STARTS], marks: &mut [u8]) -> usize
 fn settle(hops: &[u16], starts: &[u16; STARTS], marks: &mut [u8])
     requires ready { ⌜ Ready (now hops) ⌝ }
     requires table { ⌜ Table (now hops) (now starts) ⌝ }
-    requires marking { ⌜ Marking (now hops) (now marks) ⌝ }
+    requires marking { ⌜ Marking (now hops) (marked (now hops)) (now marks) ⌝ }
     ensures { λ r. ⌜ now (marks .exit) ≡ onFront (marksOf (now (hops .entry)) (marked (now (hops .entry)))) (now (marks .entry)) ⌝ }
 {
     let mut lost = 1;

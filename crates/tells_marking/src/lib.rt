@@ -40,18 +40,19 @@ pub fn tell_mark(
     labels: u32,
     initial: u32,
     hops: &[u16],
+    sense: u32,
     marks: &mut [u8],
     answer: &mut [u64],
 ) -> u32
     ensures returns { λ r. ⌜ r ≡
-        returned (markAnswer (shapeOf states labels initial) (now (hops .entry)) (now (marks .entry))) 3 (length (now (answer .entry))) ⌝ }
+        returned (markAnswer (shapeOf states labels initial) (now (hops .entry)) sense (now (marks .entry))) 3 (length (now (answer .entry))) ⌝ }
     ensures marks { λ r. ⌜ now (marks .exit) ≡
         unlessShort 3
         (now (answer .entry))
-        (markOutput (shapeOf states labels initial) (now (hops .entry)) (now (marks .entry)))
+        (markOutput (shapeOf states labels initial) (now (hops .entry)) sense (now (marks .entry)))
         (now (marks .entry)) ⌝ }
     ensures tells { λ r. ⌜ now (answer .exit) ≡
-        told 3 (numbersOf (markAnswer (shapeOf states labels initial) (now (hops .entry)) (now (marks .entry))) []) (now (answer .entry)) ⌝ }
+        told 3 (numbersOf (markAnswer (shapeOf states labels initial) (now (hops .entry)) sense (now (marks .entry))) []) (now (answer .entry)) ⌝ }
 {
     let shape = Shape {
         states,
@@ -59,14 +60,14 @@ pub fn tell_mark(
         initial,
     };
     if answer.len() < 3 {
-        let unwritten = mark_answer(shape, hops, marks);
+        let unwritten = mark_answer(shape, hops, sense, marks);
         return short_number(unwritten, answer.len(), 3);
     }
-    let a = mark(shape, hops, marks);
+    let a = mark(shape, hops, sense, marks);
     tell_answer(answer, a)
 }
 
-// The same with the number of tests.
+// The same in sense 1, with the number of tests.
 pub fn tell_mark_fast(
     states: u32,
     labels: u32,
@@ -76,11 +77,11 @@ pub fn tell_mark_fast(
     answer: &mut [u64],
 ) -> u32
     ensures returns { λ r. ⌜ r ≡
-        returned (markAnswer (shapeOf states labels initial) (now (hops .entry)) (now (marks .entry))) 4 (length (now (answer .entry))) ⌝ }
+        returned (markAnswer (shapeOf states labels initial) (now (hops .entry)) 1 (now (marks .entry))) 4 (length (now (answer .entry))) ⌝ }
     ensures marks { λ r. ⌜ now (marks .exit) ≡
         unlessShort 4
         (now (answer .entry))
-        (markOutput (shapeOf states labels initial) (now (hops .entry)) (now (marks .entry)))
+        (markOutput (shapeOf states labels initial) (now (hops .entry)) 1 (now (marks .entry)))
         (now (marks .entry)) ⌝ }
     ensures tells { λ r. ⌜ now (answer .exit) ≡
         told 4 (countedNumbers (countedOf (shapeOf states labels initial) (now (hops .entry)) (now (marks .entry)))) (now (answer .entry)) ⌝ }
@@ -91,7 +92,7 @@ pub fn tell_mark_fast(
         initial,
     };
     if answer.len() < 4 {
-        let unwritten = mark_answer(shape, hops, marks);
+        let unwritten = mark_answer(shape, hops, 1, marks);
         return short_number(unwritten, answer.len(), 4);
     }
     let counted = mark_fast(shape, hops, marks);

@@ -8,7 +8,7 @@ use Rattle.quotient.specs.declared.Reduction.{Reduction}
 use Rattle.quotient.specs.Reduce.{reduceAnswer, reduceOf}
 use Rattle.answers.proofs.Answers.{either-answer}
 
-pub reduced-answer : (sh : Shape) (hs : List ℕ) (map-room short-room : ℕ) →
-    reduceOf sh hs map-room short-room .answer ≡ reduceAnswer sh hs map-room short-room
+pub reduced-answer : (sh : Shape) (hs : List ℕ) (k map-room short-room : ℕ) →
+    reduceOf sh hs k map-room short-room .answer ≡ reduceAnswer sh hs k map-room short-room
 unfolding reduceOf
-reduced-answer sh hs m s = either-answer (λ (r : Reduction). r .answer) (eqb (reduceAnswer sh hs m s .number) 0) _ _ (λ _. refl) refl
+reduced-answer sh hs k m s = either-answer (λ (r : Reduction). r .answer) (eqb (reduceAnswer sh hs k m s .number) 0) _ _ (λ _. refl) refl

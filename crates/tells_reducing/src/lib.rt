@@ -37,28 +37,29 @@ pub fn tell_reduce(
     labels: u32,
     initial: u32,
     hops: &[u16],
+    sense: u32,
     map: &mut [u16],
     short: &mut [u16],
     answer: &mut [u64],
 ) -> u32
     ensures returns { λ r. ⌜ r ≡
         returned
-        (reduceAnswer (shapeOf states labels initial) (now (hops .entry)) (length (now (map .entry))) (length (now (short .entry))))
+        (reduceAnswer (shapeOf states labels initial) (now (hops .entry)) sense (length (now (map .entry))) (length (now (short .entry))))
         7
         (length (now (answer .entry))) ⌝ }
     ensures mapped { λ r. ⌜ now (map .exit) ≡
         unlessShort 7
         (now (answer .entry))
-        (mapOutput (shapeOf states labels initial) (now (hops .entry)) (now (map .entry)) (now (short .entry)))
+        (mapOutput (shapeOf states labels initial) (now (hops .entry)) sense (now (map .entry)) (now (short .entry)))
         (now (map .entry)) ⌝ }
     ensures shortened { λ r. ⌜ now (short .exit) ≡
         unlessShort 7
         (now (answer .entry))
-        (shortOutput (shapeOf states labels initial) (now (hops .entry)) (now (map .entry)) (now (short .entry)))
+        (shortOutput (shapeOf states labels initial) (now (hops .entry)) sense (now (map .entry)) (now (short .entry)))
         (now (short .entry)) ⌝ }
     ensures tells { λ r. ⌜ now (answer .exit) ≡
         told 7
-        (reductionNumbers (reduceOf (shapeOf states labels initial) (now (hops .entry)) (length (now (map .entry))) (length (now (short .entry)))))
+        (reductionNumbers (reduceOf (shapeOf states labels initial) (now (hops .entry)) sense (length (now (map .entry))) (length (now (short .entry)))))
         (now (answer .entry)) ⌝ }
 {
     let shape = Shape {
@@ -67,9 +68,9 @@ pub fn tell_reduce(
         initial,
     };
     if answer.len() < 7 {
-        let unwritten = reduce_answer(shape, hops, map.len(), short.len());
+        let unwritten = reduce_answer(shape, hops, sense, map.len(), short.len());
         return short_number(unwritten, answer.len(), 7);
     }
-    let reduction = reduce(shape, hops, map, short);
+    let reduction = reduce(shape, hops, sense, map, short);
     tell_reduction(answer, reduction)
 }

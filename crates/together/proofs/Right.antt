@@ -1,5 +1,5 @@
--- What `reduce` makes of a graph without rings passes the audit: the map and the short graph are admitted, and the fault count is 0. So the map is
--- a branching bisimulation that joins the initial states. Assumes nothing.
+-- What `reduce` makes of a graph without rings passes the audit, in any sense: the map and the short graph are admitted, and the fault count is 0. So the
+-- map is a branching bisimulation that joins the initial states. Assumes nothing.
 use Prim.Native.Nat.{ℕ, _<_}
 use mathlib.Core.Path.{_≡_, refl, sym}
 use mathlib.Core.List.{List}
@@ -7,8 +7,11 @@ use Rattle.graph.specs.Hops.{flat}
 use Rattle.graph.specs.declared.Shape.{Shape}
 use Rattle.below.proofs.Tests.{length-listed, getD-listed}
 use Rattle.representatives.specs.Tables.{Reducible}
-use Rattle.short.specs.Short.{shortShape, mapList}
-use Rattle.quotient.specs.Reduce.{markedTo, markedMap, markedHops, markedShape}
+use Rattle.lts.specs.Closes.{Sense}
+use Rattle.shrinking.specs.Pairs.{Pairs}
+use Rattle.senses.specs.Senses.{markedIn}
+use Rattle.representatives.specs.Representative.{mapOf}
+use Rattle.short.specs.Short.{shortHops, shortShape, mapList}
 use Rattle.quotient.proofs.Reduced.{map-inside, short-admitted, short-reduces}
 use Rattle.graph.specs.Map.{mapped}
 use Rattle.faults.specs.Faults.{faultsOf}
@@ -20,38 +23,41 @@ use Rattle.fitting.proofs.Fits.{Audited, audited-answer}
 use Rattle.bisimulation.proofs.Answering.{audit-counts}
 use Rattle.together.specs.Together.{faultless}
 
-module _ {sh : Shape} {hs : List ℕ} (red : Reducible sh hs) where
-  list-maps : (s : ℕ) → s < sh .states → mapped (markedMap sh hs) s ≡ markedTo sh hs s
-  unfolding mapList
-  list-maps s l = getD-listed (markedTo sh hs) (sh .states) l
+module _ {sh : Shape} {hs : List ℕ} (red : Reducible sh hs) (sense : Sense) where
+  abbrev u : Pairs
+  u = markedIn sense sh hs
 
-  reduced-audited : Audited sh (markedShape sh hs) hs (flat (markedHops sh hs)) (markedMap sh hs)
+  list-maps : (s : ℕ) → s < sh .states → mapped (mapList sh hs u) s ≡ mapOf sh hs u s
+  unfolding mapList
+  list-maps s l = getD-listed (mapOf sh hs u) (sh .states) l
+
+  reduced-audited : Audited sh (shortShape sh hs u) hs (flat (shortHops sh hs u)) (mapList sh hs u)
   unfolding mapList shortShape
   reduced-audited = record {
     first = red .admitted;
-    second = short-admitted red;
+    second = short-admitted red sense;
     labels = refl;
-    map = record { one-a-state = length-listed (markedTo sh hs) (sh .states); entries-in = λ s l. rw (list-maps s l) (map-inside red s l) };
+    map = record { one-a-state = length-listed (mapOf sh hs u) (sh .states); entries-in = λ s l. rw (list-maps s l) (map-inside red sense s l) };
   }
 
   -- the audit's count of what `reduce` makes is 0
-  pub reduced-zero : faultsOf sh (markedShape sh hs) hs (flat (markedHops sh hs)) (markedMap sh hs) ≡ 0
+  pub reduced-zero : faultsOf sh (shortShape sh hs u) hs (flat (shortHops sh hs u)) (mapList sh hs u) ≡ 0
   unfolding shortShape
   reduced-zero =
-      reduces-zero sh (markedShape sh hs) hs (flat (markedHops sh hs)) (markedMap sh hs) (red .admitted .range) (short-reduces red) list-maps joins where
-        joins : mapped (markedMap sh hs) (sh .initial) ≡ markedShape sh hs .initial
+      reduces-zero sh (shortShape sh hs u) hs (flat (shortHops sh hs u)) (mapList sh hs u) (red .admitted .range) (short-reduces red sense) list-maps joins where
+        joins : mapped (mapList sh hs u) (sh .initial) ≡ shortShape sh hs u .initial
         joins = list-maps (sh .initial) (red .admitted .initial-in)
 
   -- the audit accepts what `reduce` makes, and finds no fault
-  pub reduce-right : auditOf sh (markedShape sh hs) hs (flat (markedHops sh hs)) (markedMap sh hs) ≡ faultless
+  pub reduce-right : auditOf sh (shortShape sh hs u) hs (flat (shortHops sh hs u)) (mapList sh hs u) ≡ faultless
   reduce-right =
-      sym (audit-counts sh (markedShape sh hs) hs (flat (markedHops sh hs)) (markedMap sh hs)
-      (sym (audited-answer sh (markedShape sh hs) hs (flat (markedHops sh hs)) (markedMap sh hs) reduced-audited)) refl (sym reduced-zero)
-      (none-named sh (markedShape sh hs) hs (flat (markedHops sh hs)) (markedMap sh hs) reduced-zero))
+      sym (audit-counts sh (shortShape sh hs u) hs (flat (shortHops sh hs u)) (mapList sh hs u)
+      (sym (audited-answer sh (shortShape sh hs u) hs (flat (shortHops sh hs u)) (mapList sh hs u) reduced-audited)) refl (sym reduced-zero)
+      (none-named sh (shortShape sh hs u) hs (flat (shortHops sh hs u)) (mapList sh hs u) reduced-zero))
 
   -- so the map is one of Definition 2.4
   pub reduce-bisimulation :
-      BranchingBisimulation sh (markedShape sh hs) hs (flat (markedHops sh hs)) (MapRelation sh (markedMap sh hs)) ×
-      JoinsInitial sh (markedShape sh hs) (MapRelation sh (markedMap sh hs))
+      BranchingBisimulation sh (shortShape sh hs u) hs (flat (shortHops sh hs u)) (MapRelation sh (mapList sh hs u)) ×
+      JoinsInitial sh (shortShape sh hs u) (MapRelation sh (mapList sh hs u))
   reduce-bisimulation =
-      zero-means sh (markedShape sh hs) hs (flat (markedHops sh hs)) (markedMap sh hs) (reduced-audited .first) (reduced-audited .second) (reduced-audited .map) .0 reduced-zero
+      zero-means sh (shortShape sh hs u) hs (flat (shortHops sh hs u)) (mapList sh hs u) (reduced-audited .first) (reduced-audited .second) (reduced-audited .map) .0 reduced-zero

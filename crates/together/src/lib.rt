@@ -1,6 +1,6 @@
-// Reduce and audit together: demand 3 as one function, whose contract says that the audit of what an accepted `reduce` left finds no fault, whatever the
-// outputs held before. It is the house's proof that reducing is right, in words that the audit alone defines; nobody need call it. It stands on quotient
-// and on the audit.
+// Reduce and audit together: demand 3 as one function, whose contract says that the audit of what an accepted `reduce` left, in the sense asked, finds no
+// fault, whatever the outputs held before. It is the house's proof that reducing is right, in words that the audit alone defines; nobody need call it.
+// It stands on quotient and on the audit.
 use bisimulation::Audit;
 use bisimulation::auditing::audit;
 use faults::first::no_fault;
@@ -44,16 +44,17 @@ fn audit_reduction(
 pub fn reduce_and_audit(
     shape: Shape,
     hops: &[u16],
+    sense: u32,
     map: &mut [u16],
     short: &mut [u16],
 ) -> AuditedReduction
-    ensures reduced { λ r. ⌜ r .reduction ≡ reduceOf shape (now (hops .entry)) (length (now (map .entry))) (length (now (short .entry))) ⌝ }
+    ensures reduced { λ r. ⌜ r .reduction ≡ reduceOf shape (now (hops .entry)) sense (length (now (map .entry))) (length (now (short .entry))) ⌝ }
     ensures audited { λ r. ⌜ r .audit ≡ auditLeft shape (now (hops .entry)) (r .reduction) (now (map .exit)) (now (short .exit)) ⌝ }
     ensures right { λ r. ⌜ (r .reduction .answer .number ≡ 0 → r .audit ≡ faultless) ⌝ }
-    ensures mapped { λ r. ⌜ now (map .exit) ≡ mapOutput shape (now (hops .entry)) (now (map .entry)) (now (short .entry)) ⌝ }
-    ensures shortened { λ r. ⌜ now (short .exit) ≡ shortOutput shape (now (hops .entry)) (now (map .entry)) (now (short .entry)) ⌝ }
+    ensures mapped { λ r. ⌜ now (map .exit) ≡ mapOutput shape (now (hops .entry)) sense (now (map .entry)) (now (short .entry)) ⌝ }
+    ensures shortened { λ r. ⌜ now (short .exit) ≡ shortOutput shape (now (hops .entry)) sense (now (map .entry)) (now (short .entry)) ⌝ }
 {
-    let reduction = reduce(shape, hops, map, short);
+    let reduction = reduce(shape, hops, sense, map, short);
     let answer = reduction.answer;
     if answer.number != 0 {
         let audit = Audit {

@@ -9,6 +9,7 @@ use Rattle.silent.specs.Silent.{onRing, lowestOnRing, ringless}
 use Rattle.shrinking.specs.Rounds.{leftAfter}
 use Rattle.confluence.specs.Rounds.{survives, marked, closes, tried, answered, answers, hopAnswers, answer, closing}
 use Rattle.confluence.specs.Held.{marksOf, markOf}
+use Rattle.senses.specs.Senses.{setAt, comes, takes, meets, takesTo, answersFrom, answeredIn, closesIn, markedIn, isSense, senseOf, senseAnswer}
 use Rattle.marks.specs.Mark.{markAnswer}
 use Rattle.due.specs.Due.{fell, standing, reached, shaken, due, testsIn, testsUpTo, testsOf}
 use Rattle.fast.specs.Fast.{countedOf}
@@ -26,6 +27,6 @@ use Rattle.worked.specs.Table.{tableOf, table, outcomeOf, fallsIn}
 pub given : tableOf table ≡ table
 unfolding
     all any least listed tally total flat is labelled has before checkOf countsFit inside firstOutside rises firstFalling leadsBy onRing lowestOnRing ringless
-    leftAfter survives marked closes tried answered answers hopAnswers answer closing marksOf markOf markAnswer fell standing reached shaken due testsIn testsUpTo testsOf countedOf markedFrom resting onward followed repOf newOf mapOf
+    leftAfter survives marked closes tried answered answers hopAnswers answer closing setAt comes takes meets takesTo answersFrom answeredIn closesIn markedIn isSense senseOf senseAnswer marksOf markOf markAnswer fell standing reached shaken due testsIn testsUpTo testsOf countedOf markedFrom resting onward followed repOf newOf mapOf
     insert collected gathered shortHops shortShape mapList initialFault kept lostFaults offers backed matched madeUp madeUpFaults faultsOf firstInitial lostPlace firstLost madeUpPlace madeUpState firstMadeUp firstFault reduceAnswer reduceOf firstHigh mapFits auditAnswer auditOf hopsBefore findOf outcomeOf fallsIn
 given = refl

@@ -82,19 +82,19 @@ refusedWith a = record { answer = a; reduced = record { answer = a; shape = shap
 
 unfoldable pub outcomeOf : Shape → List ℕ → Outcome
 outcomeOf sh hs =
-    cond (eqb (markAnswer sh hs hs .number) 0)
+    cond (eqb (markAnswer sh hs 1 hs .number) 0)
     (record {
-      answer = markAnswer sh hs hs;
-      reduced = reduceOf sh hs (sh .states) (length hs);
-      marks = marksMade hs;
+      answer = markAnswer sh hs 1 hs;
+      reduced = reduceOf sh hs 1 (sh .states) (length hs);
+      marks = marksMade sh hs 1;
       falls = listed (count hs) (fallsIn hs);
       tests = countedOf sh hs hs .tests;
-      map = markedMap sh hs;
-      short = markedHops sh hs;
+      map = markedMap sh hs 1;
+      short = markedHops sh hs 1;
     })
     (record {
-      answer = markAnswer sh hs hs;
-      reduced = reduceOf sh hs (sh .states) (length hs);
+      answer = markAnswer sh hs 1 hs;
+      reduced = reduceOf sh hs 1 (sh .states) (length hs);
       marks = [];
       falls = [];
       tests = countedOf sh hs hs .tests;

@@ -31,14 +31,16 @@ extern "C" {
 
 type Placed = [Archive; PLACES.len()];
 
-/// The rows that the words of the command line ask for, and what came out by entry.
-pub fn table(old: &str, new: &str) {
+/// The rows that the words of the command line ask for, and what came out by entry. It is said whether mark and reduce of the old archive take a sense: those of
+/// versions before 0.3.0 do not, and then the rows are those of R1.
+pub fn table(old: &str, new: &str, old_takes_sense: bool) {
     let folder = Folder::new();
-    let [old, new] =
-        [("old", old), ("new", new)].map(|(name, archive)| PLACES.map(|place| loaded(&linked(&folder, name, Path::new(archive), place))));
+    let [old, new] = [("old", old, old_takes_sense), ("new", new, true)]
+        .map(|(name, archive, takes_sense)| PLACES.map(|place| loaded(&linked(&folder, name, Path::new(archive), place), takes_sense)));
     let ratios: RefCell<BTreeMap<String, Vec<f64>>> = RefCell::default();
     let take = |row: &Row| {
-        let both_have = row.entry != "find" || old.iter().chain(&new).all(Archive::finds);
+        let mut archives = old.iter().chain(&new);
+        let both_have = archives.all(|archive| (row.entry != "find" || archive.finds()) && (row.sense == 1 || archive.takes_sense()));
         if both_have && asked(row.entry, row.input) {
             ratios.borrow_mut().entry(row.entry.to_string()).or_default().push(beside(row, &old, &new));
         }
@@ -89,13 +91,13 @@ fn linked(folder: &Folder, name: &str, archive: &Path, place: usize) -> PathBuf 
     object
 }
 
-/// The functions of a shared object, which stays loaded.
-fn loaded(object: &Path) -> Archive {
+/// The functions of a shared object, which stays loaded, with mark and reduce that take a sense or do not.
+fn loaded(object: &Path, takes_sense: bool) -> Archive {
     let text = |text: &str| CString::new(text).expect("a name without a zero");
-    // SAFETY: the object is made of an archive with functions of these names, and is never unloaded.
+    // SAFETY: the object is made of an archive with functions of these names, in the form that was said, and is never unloaded.
     unsafe {
         let opened = dlopen(text(object.to_str().expect("a folder with a plain name")).as_ptr(), RTLD_NOW);
         assert!(!opened.is_null(), "{} cannot be loaded", object.display());
-        Archive::at(|name| dlsym(opened, text(name).as_ptr()))
+        Archive::at(takes_sense, |name| dlsym(opened, text(name).as_ptr()))
     }
 }

@@ -14,10 +14,10 @@ type Entry = fn(Option<&dyn Entries>, &Graph, &mut Outputs) -> u32;
 pub fn table() {
     println!("| growth of | graph | 128 | 256 | factor | 512 | factor | 1,024 | factor |\n|---|---|---|---|---|---|---|---|---|");
     let mark: Entry = |library, graph, o| match library {
-        Some(library) => library.mark(graph, &mut o.marks, &mut o.answer),
+        Some(library) => library.mark(graph, 1, &mut o.marks, &mut o.answer),
         None => plain_rounds(graph, o),
     };
-    let reduce: Entry = |library, graph, o| library.unwrap_or(&Plain).reduce(graph, &mut o.map, &mut o.hops, &mut o.answer);
+    let reduce: Entry = |library, graph, o| library.unwrap_or(&Plain).reduce(graph, 1, &mut o.map, &mut o.hops, &mut o.answer);
     for (name, entry) in [("mark", mark), ("reduce", reduce)] {
         for family in families().iter().filter(|family| asked(&format!("growth of {name}"), family.name)) {
             row(name, entry, family);

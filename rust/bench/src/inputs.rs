@@ -269,6 +269,69 @@ fn looked_up_again(first: u16, states: u16, ends: u16) -> (Hops, u16) {
     (order.chain(fan).collect(), end + ends)
 }
 
+/// Graphs that are timed for marking in the weaker senses: many sweeps of them all, or walks that are long.
+pub fn walks() -> Vec<Named> {
+    let waves = |name, length, chains| {
+        let (hops, states) = waves(length, chains);
+        graph(name, states, 3, hops)
+    };
+    let strewn = |name, length, chains| {
+        let (hops, states) = self::waves(length, chains);
+        let order = Random::new().shuffled(states);
+        graph(name, states, 3, hops.into_iter().map(|[from, label, to]| [order[usize::from(from)], label, order[usize::from(to)]]))
+    };
+    vec![
+        {
+            let (chain, states) = one_a_sweep(1023);
+            graph("chain of 1,023 to one end that falls a hop a sweep", states, 3, chain)
+        },
+        two_waves(1020),
+        waves("waves: 7 chains of 500 hops that fall one after the other", 500, 7),
+        waves("waves: 3 chains of 1,000 hops that fall one after the other", 1000, 3),
+        strewn("waves: 7 chains of 500 hops, numbered at random", 500, 7),
+        strewn("waves: 3 chains of 1,000 hops, numbered at random", 1000, 3),
+        hub("hub of 500, 1,000 labels, 500 behind the target", (500, 1000, 500), true, None),
+        hub("hub of 500, 1,000 labels, 500 before the hub", (500, 1000, 500), false, None),
+        hub("hub of 300, 500 labels, 300 behind the target, 400 that fall apart from it", (300, 500, 300), true, Some((400, false))),
+        hub("hub of 300, 500 labels, 300 behind the target, 400 that fall hung on their end", (300, 500, 300), true, Some((400, true))),
+        hub("hub of 300, 500 labels, 300 before the hub, 400 that fall apart from it", (300, 500, 300), false, Some((400, false))),
+        hub("hub of 300, 500 labels, 300 before the hub, 400 that fall hung on the target", (300, 500, 300), false, Some((400, true))),
+        hub("hub of 100, 1,000 labels, 100 before the hub, 800 that fall hung on the target", (100, 1000, 100), false, Some((800, true))),
+    ]
+}
+
+/// A chain of states with a silent hop and hops labelled 1 and 3 to the next, and a silent one to the end e, which has hops labelled 1, 3 and 4 to itself. In every sense the
+/// hops to e fall one a sweep; and when the first state's has fallen, the last one but one's hop labelled 4 to the first is no longer answered by the last one's to e, and
+/// the hops along the chain fall one a sweep too.
+fn two_waves(length: u16) -> Named {
+    let (e, last) = (length, length - 1);
+    let along = (0..last).flat_map(|i| [0, 1, 3].map(|a| [i, a, i + 1]));
+    let out = (0..length).map(|i| [i, 0, e]);
+    let ends = [[last, 1, last], [last, 2, 0], [last, 3, last], [last, 4, e], [last - 1, 4, 0], [e, 1, e], [e, 3, e], [e, 4, e]];
+    graph("chain of 1,020 whose hops fall one a sweep, first to the end and then along it", length + 1, 5, along.chain(out).chain(ends))
+}
+
+/// State 0 has silent hops to so many states, these to a hub; 0 and the hub have so many labels to one target. A silent chain of so many states stands behind the
+/// target, or between those states and the hub. So many states may fall a hop a sweep, apart from the rest or hung on the end of what is behind the target.
+fn hub(name: &'static str, (spokes, labels, chain): (u16, u16, u16), behind: bool, falling: Option<(u16, bool)>) -> Named {
+    let hub = 1 + spokes;
+    let (first, last, target) = (hub + 1, hub + chain, hub + chain + 1);
+    let inward = move |s: u16| [[0, 0, s], [s, 0, if behind { hub } else { first }]];
+    let links = (first..last).map(|s| [s, 0, s + 1]).chain([if behind { [target, 0, first] } else { [last, 0, hub] }]);
+    let both = (3..3 + labels).flat_map(|a| [[0, a, target], [hub, a, target]]);
+    let mut hops: Hops = (1..hub).flat_map(inward).chain(links).chain(both).collect();
+    let mut states = target + 1;
+    if let Some((length, hung)) = falling {
+        let (chain, more) = one_a_sweep(length - 1);
+        hops.extend(chain.into_iter().map(|[from, label, to]| [states + from, label, states + to]));
+        if hung {
+            hops.insert([if behind { last } else { target }, 0, states]);
+        }
+        states += more;
+    }
+    graph(name, states, 3 + labels, hops)
+}
+
 /// For the audit: all states on a ring of silent hops, a map to one state, and as many hops of that state as there can be; the ring goes through the states
 /// in turn, or here and there.
 pub fn worst_audits() -> Vec<(Named, Graph, Vec<u16>)> {

@@ -3,10 +3,15 @@
 use crate::timing::Outputs;
 use differential::entries::{Entries, Graph, Plain};
 
-/// The short graph and the map.
+/// The short graph and the map under R1.
 pub fn reduced(graph: &Graph) -> (Graph, Vec<u16>) {
+    reduced_in(1, graph)
+}
+
+/// The short graph and the map under a sense.
+pub fn reduced_in(sense: u32, graph: &Graph) -> (Graph, Vec<u16>) {
     let mut o = Outputs::new();
-    assert_eq!(Plain.reduce(graph, &mut o.map, &mut o.hops, &mut o.answer), 0, "a graph without rings");
+    assert_eq!(Plain.reduce(graph, sense, &mut o.map, &mut o.hops, &mut o.answer), 0, "a graph without rings");
     o.hops.truncate(3 * o.answer[5] as usize);
     o.map.truncate(graph.states as usize);
     (Graph { states: o.answer[3] as u32, labels: o.answer[4] as u32, initial: o.answer[6] as u32, hops: o.hops }, o.map)

@@ -1,15 +1,17 @@
 //! Times each entry of the library beside a plain Rust implementation of the same algorithm, by turns in the same run, and prints a Markdown table: with the ratio
 //! of the two, and with how many times the library's check of the same graph the library takes. A second table has mark_fast beside repeated sweeps too, a third
-//! the growth of mark and reduce from 128 states to 1,024.
+//! what each sense costs and what it buys, a fourth the growth of mark and reduce from 128 states to 1,024.
 //!
 //!     cargo run --release -p bench --features library [-- WORD]
 //!
 //! With a word only the rows that have it are timed. Some words ask for a table of their own:
 //!
-//! - `growth`: the third table alone;
+//! - `senses [WORD ..]`: the third table alone, or some of its rows;
+//! - `growth`: the fourth table alone;
 //! - `minutes`: mark_fast on the graphs on which repeated sweeps take a second to minutes, where these are left out else; swept once each;
 //! - `program PATH`: the program at the path beside the library's entries;
-//! - `against OLD NEW [WORD ..]`: the archive at one path beside that at another, both loaded while it runs, so that none need be linked.
+//! - `against OLD NEW [WORD ..]`: the archive at one path beside that at another, both loaded while it runs, so that none need be linked. `against-0.2 OLD NEW`: the
+//!   old one is of a version before 0.3.0, whose mark and reduce take no sense, and the rows are those of R1.
 //!
 //! Without the feature the plain implementation is timed alone. All must leave the same answer and the same outputs, or the run fails. Times are medians of
 //! processor time.
@@ -25,6 +27,7 @@ mod names;
 mod program;
 mod report;
 mod rows;
+mod senses;
 mod show;
 mod timing;
 
@@ -37,11 +40,13 @@ fn main() {
     let words: Vec<String> = std::env::args().skip(1).collect();
     match words.iter().map(String::as_str).collect::<Vec<_>>()[..] {
         ["growth"] => growth::table(),
+        ["senses", ..] => senses::table(),
         ["minutes"] => minutes(),
         ["program", path] => program::table(path),
-        ["against", old, new, ..] => against::table(old, new),
-        ["program" | "against"] | [_, _, ..] => {
-            eprintln!("usage: bench [WORD | growth | minutes | program PATH | against OLD NEW [WORD ..]]");
+        ["against", old, new, ..] => against::table(old, new, true),
+        ["against-0.2", old, new, ..] => against::table(old, new, false),
+        ["program" | "against" | "against-0.2"] | [_, _, ..] => {
+            eprintln!("usage: bench [WORD | senses [WORD ..] | growth | minutes | program PATH | against OLD NEW [WORD ..] | against-0.2 OLD NEW [WORD ..]]");
             std::process::exit(2);
         }
         _ => everything(),
@@ -51,7 +56,11 @@ fn main() {
 /// Whether a word of the command line asks for a row, or there is none.
 fn asked(entry: &str, input: &str) -> bool {
     let words: Vec<String> = std::env::args().skip(1).collect();
-    let words = if words.first().is_some_and(|word| word == "against") { &words[3..] } else { &words };
+    let words = match words.first().map(String::as_str) {
+        Some("against" | "against-0.2") => &words[3..],
+        Some("senses") => &words[1..],
+        _ => &words,
+    };
     words.is_empty() || words.iter().any(|word| format!("{entry} on {input}").contains(word))
 }
 
@@ -79,11 +88,14 @@ fn everything() {
     }
 
     println!();
+    senses::table();
+
+    println!();
     growth::table();
 }
 
 /// A way of the library beside a plain one, and beside the check of a graph where one is given.
-fn beside_plain(&Row { entry, input, checked, plain, call }: &Row) {
+fn beside_plain(&Row { entry, input, checked, plain, call, .. }: &Row) {
     let plain = Some(Timed::new(plain));
     let library = entries::library().map(|library| Timed::new(move |o| call(library, o)));
     agree(&format!("{entry} on {input}"), &[&plain, &library]);

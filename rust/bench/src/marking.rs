@@ -5,7 +5,7 @@ use crate::show::{ratio, time};
 use crate::timing::{agree, medians, Outputs, Timed};
 use differential::entries::{self, Entries, Graph, Plain};
 
-/// What the library's mark is compared with: plain rounds, without the number of tests. The plain mark goes by sweeps.
+/// What the library's mark under R1 is compared with: plain rounds, without the number of tests. The plain mark under R1 goes by sweeps.
 pub fn plain_rounds(graph: &Graph, o: &mut Outputs) -> u32 {
     let number = Plain.mark_fast(graph, &mut o.marks, &mut o.answer);
     o.answer[3] = 0;
@@ -24,7 +24,7 @@ pub fn row(Named { name, graph }: &Named, swept: bool) {
     let sweeps = swept.then(|| {
         Timed::new(|o| {
             o.answer[3] = tests;
-            Plain.mark(graph, &mut o.marks, &mut o.answer)
+            Plain.mark(graph, 1, &mut o.marks, &mut o.answer)
         })
     });
     let library = entries::library().map(|library| Timed::new(move |o| fast(library, o)));

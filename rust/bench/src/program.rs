@@ -40,7 +40,7 @@ fn row(program: &Path, name: &str, graph: &Graph, bytes: &[u8], folder: &Folder,
     assert!(printed(program, &file) == lines.outputs.text, "{name}: the program prints other lines");
     let mut ways = [
         Timed::new(|o| entries.read(bytes, &mut o.hops, &mut o.answer)),
-        Timed::new(|o| entries.reduce(graph, &mut o.map, &mut o.hops, &mut o.answer)),
+        Timed::new(|o| entries.reduce(graph, 1, &mut o.map, &mut o.hops, &mut o.answer)),
         lines,
     ];
     let (mut whole, mut nothing) = (vec![], vec![]);

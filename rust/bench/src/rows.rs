@@ -11,6 +11,8 @@ type Call<'a> = &'a dyn Fn(&dyn Entries, &mut Outputs) -> u32;
 /// A row: an entry on an input, what the plain implementation does for it, and the graph whose check it is held against.
 pub struct Row<'a> {
     pub entry: &'a str,
+    /// 1 for an entry that takes no sense.
+    pub sense: u32,
     pub input: &'a str,
     pub checked: Option<&'a Graph>,
     pub plain: &'a dyn Fn(&mut Outputs) -> u32,
@@ -22,7 +24,12 @@ pub type Take<'a> = &'a dyn Fn(&Row);
 
 /// An entry and the plain one.
 fn row(take: Take, entry: &str, input: &str, checked: Option<&Graph>, call: Call) {
-    take(&Row { entry, input, checked, plain: &|o| call(&Plain, o), call });
+    take(&Row { entry, sense: 1, input, checked, plain: &|o| call(&Plain, o), call });
+}
+
+/// An entry in a weaker sense, which is part of its name, and the plain one.
+fn row_in(take: Take, (entry, sense): (&str, u32), input: &str, checked: Option<&Graph>, call: Call) {
+    take(&Row { entry: &format!("{entry} R{sense}"), sense, input, checked, plain: &|o| call(&Plain, o), call });
 }
 
 /// All but those of `mark_fast`, which has a table of its own.
@@ -35,7 +42,13 @@ pub fn all(take: Take) {
     graphs.iter().for_each(|input| mark(take, input, Some(&input.graph)));
     markings.iter().chain(&long).for_each(|input| mark(take, input, None));
     for Named { name, graph } in &graphs {
-        row(take, "reduce", name, Some(graph), &|e, o| e.reduce(graph, &mut o.map, &mut o.hops, &mut o.answer));
+        row(take, "reduce", name, Some(graph), &|e, o| e.reduce(graph, 1, &mut o.map, &mut o.hops, &mut o.answer));
+    }
+    for sense in [2, 3, 8] {
+        weaker(take, sense, &graphs, true);
+        weaker(take, sense, &markings, false);
+        weaker(take, sense, &long, false);
+        weaker(take, sense, &inputs::walks(), false);
     }
     audits(take, &graphs);
     rounds(take, &graphs);
@@ -73,7 +86,18 @@ fn finds(take: Take, graphs: &[Named]) {
 
 fn mark(take: Take, Named { name, graph }: &Named, checked: Option<&Graph>) {
     let plain = &|o: &mut Outputs| marking::plain_rounds(graph, o);
-    take(&Row { entry: "mark", input: name, checked, plain, call: &|e, o| e.mark(graph, &mut o.marks, &mut o.answer) });
+    take(&Row { entry: "mark", sense: 1, input: name, checked, plain, call: &|e, o| e.mark(graph, 1, &mut o.marks, &mut o.answer) });
+}
+
+/// Mark in a weaker sense, and reduce where it is asked for.
+fn weaker(take: Take, sense: u32, graphs: &[Named], reduced: bool) {
+    for Named { name, graph } in graphs {
+        let checked = reduced.then_some(graph);
+        row_in(take, ("mark", sense), name, checked, &|e, o| e.mark(graph, sense, &mut o.marks, &mut o.answer));
+    }
+    for Named { name, graph } in graphs.iter().filter(|_| reduced) {
+        row_in(take, ("reduce", sense), name, Some(graph), &|e, o| e.reduce(graph, sense, &mut o.map, &mut o.hops, &mut o.answer));
+    }
 }
 
 fn audits(take: Take, graphs: &[Named]) {

@@ -8,10 +8,12 @@
 
 mod file;
 mod graph;
+mod senses;
 mod silent;
 
 pub use file::{read, write, LONGEST_FILE};
 pub use graph::{check, find, hops_of, Graph, Hop};
+pub use senses::SENSES;
 pub use silent::{audit, audit_and_faults, lowest_on_ring, mark, mark_fast, marked, reduce, round, survivors, Fault};
 
 /// An answer: number, table and place, then the figures of the entry.

@@ -1,14 +1,15 @@
 //! Rings, marking, the round question, reducing and auditing.
 
 use crate::graph::{Graph, Hop};
+use crate::senses::{self, Walks};
 use crate::{refuse, written, Answer, Refusal};
 use std::collections::{BTreeSet, HashSet};
 
 /// An admitted graph: the list as it is, and the same hops once more put together by the state they leave.
-struct Admitted {
-    states: usize,
+pub(crate) struct Admitted {
+    pub(crate) states: usize,
     list: Vec<Hop>,
-    leaving: Vec<Vec<Hop>>,
+    pub(crate) leaving: Vec<Vec<Hop>>,
 }
 
 impl Admitted {
@@ -62,7 +63,7 @@ impl Admitted {
 
 /// A set of pairs of states.
 #[derive(Clone, PartialEq, Eq)]
-struct Pairs {
+pub(crate) struct Pairs {
     states: usize,
     held: Vec<bool>,
 }
@@ -76,7 +77,7 @@ impl Pairs {
         pairs
     }
 
-    fn has(&self, from: u64, to: u64) -> bool {
+    pub(crate) fn has(&self, from: u64, to: u64) -> bool {
         self.held[from as usize * self.states + to as usize]
     }
 
@@ -107,11 +108,13 @@ fn one_round(graph: &Admitted, before: &Pairs) -> Pairs {
     after
 }
 
-/// All silent hops, less those that violate the condition, until nothing changes.
-fn greatest(graph: &Admitted) -> Pairs {
+/// All silent hops, less those that violate the condition of the sense, until nothing changes.
+fn greatest(graph: &Admitted, sense: u64) -> Pairs {
     let mut u = Pairs::silent_hops(graph);
     loop {
-        let violators: Vec<&Hop> = graph.list.iter().filter(|h| h.label == 0 && u.has(h.from, h.to) && !closes(graph, &u, h.from, h.to)).collect();
+        let walks = Walks::over(graph, sense, &u);
+        let violates = |h: &&Hop| u.has(h.from, h.to) && !senses::closes(graph, sense, &u, &walks, h.from, h.to);
+        let violators: Vec<&Hop> = graph.list.iter().filter(|h| h.label == 0).filter(violates).collect();
         if violators.is_empty() {
             return u;
         }
@@ -126,10 +129,10 @@ pub fn lowest_on_ring(graph: &Graph) -> Option<u64> {
     Admitted::new(graph).lowest_on_ring()
 }
 
-/// For a graph that checks 1 to 4 pass, with rings or without: one 1 or 0 a hop, 1 for the hops of the marked set.
-pub fn marked(graph: &Graph) -> Vec<u8> {
+/// For a graph that checks 1 to 4 pass, with rings or without, and a sense: one 1 or 0 a hop, 1 for the hops of the marked set.
+pub fn marked(graph: &Graph, sense: u64) -> Vec<u8> {
     let graph = Admitted::new(graph);
-    marks_of(&graph, &greatest(&graph))
+    marks_of(&graph, &greatest(&graph, sense))
 }
 
 /// For a graph that checks 1 to 4 pass: one 1 or 0 a hop, 1 for the silent hops that survive so many rounds.
@@ -147,26 +150,27 @@ fn marks_of(graph: &Admitted, u: &Pairs) -> Vec<u8> {
 }
 
 /// The entry mark: the answer, and what the output for marks holds afterwards. No figures.
-pub fn mark(graph: &Graph, marks: &[u8]) -> (Answer, Vec<u8>) {
-    match try_mark(graph, marks) {
+pub fn mark(graph: &Graph, sense: u64, marks: &[u8]) -> (Answer, Vec<u8>) {
+    match try_mark(graph, sense, marks) {
         Ok(after) => (Answer::accepted(vec![]), after),
         Err(refusal) => (Answer::refused(refusal, 0), marks.to_vec()),
     }
 }
 
-fn try_mark(graph: &Graph, marks: &[u8]) -> Result<Vec<u8>, Refusal> {
+fn try_mark(graph: &Graph, sense: u64, marks: &[u8]) -> Result<Vec<u8>, Refusal> {
     graph.check_1_to_4(1)?;
+    senses::is_one(sense)?;
     let admitted = Admitted::new(graph);
     admitted.no_ring()?;
     if marks.len() < admitted.list.len() {
         refuse(6, 0)?;
     }
-    Ok(written(&marked(graph), marks))
+    Ok(written(&marked(graph, sense), marks))
 }
 
 /// The entry mark_fast: the answer, and what the output for marks holds afterwards. One figure: the number of tests.
 pub fn mark_fast(graph: &Graph, marks: &[u8]) -> (Answer, Vec<u8>) {
-    match try_mark(graph, marks) {
+    match try_mark(graph, 1, marks) {
         Ok(after) => {
             let admitted = Admitted::new(graph);
             let (survives, tests) = all_rounds(&admitted);
@@ -223,8 +227,8 @@ fn try_round(graph: &Graph, place: u64, rounds: u64) -> Result<bool, Refusal> {
 
 /// The entry reduce: the answer, and what the outputs for the map and for the short hops hold afterwards. Figures: the short graph's state, label and
 /// hop counts and its initial state.
-pub fn reduce(graph: &Graph, map: &[u16], short: &[u16]) -> (Answer, Vec<u16>, Vec<u16>) {
-    match try_reduce(graph, map, short) {
+pub fn reduce(graph: &Graph, sense: u64, map: &[u16], short: &[u16]) -> (Answer, Vec<u16>, Vec<u16>) {
+    match try_reduce(graph, sense, map, short) {
         Ok((figures, map, short)) => (Answer::accepted(figures), map, short),
         Err(refusal) => (Answer::refused(refusal, 4), map.to_vec(), short.to_vec()),
     }
@@ -232,14 +236,15 @@ pub fn reduce(graph: &Graph, map: &[u16], short: &[u16]) -> (Answer, Vec<u16>, V
 
 type Reduced = (Vec<u64>, Vec<u16>, Vec<u16>);
 
-fn try_reduce(graph: &Graph, map_before: &[u16], short_before: &[u16]) -> Result<Reduced, Refusal> {
+fn try_reduce(graph: &Graph, sense: u64, map_before: &[u16], short_before: &[u16]) -> Result<Reduced, Refusal> {
     graph.check_1_to_4(1)?;
+    senses::is_one(sense)?;
     let admitted = Admitted::new(graph);
     admitted.no_ring()?;
     if map_before.len() < admitted.states || short_before.len() < 3 * admitted.list.len() {
         refuse(6, 0)?;
     }
-    let u = greatest(&admitted);
+    let u = greatest(&admitted, sense);
     let classes = classes_of(&admitted, &u);
     // "each class has exactly one state that no marked hop leaves: its representative"
     let left = |s: usize| admitted.leaving[s].iter().any(|h| h.label == 0 && u.has(h.from, h.to));

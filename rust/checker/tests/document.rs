@@ -10,14 +10,24 @@ const P1: [u16; 12] = [0, 0, 1, 0, 1, 2, 1, 1, 3, 2, 0, 3];
 const P10: [u16; 15] = [0, 0, 1, 0, 1, 2, 1, 1, 3, 2, 0, 3, 2, 2, 4];
 
 fn marks(states: u64, labels: u64, hops: &[u16]) -> Vec<u8> {
-    let (answer, after) = mark(&graph(states, labels, hops), &vec![7; hops.len() / 3]);
+    marks_in(1, states, labels, hops)
+}
+
+/// Those of a sense.
+fn marks_in(sense: u64, states: u64, labels: u64, hops: &[u16]) -> Vec<u8> {
+    let (answer, after) = mark(&graph(states, labels, hops), sense, &vec![7; hops.len() / 3]);
     assert_eq!(answer.numbers(), [0, 1, 0]);
     after
 }
 
-/// Map, short hops and figures; outputs are longer than asked for, and hold what they held there.
+/// Map, short hops and figures under R1.
 fn reduced(states: u64, labels: u64, hops: &[u16]) -> (Vec<u16>, Vec<u16>, Vec<u64>) {
-    let (answer, map, short) = reduce(&graph(states, labels, hops), &vec![77; states as usize + 2], &vec![88; hops.len() + 2]);
+    reduced_in(1, states, labels, hops)
+}
+
+/// Outputs are longer than asked for, and hold what they held there.
+fn reduced_in(sense: u64, states: u64, labels: u64, hops: &[u16]) -> (Vec<u16>, Vec<u16>, Vec<u64>) {
+    let (answer, map, short) = reduce(&graph(states, labels, hops), sense, &vec![77; states as usize + 2], &vec![88; hops.len() + 2]);
     assert_eq!((answer.number, answer.table, answer.place), (0, 1, 0));
     let written = 3 * answer.figures[2] as usize;
     assert_eq!(map[states as usize..], [77, 77]);
@@ -72,9 +82,9 @@ fn p7_and_p8() {
         let g = graph(states, 1, hops);
         assert_eq!(check(&g).numbers(), [0, 1, 0]);
         // 5 comes before 6: the outputs are too short
-        let (answer, after) = mark(&g, &[]);
+        let (answer, after) = mark(&g, 1, &[]);
         assert_eq!((answer.numbers(), after), (vec![5, 1, place], vec![]));
-        let (answer, map, short) = reduce(&g, &[9], &[8, 8]);
+        let (answer, map, short) = reduce(&g, 1, &[9], &[8, 8]);
         assert_eq!((answer.numbers(), map, short), (vec![5, 1, place, 0, 0, 0, 0], vec![9], vec![8, 8]));
     }
 }
@@ -185,13 +195,77 @@ fn three_is_asked_of_the_whole_list_before_four() {
 #[test]
 fn mark_and_reduce_refuse_short_outputs() {
     let g = graph(4, 2, &P1);
-    assert_eq!(mark(&g, &[5; 3]), (mark(&g, &[]).0, vec![5; 3]));
-    assert_eq!(mark(&g, &[5; 3]).0.numbers(), [6, 1, 0]);
-    assert_eq!(mark(&g, &[5; 6]).1, [1, 0, 0, 1, 5, 5]);
-    assert_eq!(reduce(&g, &[5; 3], &[6; 12]).0.numbers(), [6, 1, 0, 0, 0, 0, 0]);
+    assert_eq!(mark(&g, 1, &[5; 3]), (mark(&g, 1, &[]).0, vec![5; 3]));
+    assert_eq!(mark(&g, 1, &[5; 3]).0.numbers(), [6, 1, 0]);
+    assert_eq!(mark(&g, 1, &[5; 6]).1, [1, 0, 0, 1, 5, 5]);
+    assert_eq!(reduce(&g, 1, &[5; 3], &[6; 12]).0.numbers(), [6, 1, 0, 0, 0, 0, 0]);
     // enough for the result, but not for three numbers a hop of the input
-    let (answer, map, short) = reduce(&g, &[5; 4], &[6; 11]);
+    let (answer, map, short) = reduce(&g, 1, &[5; 4], &[6; 11]);
     assert_eq!((answer.number, map, short), (6, vec![5; 4], vec![6; 11]));
+}
+
+/// The marks of each of the four senses. What reduce leaves in it has no faults.
+fn in_each(states: u64, labels: u64, hops: &[u16]) -> [Vec<u8>; 4] {
+    SENSES.map(|sense| {
+        let (map, short, figures) = reduced_in(sense, states, labels, hops);
+        assert_eq!(audit(&graph(states, labels, hops), &graph(figures[0], figures[1], &short), &map).figures, [0; 4]);
+        marks_in(sense, states, labels, hops)
+    })
+}
+
+/// Wish 7: "(0,0,1) (0,1,2) (1,1,3) (2,0,4) (4,0,3) has 0 to 1 marked by R8 alone; the other silent hops are marked by all four".
+#[test]
+fn the_case_of_the_senses() {
+    let hops = [0, 0, 1, 0, 1, 2, 1, 1, 3, 2, 0, 4, 4, 0, 3];
+    let others = vec![0, 0, 0, 1, 1];
+    assert_eq!(in_each(5, 2, &hops), [others.clone(), others.clone(), others, vec![1, 0, 0, 1, 1]]);
+    assert_eq!(reduced_in(8, 5, 2, &hops), (vec![0, 0, 1, 1, 1], vec![0, 1, 1], vec![2, 2, 1, 0]));
+}
+
+/// W7.5: only R8 closes by a walk, and R2 and R3 are not comparable.
+#[test]
+fn the_senses_apart() {
+    let marks = |states, hops: &[u16], place: usize| in_each(states, 2, hops).map(|marks| marks[place]);
+    assert_eq!(marks(3, &[0, 1, 0, 1, 0, 0, 1, 1, 2, 2, 0, 1], 1), [0, 0, 0, 1]);
+    assert_eq!(marks(2, &[0, 1, 1, 1, 0, 0, 1, 1, 0], 1), [0, 1, 0, 1]);
+    assert_eq!(marks(3, &[0, 0, 1, 0, 1, 0, 1, 0, 2, 2, 1, 1], 0), [0, 0, 1, 1]);
+}
+
+/// W7.3: walks go over marked hops alone.
+#[test]
+fn walks_over_marked_hops() {
+    assert_eq!(marks_in(2, 3, 2, &[1, 0, 2, 1, 1, 0, 2, 0, 0, 2, 1, 2])[0], 0);
+}
+
+/// W7.2: a silent hop needs no answer where the walk ends.
+#[test]
+fn a_silent_hop_alone() {
+    assert_eq!(in_each(2, 1, &[0, 0, 1]), [[1]; 4].map(Vec::from));
+}
+
+/// W7.6: the walks are least also where there is a ring.
+#[test]
+fn the_walks_on_a_ring() {
+    let ring = [0, 0, 1, 0, 1, 0, 1, 0, 1];
+    assert_eq!(marked(&graph(2, 2, &ring), 3)[0], 0);
+}
+
+/// W7.8: 19 stands after 4 and before 5 and 6.
+#[test]
+fn other_senses() {
+    let (p1, ring) = (graph(4, 2, &P1), graph(1, 1, &[0, 0, 0]));
+    for sense in [0, 4, 5, 6, 7, 9, 10, 65_537, u64::from(u32::MAX)] {
+        assert_eq!(mark(&p1, sense, &[5; 4]), (mark(&p1, sense, &[]).0, vec![5; 4]));
+        assert_eq!(mark(&p1, sense, &[5; 4]).0.numbers(), [19, 1, 0]);
+        assert_eq!(mark(&ring, sense, &[]).0.numbers(), [19, 1, 0]);
+        assert_eq!(reduce(&ring, sense, &[], &[]).0.numbers(), [19, 1, 0, 0, 0, 0, 0]);
+        assert_eq!(reduce(&p1, sense, &[5; 4], &[6; 12]), (reduce(&p1, sense, &[], &[]).0, vec![5; 4], vec![6; 12]));
+        assert_eq!(mark(&graph(3, 1, &[0, 0, 1, 0, 0, 1]), sense, &[]).0.numbers(), [4, 1, 1]);
+    }
+    for sense in SENSES {
+        assert_eq!(mark(&ring, sense, &[]).0.numbers(), [5, 1, 0]);
+        assert_eq!(mark(&p1, sense, &[5; 3]).0.numbers(), [6, 1, 0]);
+    }
 }
 
 #[test]

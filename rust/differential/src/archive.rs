@@ -5,22 +5,29 @@ use std::ffi::c_void;
 
 type Check = unsafe extern "C" fn(u32, u32, u32, *const u16, usize, *mut u64, usize) -> u32;
 type Find = unsafe extern "C" fn(u32, u32, u32, *const u16, usize, u32, u32, u32, *mut u64, usize) -> u32;
-type Mark = unsafe extern "C" fn(u32, u32, u32, *const u16, usize, *mut u8, usize, *mut u64, usize) -> u32;
-type Reduce = unsafe extern "C" fn(u32, u32, u32, *const u16, usize, *mut u16, usize, *mut u16, usize, *mut u64, usize) -> u32;
+type Mark = unsafe extern "C" fn(u32, u32, u32, *const u16, usize, u32, *mut u8, usize, *mut u64, usize) -> u32;
+type MarkR1 = unsafe extern "C" fn(u32, u32, u32, *const u16, usize, *mut u8, usize, *mut u64, usize) -> u32;
+type Reduce = unsafe extern "C" fn(u32, u32, u32, *const u16, usize, u32, *mut u16, usize, *mut u16, usize, *mut u64, usize) -> u32;
+type ReduceR1 = unsafe extern "C" fn(u32, u32, u32, *const u16, usize, *mut u16, usize, *mut u16, usize, *mut u64, usize) -> u32;
 type Audit = unsafe extern "C" fn(u32, u32, u32, *const u16, usize, u32, u32, u32, *const u16, usize, *const u16, usize, *mut u64, usize) -> u32;
 type Round = unsafe extern "C" fn(u32, u32, u32, *const u16, usize, u64, u32, *mut u64, usize) -> u32;
 type HopsOf = unsafe extern "C" fn(u32, u32, u32, u32, u32, *const u16, usize, u32, u32, u32, *const u16, usize, *mut u64, usize) -> u32;
 type Read = unsafe extern "C" fn(*const u8, usize, *mut u16, usize, *mut u64, usize) -> u32;
 type Write = unsafe extern "C" fn(u32, u32, u32, *const u16, usize, *const u8, usize, *mut u8, usize, *mut u64, usize) -> u32;
 
+/// Mark and reduce. Those of archives before version 0.3.0 take no sense: theirs is R1.
+enum Sensed {
+    Asked { mark: Mark, reduce: Reduce },
+    R1 { mark: MarkR1, reduce: ReduceR1 },
+}
+
 /// The functions, as `include/zundrafipo.h` declares them.
 pub struct Archive {
     check: Check,
     /// The first archives have none.
     find: Option<Find>,
-    mark: Mark,
-    mark_fast: Mark,
-    reduce: Reduce,
+    sensed: Sensed,
+    mark_fast: MarkR1,
     audit: Audit,
     round: Round,
     hops_of: HopsOf,
@@ -35,9 +42,8 @@ pub static LINKED: Archive = {
     Archive {
         check: zf_check,
         find: Some(zf_find),
-        mark: zf_mark,
+        sensed: Sensed::Asked { mark: zf_mark, reduce: zf_reduce },
         mark_fast: zf_mark_fast,
-        reduce: zf_reduce,
         audit: zf_audit,
         round: zf_round,
         hops_of: zf_hops_of,
@@ -47,30 +53,41 @@ pub static LINKED: Archive = {
 };
 
 impl Archive {
-    /// The functions that stand where they are said to, by name; null where there is none.
+    /// The functions that stand where they are said to, by name; null where there is none. It is said, too, whether mark and reduce take a sense: their names do not
+    /// tell.
     ///
     /// # Safety
     ///
-    /// Each address that is not null is that of the archive's function of this name, and stays it.
-    pub unsafe fn at(address: impl Fn(&str) -> *mut c_void) -> Archive {
+    /// Each address that is not null is that of the archive's function of this name, and stays it; mark and reduce are as is said.
+    pub unsafe fn at(takes_sense: bool, address: impl Fn(&str) -> *mut c_void) -> Archive {
         use std::mem::transmute;
         let there = |name| {
             let address = address(name);
             assert!(!address.is_null(), "the archive has no {name}");
             address
         };
+        let (mark, reduce) = (there("zf_mark"), there("zf_reduce"));
+        let sensed = if takes_sense {
+            Sensed::Asked { mark: transmute::<*mut c_void, Mark>(mark), reduce: transmute::<*mut c_void, Reduce>(reduce) }
+        } else {
+            Sensed::R1 { mark: transmute::<*mut c_void, MarkR1>(mark), reduce: transmute::<*mut c_void, ReduceR1>(reduce) }
+        };
         Archive {
             check: transmute::<*mut c_void, Check>(there("zf_check")),
             find: transmute::<*mut c_void, Option<Find>>(address("zf_find")),
-            mark: transmute::<*mut c_void, Mark>(there("zf_mark")),
-            mark_fast: transmute::<*mut c_void, Mark>(there("zf_mark_fast")),
-            reduce: transmute::<*mut c_void, Reduce>(there("zf_reduce")),
+            sensed,
+            mark_fast: transmute::<*mut c_void, MarkR1>(there("zf_mark_fast")),
             audit: transmute::<*mut c_void, Audit>(there("zf_audit")),
             round: transmute::<*mut c_void, Round>(there("zf_round")),
             hops_of: transmute::<*mut c_void, HopsOf>(there("zf_hops_of")),
             read: transmute::<*mut c_void, Read>(there("zf_read")),
             write: transmute::<*mut c_void, Write>(there("zf_write")),
         }
+    }
+
+    /// Whether its mark and reduce take a sense.
+    pub fn takes_sense(&self) -> bool {
+        matches!(self.sensed, Sensed::Asked { .. })
     }
 
     /// Whether it can look a hop up.
@@ -95,10 +112,17 @@ impl Entries for Archive {
         unsafe { find(g.states, g.labels, g.initial, hops, len, from, label, to, answer.as_mut_ptr(), answer.len()) }
     }
 
-    fn mark(&self, g: &Graph, marks: &mut [u8], answer: &mut [u64]) -> u32 {
+    fn mark(&self, g: &Graph, sense: u32, marks: &mut [u8], answer: &mut [u64]) -> u32 {
         let (hops, len) = (g.hops.as_ptr(), g.hops.len());
         let (out, out_len) = (marks.as_mut_ptr(), marks.len());
-        unsafe { (self.mark)(g.states, g.labels, g.initial, hops, len, out, out_len, answer.as_mut_ptr(), answer.len()) }
+        let (answer, answer_len) = (answer.as_mut_ptr(), answer.len());
+        match self.sensed {
+            Sensed::Asked { mark, .. } => unsafe { mark(g.states, g.labels, g.initial, hops, len, sense, out, out_len, answer, answer_len) },
+            Sensed::R1 { mark, .. } => {
+                assert_eq!(sense, 1, "an archive that takes a sense");
+                unsafe { mark(g.states, g.labels, g.initial, hops, len, out, out_len, answer, answer_len) }
+            }
+        }
     }
 
     fn mark_fast(&self, g: &Graph, marks: &mut [u8], answer: &mut [u64]) -> u32 {
@@ -107,12 +131,21 @@ impl Entries for Archive {
         unsafe { (self.mark_fast)(g.states, g.labels, g.initial, hops, len, out, out_len, answer.as_mut_ptr(), answer.len()) }
     }
 
-    fn reduce(&self, g: &Graph, map: &mut [u16], short: &mut [u16], answer: &mut [u64]) -> u32 {
+    fn reduce(&self, g: &Graph, sense: u32, map: &mut [u16], short: &mut [u16], answer: &mut [u64]) -> u32 {
         let (hops, len) = (g.hops.as_ptr(), g.hops.len());
         let (map, map_len) = (map.as_mut_ptr(), map.len());
         let (short, short_len) = (short.as_mut_ptr(), short.len());
         let (answer, answer_len) = (answer.as_mut_ptr(), answer.len());
-        unsafe { (self.reduce)(g.states, g.labels, g.initial, hops, len, map, map_len, short, short_len, answer, answer_len) }
+        let Graph { states, labels, initial, .. } = *g;
+        match self.sensed {
+            Sensed::Asked { reduce, .. } => unsafe {
+                reduce(states, labels, initial, hops, len, sense, map, map_len, short, short_len, answer, answer_len)
+            },
+            Sensed::R1 { reduce, .. } => {
+                assert_eq!(sense, 1, "an archive that takes a sense");
+                unsafe { reduce(states, labels, initial, hops, len, map, map_len, short, short_len, answer, answer_len) }
+            }
+        }
     }
 
     fn audit(&self, one: &Graph, two: &Graph, map: &[u16], answer: &mut [u64]) -> u32 {

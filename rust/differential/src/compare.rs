@@ -1,7 +1,10 @@
 //! One call of an entry against the checker: the returned number, every element of the answer and of every output, guard elements before and behind each
 //! of them, and inputs that must stay as they are.
 
-use crate::met::{fast_word, fault_word, find_word, graph_word, hops_of_condition, read_word, round_word, write_word, Condition, Met};
+use crate::met::{
+    fast_word, fault_word, find_word, graph_word, hops_of_condition, marked_word, read_word, round_word, sensed_word, smaller_word, write_word,
+    Condition, Met,
+};
 use crate::random::Random;
 use checker::Answer;
 use differential::entries::{Entries, Graph};
@@ -182,24 +185,27 @@ impl<'a> Comparer<'a> {
         expected
     }
 
-    pub fn mark(&mut self, g: &Graph, len: Length) {
-        let what = || format!("mark {}", show(g));
-        let input = g.hops.clone();
+    /// Where it accepts, also the marks.
+    pub fn mark(&mut self, g: &Graph, sense: u32, len: Length) -> Option<Vec<u8>> {
         let len = len.choose(&mut self.random);
+        let what = || format!("mark, sense {sense}, marks of {len}, {}", show(g));
+        let input = g.hops.clone();
         let mut marks = Lent::<u8>::new(&mut self.random, len);
-        let (expected, after) = checker::mark(&g.lent(), marks.held());
+        let (expected, mut after) = checker::mark(&g.lent(), sense.into(), marks.held());
         let mut answer = self.answer(3);
-        let returned = self.entries.mark(g, marks.part(), answer.part());
+        let returned = self.entries.mark(g, sense, marks.part(), answer.part());
+        let count = g.hops.len() / 3;
         let met = match expected.number {
-            0 if after[..g.hops.len() / 3].contains(&1) => Some("0 some marked"),
-            0 => Some("0 none marked"),
+            0 => Some(marked_word(sense, after[..count].contains(&1))),
             5 => Some("5"),
             6 => Some("6"),
-            number => graph_word(g, number, expected.place),
+            number => sensed_word(g, sense, number, expected.place, len >= count),
         };
         let fits = self.judge(returned, expected.number, &expected.numbers(), ("mark", met), &answer, &what);
         self.output(&marks, &after, fits, &what);
         self.same_input(&g.hops, &input, &what);
+        after.truncate(count);
+        (expected.number == 0).then_some(after)
     }
 
     /// The marks must be those of mark too.
@@ -209,7 +215,7 @@ impl<'a> Comparer<'a> {
         let len = len.choose(&mut self.random);
         let mut marks = Lent::<u8>::new(&mut self.random, len);
         let (expected, after) = checker::mark_fast(&g.lent(), marks.held());
-        let (of_mark, after_mark) = checker::mark(&g.lent(), marks.held());
+        let (of_mark, after_mark) = checker::mark(&g.lent(), 1, marks.held());
         assert_eq!((&expected.numbers()[..3], &after), (&of_mark.numbers()[..], &after_mark), "mark and mark_fast of {g:?}");
         let mut answer = self.answer(4);
         let returned = self.entries.mark_fast(g, marks.part(), answer.part());
@@ -226,22 +232,21 @@ impl<'a> Comparer<'a> {
     }
 
     /// Where it accepts, also what came out.
-    pub fn reduce(&mut self, g: &Graph, map_len: Length, short_len: Length) -> Option<(Graph, Vec<u16>)> {
+    pub fn reduce(&mut self, g: &Graph, sense: u32, map_len: Length, short_len: Length) -> Option<(Graph, Vec<u16>)> {
         let (map_len, short_len) = (map_len.choose(&mut self.random), short_len.choose(&mut self.random));
-        let what = || format!("reduce, map of {map_len}, short hops of {short_len}, {}", show(g));
+        let what = || format!("reduce, sense {sense}, map of {map_len}, short hops of {short_len}, {}", show(g));
         let input = g.hops.clone();
         let mut map = Lent::<u16>::new(&mut self.random, map_len);
         let mut short = Lent::<u16>::new(&mut self.random, short_len);
-        let (expected, map_after, short_after) = checker::reduce(&g.lent(), map.held(), short.held());
+        let (expected, map_after, short_after) = checker::reduce(&g.lent(), sense.into(), map.held(), short.held());
         let mut answer = self.answer(7);
-        let returned = self.entries.reduce(g, map.part(), short.part(), answer.part());
+        let returned = self.entries.reduce(g, sense, map.part(), short.part(), answer.part());
         let met = match expected.number {
-            0 if expected.figures[0] < g.states.into() => Some("0 smaller"),
-            0 => Some("0 as many states"),
+            0 => Some(smaller_word(sense, expected.figures[0] < g.states.into())),
             5 => Some("5"),
             6 if short_len >= g.hops.len() => Some("6 map"),
             6 => (map_len >= g.states as usize).then_some("6 short hops"),
-            number => graph_word(g, number, expected.place),
+            number => sensed_word(g, sense, number, expected.place, map_len >= g.states as usize && short_len >= g.hops.len()),
         };
         let fits = self.judge(returned, expected.number, &expected.numbers(), ("reduce", met), &answer, &what);
         self.output(&map, &map_after, fits, &what);

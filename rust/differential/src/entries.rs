@@ -20,9 +20,9 @@ pub trait Entries {
     fn name(&self) -> &'static str;
     fn check(&self, g: &Graph, answer: &mut [u64]) -> u32;
     fn find(&self, g: &Graph, hop: [u32; 3], answer: &mut [u64]) -> u32;
-    fn mark(&self, g: &Graph, marks: &mut [u8], answer: &mut [u64]) -> u32;
+    fn mark(&self, g: &Graph, sense: u32, marks: &mut [u8], answer: &mut [u64]) -> u32;
     fn mark_fast(&self, g: &Graph, marks: &mut [u8], answer: &mut [u64]) -> u32;
-    fn reduce(&self, g: &Graph, map: &mut [u16], short: &mut [u16], answer: &mut [u64]) -> u32;
+    fn reduce(&self, g: &Graph, sense: u32, map: &mut [u16], short: &mut [u16], answer: &mut [u64]) -> u32;
     fn audit(&self, one: &Graph, two: &Graph, map: &[u16], answer: &mut [u64]) -> u32;
     fn round(&self, g: &Graph, place: u64, rounds: u32, answer: &mut [u64]) -> u32;
     fn hops_of(&self, side: u32, state: u32, one: &Graph, two: &Graph, answer: &mut [u64]) -> u32;
@@ -80,8 +80,8 @@ impl Entries for Plain {
         give(answered, &[found.is_ok().into(), place as u64], answer)
     }
 
-    fn mark(&self, g: &Graph, marks: &mut [u8], answer: &mut [u64]) -> u32 {
-        with_copies(marks, answer.len() >= 3, |marks| give(plain::mark(shape(g), &g.hops, marks), &[], answer))
+    fn mark(&self, g: &Graph, sense: u32, marks: &mut [u8], answer: &mut [u64]) -> u32 {
+        with_copies(marks, answer.len() >= 3, |marks| give(plain::mark(shape(g), &g.hops, sense, marks), &[], answer))
     }
 
     fn mark_fast(&self, g: &Graph, marks: &mut [u8], answer: &mut [u64]) -> u32 {
@@ -91,11 +91,11 @@ impl Entries for Plain {
         })
     }
 
-    fn reduce(&self, g: &Graph, map: &mut [u16], short: &mut [u16], answer: &mut [u64]) -> u32 {
+    fn reduce(&self, g: &Graph, sense: u32, map: &mut [u16], short: &mut [u16], answer: &mut [u64]) -> u32 {
         let fits = answer.len() >= 7;
         with_copies(map, fits, |map| {
             with_copies(short, fits, |short| {
-                let (found, s) = plain::reduce(shape(g), &g.hops, map, short);
+                let (found, s) = plain::reduce(shape(g), &g.hops, sense, map, short);
                 give(found, &[s.states.into(), s.labels.into(), s.hops.into(), s.initial.into()], answer)
             })
         })

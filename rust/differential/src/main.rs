@@ -67,11 +67,13 @@ fn main() {
     };
     part("graphs worked by hand", &mut parts::worked);
     part("all graphs of up to 2 states and 2 labels", &mut parts::all_small);
+    part("all graphs without a ring of up to 3 states and 2 labels, in each sense", &mut parts::all_in_each_sense);
     part("two hops of numbers at an end", &mut parts::pairs_of_hops);
     part("answers of every length", &mut parts::answers);
     part("every condition of every entry", &mut parts::conditions);
     part("random small graphs", &mut |c| parts::small(c, options.small));
     part("markings of many rounds", &mut |c| parts::rounds(c, options.small / 10));
+    part("graphs of some hundred hops in each sense", &mut |c| parts::senses(c, options.small / 50));
     part("random files", &mut |c| parts::files(c, options.files));
     part("every damage of a byte", &mut parts::every_damage);
     part("large graphs", &mut |c| parts::large(c, options.large));

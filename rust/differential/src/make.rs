@@ -173,6 +173,45 @@ pub fn many_rounds(random: &mut Random, most_states: usize) -> Graph {
     graph_of(states.into(), labels, random.below(states.into()), &hops)
 }
 
+/// State 0 has silent hops to some states, these to a hub, and both have hops by some labels to one target: a chain of silent hops stands behind the target or before
+/// the hub, and another falls one hop a round, apart or hung on the first one's end. Walks before what answers, or behind it, are long. In any order, with a few hops put in or left out.
+pub fn hub(random: &mut Random, most: usize) -> Graph {
+    let [spokes, labels, chain, falling] = [0; 4].map(|_| random.between(1, most) as u16);
+    let (states, hops) = hub_of(random.percent(50), random.percent(50), spokes, labels, chain, falling);
+    let mut hops: Hops = hops.into_iter().filter(|_| !random.percent(1)).collect();
+    if random.percent(30) {
+        let (one, two) = (random.below(states.into()) as u16, random.below(states.into()) as u16);
+        hops.insert((one, 1, two));
+    }
+    let name = order(random, states.into());
+    let hops = hops.into_iter().map(|(from, label, to)| (name[usize::from(from)], label, name[usize::from(to)])).collect();
+    graph_of(states.into(), usize::from(labels) + 3, random.below(states.into()), &hops)
+}
+
+/// The hub without changes; labels 1 and 2 are those of the falling chain.
+fn hub_of(after: bool, hung: bool, spokes: u16, labels: u16, chain: u16, falling: u16) -> (u16, Hops) {
+    let hub = 1 + spokes;
+    let links = hub + 1..hub + 1 + chain;
+    let (target, fall) = (links.end, links.end + 1);
+    let (first, last) = (links.start, links.end - 1);
+    let mut hops: Hops = (1..hub).flat_map(|s| [(0, 0, s), (s, 0, if after { hub } else { first })]).collect();
+    hops.extend(links.clone().skip(1).map(|s| (s - 1, 0, s)));
+    let (end, behind) = if after { (last, first) } else { (target, target) };
+    if after {
+        // the hub answers by the chain's end, to which the target leads
+        hops.insert((target, 0, behind));
+    } else {
+        hops.insert((last, 0, hub));
+    }
+    hops.extend((3..3 + labels).flat_map(|a| [(0, a, target), (hub, a, end)]));
+    hops.extend((fall..fall + falling).flat_map(|s| [(s, 0, s + 1), (s, 1, s + 1)]));
+    hops.insert((fall + falling, 1, fall));
+    if hung {
+        hops.insert((end, 0, fall));
+    }
+    (fall + falling + 1, hops)
+}
+
 /// From each state to the next a silent hop and one labelled 1, and one labelled 1 from the last to the first: a silent hop closes while the next one is marked,
 /// and one falls a round.
 pub fn chain(states: u16) -> (u16, Hops) {

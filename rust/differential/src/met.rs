@@ -77,15 +77,76 @@ const FAULTS: &[&str] = &[
     "0 first of kind 3, of a later state, not alone at its hop",
 ];
 
+/// An accepted mark.
+const MARKED: &[&str] = &[
+    "0 R1, some marked",
+    "0 R1, none marked",
+    "0 R2, some marked",
+    "0 R2, none marked",
+    "0 R3, some marked",
+    "0 R3, none marked",
+    "0 R8, some marked",
+    "0 R8, none marked",
+];
+
+/// An accepted reduce.
+const SMALLER: &[&str] = &[
+    "0 R1, smaller",
+    "0 R1, as many states",
+    "0 R2, smaller",
+    "0 R2, as many states",
+    "0 R3, smaller",
+    "0 R3, as many states",
+    "0 R8, smaller",
+    "0 R8, as many states",
+];
+
+/// Numbers that are no sense, on what is accepted with one. Cut: to 8 or 16 bits each is a sense.
+const NO_SENSE: [(u32, &str); 9] = [
+    (0, "19 for 0"),
+    (4, "19 for 4"),
+    (5, "19 for 5"),
+    (6, "19 for 6"),
+    (7, "19 for 7"),
+    (9, "19 for 9"),
+    (0x0000_0102, "19 for 258, cut"),
+    (0x0001_0001, "19 for 65,537, cut"),
+    (u32::MAX, "19 for 4,294,967,295"),
+];
+
+/// Row 19: the numbers above, and its order among what else a call could be refused with.
+const SENSE: &[&str] = &[
+    NO_SENSE[0].1,
+    NO_SENSE[1].1,
+    NO_SENSE[2].1,
+    NO_SENSE[3].1,
+    NO_SENSE[4].1,
+    NO_SENSE[5].1,
+    NO_SENSE[6].1,
+    NO_SENSE[7].1,
+    NO_SENSE[8].1,
+    "1 before 19",
+    "2 before 19",
+    "3 before 19",
+    "4 before 19",
+    "19 before 5",
+    "19 before 6",
+    "19 before 5 and 6",
+];
+
+/// The marks of the four senses beside each other.
+const BESIDE: &[&str] = &["all the same", "R2 more than R1", "R3 more than R1", "R2 without R3", "R3 without R2", "R8 more than R2 and R3"];
+
 const SHORT_ANSWER: &[&str] = &["answer too short, else accepted", "answer too short, else refused"];
 
 /// All that a run must meet.
-const MUST: [(&str, &[&[&str]]); 14] = [
+const MUST: [(&str, &[&[&str]]); 15] = [
     ("check", &[&["0"], GRAPH, LENGTH, SHORT_ANSWER]),
     ("find", &[FOUND, FAR, GRAPH, LENGTH, SHORT_ANSWER]),
-    ("mark", &[&["0 some marked", "0 none marked"], GRAPH, LENGTH, &["5", "6"], SHORT_ANSWER]),
+    ("mark", &[MARKED, GRAPH, LENGTH, SENSE, &["5", "6"], SHORT_ANSWER]),
+    ("marks of the senses", &[BESIDE]),
     ("mark_fast", &[FAST, GRAPH, LENGTH, &["5", "6"], SHORT_ANSWER]),
-    ("reduce", &[&["0 smaller", "0 as many states"], GRAPH, LENGTH, &["5", "6 map", "6 short hops"], SHORT_ANSWER]),
+    ("reduce", &[SMALLER, GRAPH, LENGTH, SENSE, &["5", "6 map", "6 short hops"], SHORT_ANSWER]),
     ("audit", &[FAULTS, &["7", "8 too short", "8 too long", "8 entry"], SHORT_ANSWER]),
     ("audit, graph 1", &[GRAPH, LENGTH]),
     ("audit, graph 2", &[GRAPH, LENGTH]),
@@ -184,6 +245,63 @@ pub fn graph_word(g: &Graph, number: u64, place: u64) -> Option<&'static str> {
         4 => Some("4 below"),
         _ => None,
     }
+}
+
+/// The word of a sense's pair, its first or its second.
+fn of_sense(words: &'static [&'static str], sense: u32, first: bool) -> &'static str {
+    let pair = checker::SENSES.iter().position(|&number| number == u64::from(sense)).expect("a sense");
+    words[2 * pair + usize::from(!first)]
+}
+
+/// Whether an accepted mark marked something.
+pub fn marked_word(sense: u32, some: bool) -> &'static str {
+    of_sense(MARKED, sense, some)
+}
+
+/// Whether an accepted reduce left fewer states.
+pub fn smaller_word(sense: u32, fewer: bool) -> &'static str {
+    of_sense(SMALLER, sense, fewer)
+}
+
+/// Which condition of rows 1 to 4 and 19 refuses a graph with a sense, where the outputs have room or not.
+pub fn sensed_word(g: &Graph, sense: u32, number: u64, place: u64, room: bool) -> Option<&'static str> {
+    if checker::SENSES.contains(&sense.into()) {
+        return graph_word(g, number, place);
+    }
+    match number {
+        1 => Some("1 before 19"),
+        2 => Some("2 before 19"),
+        3 => Some("3 before 19"),
+        4 => Some("4 before 19"),
+        _ => match (checker::lowest_on_ring(&g.lent()), room) {
+            (None, true) => NO_SENSE.iter().find(|(number, _)| *number == sense).map(|(_, word)| *word),
+            (Some(_), true) => Some("19 before 5"),
+            (None, false) => Some("19 before 6"),
+            (Some(_), false) => Some("19 before 5 and 6"),
+        },
+    }
+}
+
+/// The numbers of row 19 that a run must meet.
+pub fn no_senses() -> impl Iterator<Item = u32> {
+    NO_SENSE.iter().map(|(number, _)| *number)
+}
+
+/// How the marks of R1, R2, R3 and R8 stand to each other: "R1's marks are among R2's and R3's, and theirs among R8's", which must hold.
+pub fn beside_words(g: &Graph, marks: &[Vec<u8>; 4]) -> Vec<&'static str> {
+    let among = |few: &[u8], many: &[u8]| few.iter().zip(many).all(|(few, many)| few <= many);
+    let [r1, r2, r3, r8] = marks;
+    assert!(among(r1, r2) && among(r1, r3) && among(r2, r8) && among(r3, r8), "marks of the senses of {g:?}: {marks:?}");
+    let both: Vec<u8> = r2.iter().zip(r3).map(|(r2, r3)| r2 | r3).collect();
+    let holding = [
+        ("all the same", r1 == r8),
+        ("R2 more than R1", r2 != r1),
+        ("R3 more than R1", r3 != r1),
+        ("R2 without R3", !among(r2, r3)),
+        ("R3 without R2", !among(r3, r2)),
+        ("R8 more than R2 and R3", *r8 != both),
+    ];
+    holding.into_iter().filter(|(_, holds)| *holds).map(|(word, _)| word).collect()
 }
 
 /// What an accepted search for a hop found or did not find at this place.

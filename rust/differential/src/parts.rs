@@ -2,11 +2,44 @@
 
 use crate::compare::{Comparer, Length};
 use crate::make::{self, Hops};
+use crate::met::{beside_words, no_senses};
 use differential::entries::Graph;
 use Length::{About, AtLeast, Exactly};
 
 fn graph(states: u32, labels: u32, hops: &[u16]) -> Graph {
     Graph { states, labels, initial: 0, hops: hops.to_vec() }
+}
+
+/// R1, R2, R3 and R8.
+const SENSES: [u32; 4] = [1, 2, 3, 8];
+
+/// A sense, or at times what is none.
+fn any_sense(c: &mut Comparer) -> u32 {
+    match c.random.below(20) {
+        0 => c.random.below(12) as u32,
+        1 => c.random.next() as u32,
+        _ => c.random.pick(&SENSES),
+    }
+}
+
+/// Mark and reduce in each sense: R1's marks are among R2's and R3's, theirs among R8's, and what reduce left has no faults.
+fn in_each_sense(c: &mut Comparer, g: &Graph) {
+    let marked = SENSES.map(|sense| c.mark(g, sense, AtLeast(g.hops.len() / 3)));
+    if let [Some(r1), Some(r2), Some(r3), Some(r8)] = marked {
+        for word in beside_words(g, &[r1, r2, r3, r8]) {
+            c.met.count(("marks of the senses", Some(word)));
+        }
+    }
+    for sense in SENSES {
+        if let Some((short, map)) = c.reduce(g, sense, AtLeast(g.states.min(1030) as usize), AtLeast(g.hops.len())) {
+            no_faults(c, g, &short, &map);
+        }
+    }
+}
+
+fn no_faults(c: &mut Comparer, g: &Graph, short: &Graph, map: &[u16]) {
+    let answer = c.audit(g, short, map);
+    assert_eq!(answer.numbers(), [0, 1, 0, 0, 0, 0, 0], "what reduce left of {g:?} has no faults");
 }
 
 /// P1 to P10, and the examples of the limits.
@@ -39,7 +72,25 @@ pub fn worked(c: &mut Comparer) {
     let by_states = c.audit(&graph(2, 3, &[0, 1, 0, 1, 2, 1]), &graph(1, 3, &[0, 1, 0, 0, 2, 0]), &[0, 0]);
     assert_eq!(by_states.figures, [2, 3, 0, 1], "hops before states");
     c.audit(&graph(3, 2, &[0, 0, 1, 1, 0, 2, 2, 1, 2]), &graph(2, 2, &[0, 0, 1, 0, 1, 0, 1, 0, 0]), &[0, 1, 0]);
+    worked_senses(c);
     c.answer_len = None;
+}
+
+/// The case of wish 7 and graphs that tell the senses apart: which of the four mark a hop.
+fn worked_senses(c: &mut Comparer) {
+    for (g, place, marked) in [
+        (graph(5, 2, &[0, 0, 1, 0, 1, 2, 1, 1, 3, 2, 0, 4, 4, 0, 3]), 0, [0, 0, 0, 1]),
+        (graph(5, 2, &[0, 0, 1, 0, 1, 2, 1, 1, 3, 2, 0, 4, 4, 0, 3]), 3, [1, 1, 1, 1]),
+        (graph(5, 2, &[0, 0, 1, 0, 1, 2, 1, 1, 3, 2, 0, 4, 4, 0, 3]), 4, [1, 1, 1, 1]),
+        (graph(3, 2, &[0, 1, 0, 1, 0, 0, 1, 1, 2, 2, 0, 1]), 1, [0, 0, 0, 1]),
+        (graph(2, 2, &[0, 1, 1, 1, 0, 0, 1, 1, 0]), 1, [0, 1, 0, 1]),
+        (graph(3, 2, &[0, 0, 1, 0, 1, 0, 1, 0, 2, 2, 1, 1]), 0, [0, 0, 1, 1]),
+        (graph(3, 2, &[1, 0, 2, 1, 1, 0, 2, 0, 0, 2, 1, 2]), 0, [0, 0, 0, 0]),
+    ] {
+        in_each_sense(c, &g);
+        let found = SENSES.map(|sense| c.mark(&g, sense, AtLeast(g.hops.len() / 3)).expect("no ring")[place]);
+        assert_eq!(found, marked, "the hop at {place} of {g:?} under R1, R2, R3 and R8");
+    }
 }
 
 /// What a place loses where it is cut to 32 bits.
@@ -57,16 +108,18 @@ fn whole(c: &mut Comparer, g: &Graph) {
             }
         }
     }
-    for len in 0..=hops + 2 {
-        c.mark(g, Exactly(len));
-        c.mark_fast(g, Exactly(len));
+    for sense in SENSES.into_iter().chain(no_senses()) {
+        for len in 0..=hops + 2 {
+            c.mark(g, sense, Exactly(len));
+        }
+        for len in 0..=states + 2 {
+            c.reduce(g, sense, Exactly(len), AtLeast(numbers));
+        }
+        for len in 0..=numbers + 2 {
+            c.reduce(g, sense, AtLeast(states), Exactly(len));
+        }
     }
-    for len in 0..=states + 2 {
-        c.reduce(g, Exactly(len), AtLeast(numbers));
-    }
-    for len in 0..=numbers + 2 {
-        c.reduce(g, AtLeast(states), Exactly(len));
-    }
+    (0..=hops + 2).for_each(|len| _ = c.mark_fast(g, Exactly(len)));
     for place in 0..=hops as u64 + 1 {
         for rounds in 0..=6 {
             c.round(g, place, rounds);
@@ -134,13 +187,32 @@ pub fn all_small(c: &mut Comparer) {
                 let g = Graph { states: 2, labels: 2, initial, hops: hops.clone() };
                 c.check(&g);
                 c.find(&g, [0, 1, 1]);
-                c.mark(&g, About(2));
+                let sense = any_sense(c);
+                c.mark(&g, sense, About(2));
                 c.mark_fast(&g, About(2));
-                c.reduce(&g, About(2), About(6));
+                c.reduce(&g, sense, About(2), About(6));
                 c.write(&g, &[], About(20));
             }
         }
     }
+}
+
+/// All graphs without a ring of up to 3 states and 2 labels, in each sense.
+pub fn all_in_each_sense(c: &mut Comparer) {
+    let mut count = 0;
+    for (states, labels) in [(1u16, 1u16), (1, 2), (2, 1), (2, 2), (3, 1), (3, 2)] {
+        let all: Vec<[u16; 3]> = (0..states).flat_map(|s| (0..labels).flat_map(move |a| (0..states).map(move |t| [s, a, t]))).collect();
+        for rank in 0..1u32 << all.len() {
+            let hops = (0..all.len()).filter(|i| rank >> i & 1 == 1).flat_map(|i| all[i]).collect();
+            let initial = c.random.below(states.into()) as u32;
+            let g = Graph { states: states.into(), labels: labels.into(), initial, hops };
+            if checker::lowest_on_ring(&g.lent()).is_none() {
+                in_each_sense(c, &g);
+                count += 1;
+            }
+        }
+    }
+    assert_eq!(count, 1 + 2 + 3 + 48 + 25 + 12_800, "the graphs without a ring");
 }
 
 /// Every list of two hops whose numbers are at an end or beside it, and in each that is in order every such hop and some out of range: which comes first hangs on each
@@ -174,9 +246,11 @@ pub fn answers(c: &mut Comparer) {
             c.find(&g, [0, 1, 2]);
             c.find(&g, [0, 1, 3]);
             for short in [g.hops.len(), g.hops.len().saturating_sub(1)] {
-                c.mark(&g, Exactly(short / 3));
+                for sense in [1, 2, 3, 8, 4] {
+                    c.mark(&g, sense, Exactly(short / 3));
+                    c.reduce(&g, sense, Exactly(g.states as usize), Exactly(short));
+                }
                 c.mark_fast(&g, Exactly(short / 3));
-                c.reduce(&g, Exactly(g.states as usize), Exactly(short));
                 c.read(&file, Exactly(short));
             }
             c.audit(&g, &g, &[0, 1, 2, 3]);
@@ -204,9 +278,11 @@ pub fn conditions(c: &mut Comparer) {
         c.check(&g);
         c.find(&g, [0, 0, 1]);
         c.find(&g, [u32::MAX; 3]);
-        c.mark(&g, Exactly(numbers / 3));
+        for sense in [1, 2, 3, 8, 4] {
+            c.mark(&g, sense, Exactly(numbers / 3));
+            c.reduce(&g, sense, Exactly(states), Exactly(numbers));
+        }
         c.mark_fast(&g, Exactly(numbers / 3));
-        c.reduce(&g, Exactly(states), Exactly(numbers));
         c.audit(&g, &p1, &vec![0; states]);
         c.audit(&p1, &g, &[0; 4]);
         c.round(&g, 0, 1);
@@ -216,11 +292,25 @@ pub fn conditions(c: &mut Comparer) {
         c.read(&make::file(&g, &[]), Exactly(numbers));
         c.write(&g, &[], Exactly(checker::LONGEST_FILE));
     }
+    other_senses(c, &p1);
     finds(c, &p1);
     first_faults(c);
     places_and_numbers_that_would_be_cut(c, &p1);
     files_and_blocks(c);
     c.answer_len = None;
+}
+
+/// Numbers that are no sense, on P1 and on a ring, with room and without: 19 comes before 5 and 6.
+fn other_senses(c: &mut Comparer, p1: &Graph) {
+    let ring = graph(4, 2, &[0, 0, 1, 1, 0, 0, 1, 1, 0, 2, 0, 3]);
+    for sense in no_senses() {
+        for g in [p1, &ring] {
+            for (marks, map, short) in [(4, 4, 12), (3, 3, 12), (0, 4, 11), (0, 0, 0)] {
+                c.mark(g, sense, Exactly(marks));
+                c.reduce(g, sense, Exactly(map), Exactly(short));
+            }
+        }
+    }
 }
 
 /// Hops that are there and that are not, at both ends and between, and with each number out of range.
@@ -362,10 +452,13 @@ fn every_entry(c: &mut Comparer, g: &Graph, other_states: usize) {
     let states = (g.states as usize).min(1030);
     c.check(g);
     finds_about(c, g);
-    c.mark(g, About(hops));
+    in_each_sense(c, g);
+    let sense = any_sense(c);
+    c.mark(g, sense, About(hops));
     c.mark_fast(g, About(hops));
+    let sense = any_sense(c);
     let (map_len, short_len) = if c.random.percent(50) { (AtLeast(states), AtLeast(g.hops.len())) } else { (About(states), About(g.hops.len())) };
-    let reduced = c.reduce(g, map_len, short_len);
+    let reduced = c.reduce(g, sense, map_len, short_len);
     for _ in 0..3 {
         let place = c.random.below(hops + 1) as u64;
         let place = match c.random.below(20) {
@@ -377,8 +470,7 @@ fn every_entry(c: &mut Comparer, g: &Graph, other_states: usize) {
         c.round(g, place, rounds);
     }
     if let Some((short, map)) = reduced {
-        let answer = c.audit(g, &short, &map);
-        assert_eq!(answer.numbers(), [0, 1, 0, 0, 0, 0, 0], "what reduce left has no faults");
+        no_faults(c, g, &short, &map);
         audits_about(c, g, &short, &map);
     }
     let mut other = make::graph(&mut c.random, other_states, (g.labels as usize).clamp(1, 1024), hops.min(4096));
@@ -446,13 +538,13 @@ fn audits_about(c: &mut Comparer, one: &Graph, two: &Graph, map: &[u16]) {
 pub fn rounds(c: &mut Comparer, count: usize) {
     for _ in 0..count {
         let g = make::many_rounds(&mut c.random, 30);
-        c.mark(&g, AtLeast(g.hops.len() / 3));
+        in_each_sense(c, &g);
         c.mark_fast(&g, About(g.hops.len() / 3));
     }
     let mut tests_of = |(states, hops): (u16, make::Hops)| {
         let g = make::graph_of(states.into(), 3, 0, &hops);
-        c.mark(&g, Exactly(hops.len()));
-        c.reduce(&g, Exactly(states.into()), Exactly(3 * hops.len()));
+        c.mark(&g, 1, Exactly(hops.len()));
+        c.reduce(&g, 1, Exactly(states.into()), Exactly(3 * hops.len()));
         c.answer_len = Some(4);
         let tests = c.mark_fast(&g, Exactly(hops.len())).figures[0];
         c.answer_len = None;
@@ -467,6 +559,23 @@ pub fn rounds(c: &mut Comparer, count: usize) {
     }
     for graph in [make::layers(20, 25, 30), make::wide(300), make::answered_again(300), make::over_waves(12, 10, 6, 5), make::over_one(150, 4)] {
         tests_of(graph);
+    }
+}
+
+/// Graphs of some hundred hops in each sense, so that there are more hops to try than one word has bits: random ones, such as take many rounds, and hubs with walks
+/// before and behind what answers.
+pub fn senses(c: &mut Comparer, count: usize) {
+    for i in 0..count {
+        let g = match i % 3 {
+            0 => make::graph(&mut c.random, 60, 5, 400),
+            1 => make::many_rounds(&mut c.random, 60),
+            _ => make::hub(&mut c.random, 25),
+        };
+        in_each_sense(c, &g);
+    }
+    let graphs = [make::chain(150), make::chain_to_one_end(150), make::ladder(80), make::waves(10, 12), make::fans(5, 30, 40), make::over_one(60, 4)];
+    for (states, hops) in graphs {
+        in_each_sense(c, &make::graph_of(states.into(), 3, 0, &hops));
     }
 }
 
@@ -636,9 +745,10 @@ pub fn limits(c: &mut Comparer) {
             for labels in [1, 2, 1024, 1025] {
                 let g = Graph { states, labels, initial: 0, hops: hops[..3 * count].to_vec() };
                 c.check(&g);
-                c.mark(&g, About(count));
+                let sense = any_sense(c);
+                c.mark(&g, sense, About(count));
                 c.mark_fast(&g, About(count));
-                c.reduce(&g, About(states as usize), About(3 * count));
+                c.reduce(&g, sense, About(states as usize), About(3 * count));
                 c.round(&g, 0, 1);
                 c.write(&g, &[], About(24_600));
                 c.read(&make::file(&g, &[]), About(3 * count));
@@ -649,12 +759,12 @@ pub fn limits(c: &mut Comparer) {
         let mut g = full(1024, 2, hops[..3 * 4096].to_vec());
         g.hops.extend(vec![0; extra]);
         c.check(&g);
-        c.mark(&g, About(4096));
+        c.mark(&g, 8, About(4096));
         c.mark_fast(&g, About(4096));
     }
     let g = Graph { states: 3, labels: 1, initial: 0, hops: vec![0; 200_000] };
     c.check(&g);
-    c.mark(&g, About(70_000));
+    c.mark(&g, 8, About(70_000));
     c.mark_fast(&g, About(70_000));
     // every hop and every pair of a hop and a state is a fault, and so are the initial states
     let one = full(1024, 6, hops[..3 * 4096].to_vec());

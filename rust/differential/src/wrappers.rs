@@ -3,7 +3,7 @@
 use crate::compare::Comparer;
 use crate::make;
 use differential::entries::Graph;
-use zundrafipo::{Audit, Fault, Found, Hop, NameBlock, Refusal};
+use zundrafipo::{Audit, Fault, Found, Hop, NameBlock, Refusal, Sense};
 
 fn lent(g: &Graph) -> zundrafipo::Graph {
     zundrafipo::Graph::new(g.states, g.labels, g.initial, g.hops.clone())
@@ -18,6 +18,7 @@ fn split(answer: checker::Answer) -> Result<Vec<u64>, Refusal> {
 }
 
 pub fn wrappers(c: &mut Comparer, count: usize) {
+    senses();
     for i in 0..count {
         let mut g = if i % 50 == 0 { make::graph(&mut c.random, 300, 4, 900) } else { make::graph(&mut c.random, 7, 4, 16) };
         if c.random.percent(25) {
@@ -26,7 +27,7 @@ pub fn wrappers(c: &mut Comparer, count: usize) {
         one_graph(c, &g);
         typed_views(c, &g);
         name_block(c);
-        c.calls += 13;
+        c.calls += 19;
     }
 }
 
@@ -35,19 +36,11 @@ fn one_graph(c: &mut Comparer, g: &Graph) {
     let hops = g.hops.len() / 3;
     assert_eq!(graph.check(), split(checker::check(&g.lent())).map(|_| ()), "check of {g:?}");
 
-    let (answer, marks) = checker::mark(&g.lent(), &vec![0; hops]);
-    assert_eq!(graph.mark(), split(answer).map(|_| marks.iter().map(|&m| m == 1).collect()), "mark of {g:?}");
+    Sense::ALL.into_iter().for_each(|sense| in_sense(g, sense));
 
     let (answer, marks) = checker::mark_fast(&g.lent(), &vec![0; hops]);
     let expected = split(answer).map(|figures| zundrafipo::FastMarking { marks: marks.iter().map(|&m| m == 1).collect(), tests: figures[0] as u32 });
     assert_eq!(graph.mark_fast(), expected, "mark_fast of {g:?}");
-
-    let (answer, map, short) = checker::reduce(&g.lent(), &vec![0; (g.states as usize).min(1024)], &vec![0; g.hops.len()]);
-    let expected = split(answer).map(|figures| zundrafipo::Reduction {
-        graph: zundrafipo::Graph::new(figures[0] as u32, figures[1] as u32, figures[3] as u32, short[..3 * figures[2] as usize].to_vec()),
-        map,
-    });
-    assert_eq!(graph.reduce(), expected, "reduce of {g:?}");
 
     let mut other = make::graph(&mut c.random, 5, (g.labels as usize).clamp(1, 9), 12);
     if c.random.percent(80) {
@@ -98,6 +91,30 @@ fn one_graph(c: &mut Comparer, g: &Graph) {
         name_block: &file[f[4] as usize..(f[4] + f[5]) as usize],
     });
     assert_eq!(zundrafipo::read(&file), expected, "read of {file:?}");
+}
+
+/// Each number is a sense, or refused as the entries refuse it.
+fn senses() {
+    for number in (0..12).chain([258, 65_537, u32::MAX]) {
+        let empty = checker::Graph { states: 1, labels: 1, initial: 0, hops: &[] };
+        let expected = split(checker::mark(&empty, number.into(), &[]).0).map(|_| number);
+        assert_eq!(Sense::try_from(number).map(Sense::number), expected, "sense {number}");
+    }
+    assert_eq!(Sense::default(), Sense::R1, "the sense of the program");
+}
+
+/// Mark and reduce in a sense.
+fn in_sense(g: &Graph, sense: Sense) {
+    let (graph, number) = (lent(g), sense.number().into());
+    let (answer, marks) = checker::mark(&g.lent(), number, &vec![0; g.hops.len() / 3]);
+    assert_eq!(graph.mark(sense), split(answer).map(|_| marks.iter().map(|&m| m == 1).collect()), "mark of {g:?} under {sense}");
+
+    let (answer, map, short) = checker::reduce(&g.lent(), number, &vec![0; (g.states as usize).min(1024)], &vec![0; g.hops.len()]);
+    let expected = split(answer).map(|figures| zundrafipo::Reduction {
+        graph: zundrafipo::Graph::new(figures[0] as u32, figures[1] as u32, figures[3] as u32, short[..3 * figures[2] as usize].to_vec()),
+        map,
+    });
+    assert_eq!(graph.reduce(sense), expected, "reduce of {g:?} under {sense}");
 }
 
 /// The fault of an answer's figures.

@@ -1,8 +1,8 @@
 //! The entries in plain Rust, by the library's algorithms: a table of first places for the hops of a state, one binary search for a hop among them; for rings a
-//! sweep and a search by depth, rounds for marks, counting passes for the order of short hops, searches by states for the audit, a table of what is known for the
-//! round question, a sorted table for names.
+//! sweep and a search by depth, rounds for marks, words of 64 hops tried for those of the weaker senses, counting passes for the order of short hops, searches by
+//! states for the audit, a table of what is known for the round question, a sorted table for names.
 //!
-//! `mark` alone goes another way, by repeated sweeps: that is what marking by rounds is compared with.
+//! `mark` under R1 alone goes another way, by repeated sweeps: that is what marking by rounds is compared with.
 //!
 //! It stands beside the library in the benchmarks and in the differential tests. Nothing here is proved.
 
@@ -14,6 +14,7 @@ mod reduce;
 mod rings;
 mod round;
 mod rounds;
+mod senses;
 
 pub use audit::audit;
 pub use check::{check, find, hops_of};

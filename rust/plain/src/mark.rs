@@ -1,20 +1,24 @@
 use crate::rings::ringless;
+use crate::senses::{self, Walks};
 use crate::{find_row, from_at, hop_count, label_at, places, refuse, to_at, Answer, Shape, ACCEPTED};
 
-/// The entry mark, by repeated sweeps: what the rounds of `mark_fast` are compared with.
-pub fn mark(shape: Shape, hops: &[u16], marks: &mut [u8]) -> Answer {
-    match admitted(shape, hops, marks.len()) {
-        Err(refusal) => refusal,
-        Ok(first) => {
-            set_marks(hops, &first, &mut marks[..hop_count(hops)]);
-            ACCEPTED
-        }
+/// The entry mark. Under R1 by repeated sweeps: what the rounds of `mark_fast` are compared with.
+pub fn mark(shape: Shape, hops: &[u16], sense: u32, marks: &mut [u8]) -> Answer {
+    let first = match admitted(shape, hops, sense, marks.len()) {
+        Err(refusal) => return refusal,
+        Ok(first) => first,
+    };
+    let marks = &mut marks[..hop_count(hops)];
+    match Walks::of(sense) {
+        None => set_marks(hops, &first, marks),
+        Some(walks) => senses::set_marks(walks, hops, &first, marks),
     }
+    ACCEPTED
 }
 
-/// The table of first places of a graph that a marking with room for so many marks takes; else the refusal.
-pub(crate) fn admitted(shape: Shape, hops: &[u16], room: usize) -> Result<Vec<u16>, Answer> {
-    let first = ringless(shape, hops)?;
+/// The table of first places of a graph that a marking in a sense, with room for so many marks, takes; else the refusal.
+pub(crate) fn admitted(shape: Shape, hops: &[u16], sense: u32, room: usize) -> Result<Vec<u16>, Answer> {
+    let first = ringless(shape, hops, sense)?;
     if room < hop_count(hops) {
         return Err(refuse(6, 0));
     }

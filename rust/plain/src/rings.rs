@@ -1,10 +1,14 @@
+use crate::senses::is_sense;
 use crate::{check, first_places, label_at, places, refuse, to_at, Answer, Shape};
 
-/// The table of first places of a graph that is admitted and has no ring, for what goes over the graph next; else the refusal.
-pub(crate) fn ringless(shape: Shape, hops: &[u16]) -> Result<Vec<u16>, Answer> {
+/// The table of first places of a graph that is admitted and has no ring, for what goes over the graph in a sense next; else the refusal.
+pub(crate) fn ringless(shape: Shape, hops: &[u16], sense: u32) -> Result<Vec<u16>, Answer> {
     let checked = check(shape, hops);
     if checked.number != 0 {
         return Err(checked);
+    }
+    if !is_sense(sense) {
+        return Err(refuse(19, 0));
     }
     let first = first_places(shape.states as usize, hops);
     match lowest_on_ring(shape.states as usize, hops, &first) {

@@ -5,7 +5,7 @@ use std::ops::Range;
 
 /// The entry mark_fast, with the number of tests.
 pub fn mark_fast(shape: Shape, hops: &[u16], marks: &mut [u8]) -> (Answer, u32) {
-    match admitted(shape, hops, marks.len()) {
+    match admitted(shape, hops, 1, marks.len()) {
         Err(refusal) => (refusal, 0),
         Ok(first) => (ACCEPTED, set_marks(hops, &first, &mut marks[..hop_count(hops)])),
     }

@@ -4,7 +4,7 @@
 //!
 //! Without a file it is P1, its label 1 named `pass`.
 
-use zundrafipo::{read, File, Graph, Hop, NameBlock, Refusal};
+use zundrafipo::{read, File, Graph, Hop, NameBlock, Refusal, Sense};
 
 fn p1() -> Result<Vec<u8>, Refusal> {
     let hops = [(0, 0, 1), (0, 1, 2), (1, 1, 3), (2, 0, 3)].map(|(from, label, to)| Hop { from, label, to });
@@ -25,7 +25,7 @@ fn main() -> Result<(), Box<dyn std::error::Error>> {
         None => p1()?,
     };
     let file = read(&bytes)?;
-    for hop in file.graph.reduce()?.graph.hops() {
+    for hop in file.graph.reduce(Sense::R1)?.graph.hops() {
         println!("{} {} {}", hop.from, shown(&file, hop.label), hop.to);
     }
     Ok(())

@@ -7,7 +7,7 @@ fn main() -> Result<(), Box<dyn std::error::Error>> {
     std::io::stdin().read_to_end(&mut bytes)?;
     let file = zundrafipo::read(&bytes)?;
     let graph = &file.graph;
-    let reduction = graph.reduce()?;
+    let reduction = graph.reduce(zundrafipo::Sense::R1)?;
     let audit = graph.audit(&reduction.graph, &reduction.map)?;
     println!("{} states became {}, faults: {}", graph.states, reduction.graph.states, audit.faults);
     if let Some(fault) = audit.first {

@@ -8,20 +8,21 @@ extern "C" {
     /// Checks a graph for 1 to 4. Answer: 3.
     pub fn zf_check(states: u32, labels: u32, initial: u32, hops: *const u16, hops_len: usize, answer: *mut u64, answer_len: usize) -> u32;
 
-    /// Marks the hops of the greatest confluent set. Answer: 3.
+    /// Marks the hops of the greatest set of a sense. Answer: 3.
     pub fn zf_mark(
         states: u32,
         labels: u32,
         initial: u32,
         hops: *const u16,
         hops_len: usize,
+        sense: u32,
         marks: *mut u8,
         marks_len: usize,
         answer: *mut u64,
         answer_len: usize,
     ) -> u32;
 
-    /// Marks the same hops by rounds. Answer: 4, with the number of tests.
+    /// Marks the hops of R1 by rounds. Answer: 4, with the number of tests.
     pub fn zf_mark_fast(
         states: u32,
         labels: u32,
@@ -34,13 +35,14 @@ extern "C" {
         answer_len: usize,
     ) -> u32;
 
-    /// Reduces a graph. Answer: 7, with the short graph's state count, label count, hop count and initial state.
+    /// Reduces a graph in a sense. Answer: 7, with the short graph's state count, label count, hop count and initial state.
     pub fn zf_reduce(
         states: u32,
         labels: u32,
         initial: u32,
         hops: *const u16,
         hops_len: usize,
+        sense: u32,
         map: *mut u16,
         map_len: usize,
         short_hops: *mut u16,

@@ -1,4 +1,4 @@
-use crate::{ffi, figure, judge, length, Audit, Fault, Hop, Hops, Refusal, LONGEST_FILE, MOST_HOPS, MOST_STATES};
+use crate::{ffi, figure, judge, length, Audit, Fault, Hop, Hops, Refusal, Sense, LONGEST_FILE, MOST_HOPS, MOST_STATES};
 use std::ops::Range;
 
 /// A mode graph: counts, initial state and one flat list of hops, which [`Graph::hops`] shows as [`Hop`]s.
@@ -37,7 +37,7 @@ pub struct Graph {
 /// ```
 #[derive(Clone, Debug, PartialEq, Eq, Hash)]
 pub struct FastMarking {
-    /// Whether each hop, in list order, is marked, as [`Graph::mark`] has it.
+    /// Whether each hop, in list order, is marked, as [`Graph::mark`] has it under [`Sense::R1`].
     pub marks: Vec<bool>,
     /// The number of tests. The first round tests every silent hop, each later one those still marked that have a hop to try with a closing that fell in the
     /// round before.
@@ -47,9 +47,9 @@ pub struct FastMarking {
 /// What [`Graph::reduce`] gives: the short graph, and the map that leads to it.
 ///
 /// ```
-/// use zundrafipo::{Graph, Reduction};
+/// use zundrafipo::{Graph, Reduction, Sense};
 ///
-/// let Reduction { graph, map } = Graph::new(2, 2, 1, vec![0, 0, 1, 0, 1, 0, 1, 1, 1]).reduce()?;
+/// let Reduction { graph, map } = Graph::new(2, 2, 1, vec![0, 0, 1, 0, 1, 0, 1, 1, 1]).reduce(Sense::R1)?;
 /// assert_eq!(map, [0, 0]);
 /// assert_eq!(graph, Graph::new(1, 2, 0, vec![0, 1, 0]));
 /// # Ok::<(), zundrafipo::Refusal>(())
@@ -65,10 +65,10 @@ pub struct Reduction {
 /// The counts and the initial state of a short graph whose hops are in a lent output ([`Graph::reduce_into`]).
 ///
 /// ```
-/// use zundrafipo::{Graph, ShortFigures};
+/// use zundrafipo::{Graph, Sense, ShortFigures};
 ///
 /// let (mut map, mut short) = ([0; 2], [0; 3]);
-/// let figures = Graph::new(2, 1, 0, vec![0, 0, 1]).reduce_into(&mut map, &mut short)?;
+/// let figures = Graph::new(2, 1, 0, vec![0, 0, 1]).reduce_into(Sense::R1, &mut map, &mut short)?;
 /// assert_eq!(figures, ShortFigures { states: 1, labels: 1, hops: 0, initial: 0 });
 /// # Ok::<(), zundrafipo::Refusal>(())
 /// ```
@@ -211,32 +211,36 @@ impl Graph {
         judge(number, answer).map(|_| ())
     }
 
-    /// Whether each hop, in list order, is marked: silent, and in some confluent set.
+    /// Whether each hop, in list order, is marked: silent, and in some set of the sense.
     ///
     /// ```
-    /// use zundrafipo::Graph;
+    /// use zundrafipo::{Graph, Sense};
     ///
     /// let graph = Graph::new(4, 2, 0, vec![0, 0, 1, 0, 1, 2, 1, 1, 3, 2, 0, 3]);
-    /// assert_eq!(graph.mark()?, [true, false, false, true]);
+    /// assert_eq!(graph.mark(Sense::R1)?, [true, false, false, true]);
+    ///
+    /// let graph = Graph::new(2, 2, 0, vec![0, 1, 1, 1, 0, 0, 1, 1, 0]);
+    /// assert_eq!(graph.mark(Sense::R1)?, [false, false, false]);
+    /// assert_eq!(graph.mark(Sense::R2)?, [false, true, false]);
     /// # Ok::<(), zundrafipo::Refusal>(())
     /// ```
-    pub fn mark(&self) -> Result<Vec<bool>, Refusal> {
+    pub fn mark(&self, sense: Sense) -> Result<Vec<bool>, Refusal> {
         let mut marks = vec![0; (self.flat_hops.len() / 3).min(MOST_HOPS)];
-        self.mark_into(&mut marks)?;
+        self.mark_into(sense, &mut marks)?;
         Ok(marks.iter().map(|&mark| mark == 1).collect())
     }
 
     /// Writes one 1 or 0 a hop to the front of `marks`; nothing past them, and nothing at all with a refusal.
     ///
     /// ```
-    /// use zundrafipo::Graph;
+    /// use zundrafipo::{Graph, Sense};
     ///
     /// let mut marks = [9; 2];
-    /// Graph::new(2, 1, 0, vec![0, 0, 1]).mark_into(&mut marks)?;
+    /// Graph::new(2, 1, 0, vec![0, 0, 1]).mark_into(Sense::R8, &mut marks)?;
     /// assert_eq!(marks, [1, 9]);
     /// # Ok::<(), zundrafipo::Refusal>(())
     /// ```
-    pub fn mark_into(&self, marks: &mut [u8]) -> Result<(), Refusal> {
+    pub fn mark_into(&self, sense: Sense, marks: &mut [u8]) -> Result<(), Refusal> {
         let mut answer = [0; 3];
         // SAFETY: each pointer stands with the length of the slice it is of; outputs and answer are borrowed alone.
         let number = unsafe {
@@ -246,6 +250,7 @@ impl Graph {
                 self.initial,
                 self.flat_hops.as_ptr(),
                 self.flat_hops.len(),
+                sense.number(),
                 marks.as_mut_ptr(),
                 marks.len(),
                 answer.as_mut_ptr(),
@@ -255,14 +260,14 @@ impl Graph {
         judge(number, answer).map(|_| ())
     }
 
-    /// The marks of [`Graph::mark`], with the number of tests that the rounds of the marking took.
+    /// The marks of [`Graph::mark`] under [`Sense::R1`], with the number of tests that the rounds of the marking took.
     ///
     /// ```
-    /// use zundrafipo::Graph;
+    /// use zundrafipo::{Graph, Sense};
     ///
     /// let graph = Graph::new(5, 3, 0, vec![0, 0, 1, 0, 1, 2, 1, 1, 3, 2, 0, 3, 2, 2, 4]);
     /// let marking = graph.mark_fast()?;
-    /// assert_eq!(marking.marks, graph.mark()?);
+    /// assert_eq!(marking.marks, graph.mark(Sense::R1)?);
     /// assert_eq!(marking.tests, 3);
     /// # Ok::<(), zundrafipo::Refusal>(())
     /// ```
@@ -302,20 +307,24 @@ impl Graph {
         Ok(figure(tests))
     }
 
-    /// The short graph, in which each class of states joined by marked hops is one state, with the map to it.
+    /// The short graph, in which each class of states joined by the hops that the sense marks is one state, with the map to it.
     ///
     /// ```
-    /// use zundrafipo::Graph;
+    /// use zundrafipo::{Graph, Sense};
     ///
-    /// let reduction = Graph::new(3, 1, 2, vec![0, 0, 1, 0, 0, 2, 1, 0, 2]).reduce()?;
+    /// let reduction = Graph::new(3, 1, 2, vec![0, 0, 1, 0, 0, 2, 1, 0, 2]).reduce(Sense::R1)?;
     /// assert_eq!(reduction.map, [0, 0, 0]);
     /// assert_eq!(reduction.graph, Graph::new(1, 1, 0, vec![]));
+    ///
+    /// let graph = Graph::new(3, 2, 0, vec![0, 0, 1, 0, 1, 0, 1, 0, 2, 2, 1, 1]);
+    /// assert_eq!(graph.reduce(Sense::default())?.map, [0, 1, 1]);
+    /// assert_eq!(graph.reduce(Sense::R3)?.map, [0, 0, 0]);
     /// # Ok::<(), zundrafipo::Refusal>(())
     /// ```
-    pub fn reduce(&self) -> Result<Reduction, Refusal> {
+    pub fn reduce(&self, sense: Sense) -> Result<Reduction, Refusal> {
         let mut map = vec![0; length(self.states.into()).min(MOST_STATES)];
         let mut hops = vec![0; self.flat_hops.len().min(3 * MOST_HOPS)];
-        let figures = self.reduce_into(&mut map, &mut hops)?;
+        let figures = self.reduce_into(sense, &mut map, &mut hops)?;
         hops.truncate(3 * length(figures.hops.into()));
         Ok(Reduction { graph: Graph::new(figures.states, figures.labels, figures.initial, hops), map })
     }
@@ -324,15 +333,15 @@ impl Graph {
     /// room for as many numbers as this graph's list.
     ///
     /// ```
-    /// use zundrafipo::Graph;
+    /// use zundrafipo::{Graph, Sense};
     ///
     /// let (mut map, mut short) = ([9; 3], [9; 9]);
-    /// let figures = Graph::new(2, 2, 0, vec![0, 0, 1, 0, 1, 0, 1, 1, 1]).reduce_into(&mut map, &mut short)?;
+    /// let figures = Graph::new(2, 2, 0, vec![0, 0, 1, 0, 1, 0, 1, 1, 1]).reduce_into(Sense::R1, &mut map, &mut short)?;
     /// assert_eq!((map, figures.hops), ([0, 0, 9], 1));
     /// assert_eq!(short, [0, 1, 0, 9, 9, 9, 9, 9, 9]);
     /// # Ok::<(), zundrafipo::Refusal>(())
     /// ```
-    pub fn reduce_into(&self, map: &mut [u16], short_hops: &mut [u16]) -> Result<ShortFigures, Refusal> {
+    pub fn reduce_into(&self, sense: Sense, map: &mut [u16], short_hops: &mut [u16]) -> Result<ShortFigures, Refusal> {
         let mut answer = [0; 7];
         // SAFETY: each pointer stands with the length of the slice it is of; outputs and answer are borrowed alone.
         let number = unsafe {
@@ -342,6 +351,7 @@ impl Graph {
                 self.initial,
                 self.flat_hops.as_ptr(),
                 self.flat_hops.len(),
+                sense.number(),
                 map.as_mut_ptr(),
                 map.len(),
                 short_hops.as_mut_ptr(),
@@ -390,7 +400,7 @@ impl Graph {
         Ok(Audit { faults, first: Fault::named(kind, place, state) })
     }
 
-    /// Whether the silent hop at `place` survives `rounds`, 0 to 4, of the marking. Rings do not matter.
+    /// Whether the silent hop at `place` survives `rounds`, 0 to 4, of the marking under [`Sense::R1`]. Rings do not matter.
     ///
     /// ```
     /// use zundrafipo::Graph;

@@ -5,15 +5,17 @@
 //! bisimulation that joins the initial states.
 //!
 //! ```
-//! use zundrafipo::Graph;
+//! use zundrafipo::{Graph, Sense};
 //!
 //! let graph = Graph::new(4, 2, 0, vec![0, 0, 1, 0, 1, 2, 1, 1, 3, 2, 0, 3]);
-//! let reduction = graph.reduce()?;
+//! let reduction = graph.reduce(Sense::R1)?;
 //! assert_eq!(reduction.map, [0, 0, 1, 1]);
 //! assert_eq!(reduction.graph, Graph::new(2, 2, 0, vec![0, 1, 1]));
 //! assert_eq!(graph.audit(&reduction.graph, &reduction.map)?.faults, 0);
 //! # Ok::<(), zundrafipo::Refusal>(())
 //! ```
+//!
+//! Which silent hops count as confluent is said by a [`Sense`]: [`Sense::R1`] is strong confluence, and the weaker ones mark more hops.
 //!
 //! A graph's hops are one flat list, three numbers a hop; [`Hop`] and [`Graph::hops`] are a typed view of it, and [`Graph::from_hops`] makes one of hops.
 //! [`Graph::find`] says where in the list a hop stands. Where an audit counts faults it names the first of them, and a [`Fault`] says itself in words.
@@ -31,6 +33,7 @@ mod graph;
 mod hop;
 mod names;
 mod refusal;
+mod sense;
 
 pub use fault::{Audit, Fault};
 pub use file::{read, read_into, Figures, File};
@@ -38,6 +41,7 @@ pub use graph::{hops_of, FastMarking, Found, Graph, Reduction, ShortFigures};
 pub use hop::{Hop, Hops};
 pub use names::{NameBlock, Names};
 pub use refusal::Refusal;
+pub use sense::Sense;
 
 /// The most states a graph can have.
 pub const MOST_STATES: usize = 1024;

@@ -13,10 +13,10 @@ use std::fmt;
 /// - with every other number 0.
 ///
 /// ```
-/// use zundrafipo::Graph;
+/// use zundrafipo::{Graph, Sense};
 ///
 /// let ring = Graph::new(3, 1, 0, vec![0, 0, 1, 1, 0, 2, 2, 0, 1]);
-/// let refusal = ring.mark().unwrap_err();
+/// let refusal = ring.mark(Sense::R1).unwrap_err();
 /// assert_eq!((refusal.number, refusal.table, refusal.place), (5, 1, 1));
 /// assert_eq!(refusal.to_string(), "refused with 5 (a ring of silent hops), table 1, place 1");
 ///
@@ -25,7 +25,7 @@ use std::fmt;
 /// ```
 #[derive(Clone, Copy, Debug, PartialEq, Eq, Hash)]
 pub struct Refusal {
-    /// 1 to 14.
+    /// 1 to 14, or 19.
     pub number: u32,
     /// 2 for graph 2 of an audit that is refused with 1 to 4, else 1.
     pub table: u64,
@@ -67,6 +67,7 @@ impl Refusal {
             14 => {
                 "name length 0 or over 32, or a name equal to an earlier one; for writing, also a block of more or fewer names than labels 1 upward"
             }
+            19 => "a sense that is not 1, 2, 3 or 8",
             _ => "no number of the table",
         }
     }

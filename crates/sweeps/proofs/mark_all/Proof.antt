@@ -1,7 +1,8 @@
 -- `sweeps::mark_all` meets its contract: the marks that sweeps begin with hold the marked set. Assumes nothing.
 use borrow.Author.Needs.{needs}
 use Rattle.confluence.specs.Rounds.{marked}
-use Rattle.sweeps.proofs.Sweeping.{first-marking}
+use Rattle.confluence.proofs.Marked.{marked-confluent}
+use Rattle.sweeps.proofs.Settling.{first-marking}
 use Rattle.confluence.specs.Held.{everyPair}
 use Rattle.confluence.proofs.Marks.{marks-over}
 use Rattle.sweeps.proofs.mark_all.Statement.{statement}
@@ -16,7 +17,7 @@ start-marks-requires c κs = search needs
 settle-requires : tie.Need-settle-requires
 settle-requires c κs =
     let st = c .before .before .before .before .before .before .before .before .before in
-    (st .pre .0, (c .before .before .before .before .before .before .starts-of .ensures, first-marking _ _ _ (st .pre .1) (c .before .before .before .before .start-marks .ensures)))
+    (st .pre .0, (c .before .before .before .before .before .before .starts-of .ensures, first-marking _ _ (marked-confluent _ .silent) _ _ (st .pre .1) (c .before .before .before .before .start-marks .ensures)))
 
 same-length : tie.Need-same-length
 same-length c = search needs

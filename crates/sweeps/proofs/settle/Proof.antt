@@ -5,15 +5,17 @@ use mathlib.Core.Path.{_≡_, refl, _∙_}
 use native.Mathlib.Omega.{arith}
 use lib.ListN.{length, drop}
 use Rattle.graph.specs.Hops.{count}
-use Rattle.sweeps.specs.Sweep.{markCount, Marking, Stands}
-use Rattle.sweeps.proofs.Sweeping.{swept-rests, settled-marks}
+use Rattle.sweeps.specs.Sweep.{markCount, Marking, StandsTo}
+use Rattle.confluence.specs.Rounds.{marked}
+use Rattle.sweeps.proofs.Settling.{swept-rests}
+use Rattle.sweeps.proofs.Sweeping.{rested-marks}
 use Rattle.sweeps.proofs.settle.Statement.{statement}
 use Rattle.sweeps.proofs.settle.Tie as tie
 
 abbrev Inv-loop : tie.InvT-loop
 Inv-loop hops starts marks₀ lost₀ marks lost =
-    (length marks ≡ length marks₀) × Marking hops marks × (drop (count hops) marks ≡ drop (count hops) marks₀) ×
-    (lost ≡ 0 → (i : ℕ) → i < count hops → Stands hops marks i)
+    (length marks ≡ length marks₀) × Marking hops (marked hops) marks × (drop (count hops) marks ≡ drop (count hops) marks₀) ×
+    (lost ≡ 0 → StandsTo hops (count hops) marks)
 
 abbrev μ-loop : tie.MeasureT-loop
 μ-loop hops starts marks₀ lost₀ marks lost = markCount hops marks + lost
@@ -33,7 +35,7 @@ loop-again : tie.Need-loop-again Inv-loop μ-loop
 loop-again c =
     let v = c .before .before .before .before .before .loop .inv in
     let s = c .before .before .sweep .ensures in
-    (c .before .before .sweep .kept .1 .1 .0 ∙ v .0, s .marking, s .beyond ∙ v .2, swept-rests _ s)
+    (c .before .before .sweep .kept .1 .1 .0 ∙ v .0, s .marking, s .beyond ∙ v .2, swept-rests s)
 
 same-length : tie.Need-same-length Inv-loop μ-loop
 same-length c = c .before .loop .inv .0
@@ -41,7 +43,7 @@ same-length c = c .before .loop .inv .0
 returns : tie.Need-returns Inv-loop μ-loop
 returns c =
     let v = c .before .loop .inv in
-    settled-marks _ (c .before .before .before .before .pre .0 .ascending) (v .1) (v .3 (omega arith)) _ (v .2)
+    rested-marks _ (c .before .before .before .before .pre .0 .ascending) (v .1) (v .3 (omega arith)) _ (v .2)
 
 pub settle-spec : {M : Type 1} → statement M
 settle-spec =

@@ -5,14 +5,16 @@ use native.Mathlib.Omega.{arith}
 use borrow.Author.Needs.{needs}
 use lib.ListN.{length}
 use Rattle.graph.specs.Hops.{count}
-use Rattle.sweeps.specs.Sweep.{Swept}
-use Rattle.sweeps.proofs.Sweeping.{count-within, swept-none, swept-more}
+use Rattle.confluence.specs.Rounds.{marked}
+use borrow.Author.Count.{below-more}
+use Rattle.sweeps.specs.Sweep.{Swept, StandsTo}
+use Rattle.sweeps.proofs.Settling.{count-within, swept-none, swept-then}
 use Rattle.sweeps.proofs.sweep.Statement.{statement}
 use Rattle.sweeps.proofs.sweep.Tie as tie
 
 abbrev Inv-loop : tie.InvT-loop
 Inv-loop hops starts marks₀ n lost₀ i₀ marks lost i =
-    (n ≡ count hops) × (i ≤ n) × (length marks ≡ length marks₀) × Swept hops marks₀ i marks lost
+    (n ≡ count hops) × (i ≤ n) × (length marks ≡ length marks₀) × Swept hops (marked hops) (StandsTo hops i) marks₀ marks lost
 
 abbrev μ-loop : tie.MeasureT-loop
 μ-loop hops starts marks₀ n lost₀ i₀ marks lost i = n - i
@@ -21,7 +23,7 @@ hop-count-requires : tie.Need-hop-count-requires Inv-loop μ-loop
 hop-count-requires c κs = search needs
 
 loop-holds : tie.Need-loop-holds Inv-loop μ-loop
-loop-holds c = (c .hop-count .ensures, omega arith, refl, swept-none _ (c .before .before .before .pre .1 .1))
+loop-holds c = (c .hop-count .ensures, omega arith, refl, swept-none (c .before .before .before .pre .1 .1) (λ i l. absurd (omega arith)))
 
 test-at-requires : tie.Need-test-at-requires Inv-loop μ-loop
 test-at-requires c κs =
@@ -31,8 +33,13 @@ test-at-requires c κs =
 add-lost : tie.Need-add-lost Inv-loop μ-loop
 add-lost c =
     let st = c .before .before .before .before .before .before .before .before .before in
-    let s = swept-more (st .args .hops .now) (c .before .before .before .before .before .loop .inv .3) (c .before .before .test-at .ensures) in
-    omega (arith, s .fewer, count-within (st .args .hops .now) (st .args .marks .now), st .pre .0 .hops-most)
+    omega (
+      arith,
+      c .before .before .before .before .before .loop .inv .3 .fewer,
+      c .before .before .test-at .ensures .fewer,
+      count-within (st .args .hops .now) (st .args .marks .now),
+      st .pre .0 .hops-most,
+    )
 
 add-i : tie.Need-add-i Inv-loop μ-loop
 add-i c = search needs
@@ -43,7 +50,7 @@ loop-less c = search needs
 loop-again : tie.Need-loop-again Inv-loop μ-loop
 loop-again c =
     let v = c .before .before .before .before .before .loop .inv in
-    (v .0, omega arith, c .before .before .test-at .kept .1 .1 .0 ∙ v .2, swept-more _ (v .3) (c .before .before .test-at .ensures))
+    (v .0, omega arith, c .before .before .test-at .kept .1 .1 .0 ∙ v .2, swept-then (v .3) (c .before .before .test-at .ensures) (below-more _ _))
 
 same-length : tie.Need-same-length Inv-loop μ-loop
 same-length c = c .before .loop .inv .2

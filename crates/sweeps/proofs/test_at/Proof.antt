@@ -9,7 +9,7 @@ slice-read-if1 : tie.Need-slice-read-if1
 slice-read-if1 c = omega (arith, c .before .before .before .pre .1 .1 .0 .room)
 
 returns : tie.Need-returns
-returns c = tested-off _ (c .before .before .before .before .pre .1 .1 .0) (c .if1 .taken)
+returns c = tested-off _ (c .before .before .before .before .pre .1 .1 .0) _ (c .if1 .taken)
 
 closes-at-requires : tie.Need-closes-at-requires
 closes-at-requires c κs =
@@ -20,7 +20,7 @@ same-length : tie.Need-same-length
 same-length c = search needs
 
 returns-2 : tie.Need-returns-2
-returns-2 c = tested-closes _ (c .before .before .before .before .before .before .before .pre .1 .1 .0) (c .before .closes-at .ensures) (c .if2 .taken)
+returns-2 c = tested-closes _ (c .before .before .before .before .before .before .before .pre .1 .1 .0) _ (c .before .closes-at .ensures) (c .if2 .taken)
 
 slice-write-marks : tie.Need-slice-write-marks
 slice-write-marks c = omega (arith, c .before .before .before .before .before .before .before .pre .1 .1 .0 .room)

@@ -1,8 +1,10 @@
 -- `tells_marking::tell_mark` meets its contract: where the answer slice is too short, only the answer is found. Assumes nothing.
 use borrow.Author.Needs.{needs}
+use lib.ListN.{length}
 use mathlib.Core.List.{[]}
 use Rattle.graph.specs.declared.Answer.{Answer}
-use Rattle.answers.specs.Numbers.{numbersOf}
+use Rattle.marks.specs.Mark.{markAnswer, markOutput}
+use Rattle.answers.specs.Numbers.{shapeOf, numbersOf}
 use Rattle.answers.proofs.Answers.{returned-of}
 use Rattle.answers.proofs.Told.{told-of, short-told, short-kept, left-long}
 use Rattle.tells_marking.proofs.tell_mark.Statement.{statement}
@@ -20,7 +22,9 @@ same-length c = search needs
 returns : tie.Need-returns
 returns c =
     let l = c .before .before .before .if1 .taken in
-    (returned-of 3 _ (c .before .mark-answer .ensures) (c .short-number .ensures), (short-kept 3 _ _ _ l, short-told 3 _ _ l))
+    let s = c .before .before .before .before .before .before .before .args in
+    let r = markAnswer (shapeOf (s .states) (s .labels) (s .initial)) (s .hops .now) (s .sense) (s .marks .now) in
+    (returned-of 3 _ {b = r} (c .before .mark-answer .ensures) (c .short-number .ensures), (short-kept 3 _ _ _ l, short-told 3 _ _ l))
 
 mark-requires : tie.Need-mark-requires
 mark-requires c κs = search needs
@@ -39,7 +43,16 @@ returns-2 c =
     let m = c .before .before .before .before .before .before .mark .ensures in
     let l = c .before .before .before .before .before .before .before .before .if1 .left in
     let t = c .before .before .tell-answer .ensures in
-    (returned-of 3 _ (m .0) (t .0), (left-long 3 _ _ _ l (m .1), told-of (λ (a : Answer). numbersOf a []) 3 _ (m .0) (t .1)))
+    let s = c .before .before .before .before .before .before .before .before .before .before .before .before .args in
+    let sh = shapeOf (s .states) (s .labels) (s .initial) in
+    let r = markAnswer sh (s .hops .now) (s .sense) (s .marks .now) in
+    let old = s .answer .now in (
+      returned-of 3 (length old) {b = r} (m .0) (t .0),
+      (
+        left-long 3 old (markOutput sh (s .hops .now) (s .sense) (s .marks .now)) (s .marks .now) l (m .1),
+        told-of (λ (a : Answer). numbersOf a []) 3 old {y = r} (m .0) (t .1),
+      ),
+    )
 
 pub tell-mark-spec : {M : Type 1} → statement M
 tell-mark-spec =

@@ -4,7 +4,7 @@ use mathlib.Core.Path.{ap, _∙_}
 use Rattle.quotient.specs.declared.Reduction.{Reduction}
 use Rattle.tells_reducing.specs.Numbers.{reductionNumbers}
 use lib.ListN.{length}
-use Rattle.quotient.specs.Reduce.{reduceOf, mapOutput, shortOutput}
+use Rattle.quotient.specs.Reduce.{reduceAnswer, reduceOf, mapOutput, shortOutput}
 use Rattle.answers.specs.Numbers.{shapeOf}
 use Rattle.answers.proofs.Answers.{returned-of}
 use Rattle.answers.proofs.Told.{told-of, short-told, short-kept, left-long}
@@ -21,7 +21,10 @@ short-number-requires c κs = search needs
 returns : tie.Need-returns
 returns c =
     let l = c .before .before .if1 .taken in
-    (returned-of 7 _ (c .before .reduce-answer .ensures) (c .short-number .ensures), (short-kept 7 _ _ _ l, (short-kept 7 _ _ _ l, short-told 7 _ _ l)))
+    let s = c .before .before .before .before .before .before .before .args in
+    let sh = shapeOf (s .states) (s .labels) (s .initial) in
+    let a = reduceAnswer sh (s .hops .now) (s .sense) (length (s .map .now)) (length (s .short .now)) in
+    (returned-of 7 _ {b = a} (c .before .reduce-answer .ensures) (c .short-number .ensures), (short-kept 7 _ _ _ l, (short-kept 7 _ _ _ l, short-told 7 _ _ l)))
 
 reduce-requires : tie.Need-reduce-requires
 reduce-requires c κs = search needs
@@ -46,14 +49,15 @@ returns-2 c =
     let s = c .before .before .before .before .before .before .before .before .before .before .before .before .before .before .before .before .args in
     let sh = shapeOf (s .states) (s .labels) (s .initial) in
     let hs = s .hops .now in
+    let k = s .sense in
     let m = s .map .now in
-    let k = s .short .now in
-    let r = reduceOf sh hs (length m) (length k) in
+    let n = s .short .now in
+    let r = reduceOf sh hs k (length m) (length n) in
     let old = s .answer .now in (
-      returned-of 7 (length old) (ap (λ (x : Reduction). x .answer) {y = r} (w .0) ∙ reduced-answer sh hs (length m) (length k)) (t .0),
+      returned-of 7 (length old) (ap (λ (x : Reduction). x .answer) {y = r} (w .0) ∙ reduced-answer sh hs k (length m) (length n)) (t .0),
       (
-        left-long 7 old (mapOutput sh hs m k) m l (w .1 .0),
-        (left-long 7 old (shortOutput sh hs m k) k l (w .1 .1), told-of reductionNumbers 7 old {y = r} (w .0) (t .1)),
+        left-long 7 old (mapOutput sh hs k m n) m l (w .1 .0),
+        (left-long 7 old (shortOutput sh hs k m n) n l (w .1 .1), told-of reductionNumbers 7 old {y = r} (w .0) (t .1)),
       ),
     )
 

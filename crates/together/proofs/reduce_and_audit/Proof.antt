@@ -30,7 +30,7 @@ audit-reduction-requires c κs =
     let s = c .before .before .before .before .before .before .before .before .before .before .before .before .before .before .before .args in
     let zero = c .before .before .if1 .left in (
       zero,
-      (omega (arith, map-there (s .shape) (s .hops .now) (s .map .now) (s .short .now) (r .ensures .0) zero, r .kept), omega (arith, short-there (s .shape) (s .hops .now) (s .map .now) (s .short .now) (r .ensures .0) zero, r .kept)),
+      (omega (arith, map-there (s .shape) (s .hops .now) (s .sense) (s .map .now) (s .short .now) (r .ensures .0) zero, r .kept), omega (arith, short-there (s .shape) (s .hops .now) (s .sense) (s .map .now) (s .short .now) (r .ensures .0) zero, r .kept)),
     )
 
 same-length-3 : tie.Need-same-length-3
@@ -43,7 +43,7 @@ returns-2 : tie.Need-returns-2
 returns-2 c =
     let r = c .before .before .before .before .before .before .before .before .before .before .reduce in
     let s = c .before .before .before .before .before .before .before .before .before .before .before .before .before .before .before .before .args in
-    let right = left-faultless (s .shape) (s .hops .now) (s .map .now) (s .short .now) (r .ensures .0) (c .before .before .before .if1 .left) (c .audit-reduction .ensures) (r .ensures .1 .0) (r .ensures .1 .1) in
+    let right = left-faultless (s .shape) (s .hops .now) (s .sense) (s .map .now) (s .short .now) (r .ensures .0) (c .before .before .before .if1 .left) (c .audit-reduction .ensures) (r .ensures .1 .0) (r .ensures .1 .1) in
     (r .ensures .0, (c .audit-reduction .ensures, ((λ _. right), (r .ensures .1 .0, r .ensures .1 .1))))
 
 pub reduce-and-audit-spec : {M : Type 1} → statement M

@@ -1,8 +1,8 @@
--- `marks::mark::mark_answer` meets its contract: rows 1 to 4 speak, or the later ones do. Assumes nothing.
+-- `marks::mark::mark_answer` meets its contract: rows 1 to 4 speak, or row 19, or the later ones do. Assumes nothing.
 use borrow.Author.Needs.{needs}
 use Rattle.limits.proofs.Checked.{check-admitted}
 use Rattle.starts.proofs.Firsts.{admitted-ready}
-use Rattle.marks.proofs.Entry.{mark-refused, mark-later}
+use Rattle.marks.proofs.Entry.{mark-refused, mark-sensed, mark-later}
 use Rattle.marks.proofs.mark.mark_answer.Statement.{statement}
 use Rattle.marks.proofs.mark.mark_answer.Tie as tie
 
@@ -10,18 +10,23 @@ check-requires : tie.Need-check-requires
 check-requires c κs = search needs
 
 returns : tie.Need-returns
-returns c = mark-refused _ _ _ (c .before .before .check .ensures) (c .if1 .taken)
+returns c = mark-refused _ _ _ _ (c .before .before .check .ensures) (c .if1 .taken)
 
-starts-of-requires : tie.Need-starts-of-requires
-starts-of-requires c κs = admitted-ready (check-admitted _ _ (rw (c .before .before .check .ensures) at (c .if1 .left)))
-
-later-answer-requires : tie.Need-later-answer-requires
-later-answer-requires c κs =
-    record { admitted = check-admitted _ _ (rw (c .before .before .before .before .check .ensures) at (c .before .before .if1 .left)); table = c .before .starts-of .ensures }
+sense-answer-requires : tie.Need-sense-answer-requires
+sense-answer-requires c κs = search needs
 
 returns-2 : tie.Need-returns-2
-returns-2 c = mark-later _ _ _ (c .before .before .before .before .before .check .ensures) (c .before .before .before .if1 .left) (c .later-answer .ensures)
+returns-2 c = mark-sensed _ _ _ _ (c .before .before .before .before .before .check .ensures) (c .before .before .before .if1 .left) (c .before .before .sense-answer .ensures) (c .if2 .taken)
+
+starts-of-requires : tie.Need-starts-of-requires
+starts-of-requires c κs = admitted-ready (check-admitted _ _ (rw (c .before .before .before .before .before .check .ensures) at (c .before .before .before .if1 .left)))
+
+later-answer-requires : tie.Need-later-answer-requires
+later-answer-requires c κs = record { admitted = check-admitted _ _ (rw (c .before .before .before .before .before .before .before .check .ensures) at (c .before .before .before .before .before .if1 .left)); table = c .before .starts-of .ensures }
+
+returns-3 : tie.Need-returns-3
+returns-3 c = mark-later _ _ _ _ (c .before .before .before .before .before .before .before .before .check .ensures) (c .before .before .before .before .before .before .if1 .left) (c .before .before .before .before .before .sense-answer .ensures) (c .before .before .before .if2 .left) (c .later-answer .ensures)
 
 pub mark-answer-spec : {M : Type 1} → statement M
 mark-answer-spec =
-    tie.close (tie.spec check-requires returns starts-of-requires later-answer-requires returns-2)
+    tie.close (tie.spec check-requires returns sense-answer-requires returns-2 starts-of-requires later-answer-requires returns-3)

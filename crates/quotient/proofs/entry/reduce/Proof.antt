@@ -19,8 +19,8 @@ returns c =
     let map = st .args .map .now in
     let short = st .args .short .now in
     let n = c .before .if1 .taken in
-    let d = answer-checked _ _ _ _ (c .before .before .before .check .ensures) n in
-    (c .refused-reduction .ensures ∙ refused-returns _ _ map short d n, (refused-map _ _ map short d n, refused-short _ _ map short d n))
+    let d = answer-checked _ _ _ _ _ (c .before .before .before .check .ensures) n in
+    (c .refused-reduction .ensures ∙ refused-returns _ _ _ map short d n, (refused-map _ _ _ map short d n, refused-short _ _ _ map short d n))
 
 starts-of-requires : tie.Need-starts-of-requires
 starts-of-requires c κs = admitted-ready (check-admitted _ _ (rw (c .before .before .check .ensures) at (c .if1 .left)))
@@ -38,14 +38,14 @@ returns-2 c =
     let map = st .args .map .now in
     let short = st .args .short .now in
     let n = c .before .if2 .taken in
-    let d = answer-later _ _ _ _ (c .before .before .before .before .before .before .before .before .check .ensures) (c .before .before .before .before .before .before .if1 .left) (c .before .before .before .later-answer .ensures) in
-    (c .refused-reduction2 .ensures ∙ refused-returns _ _ map short d n, (refused-map _ _ map short d n, refused-short _ _ map short d n))
+    let d = answer-later _ _ _ _ _ (c .before .before .before .before .before .before .before .before .check .ensures) (c .before .before .before .before .before .before .if1 .left) (c .before .before .before .later-answer .ensures) in
+    (c .refused-reduction2 .ensures ∙ refused-returns _ _ _ map short d n, (refused-map _ _ _ map short d n, refused-short _ _ _ map short d n))
 
 accepted-reduction-requires : tie.Need-accepted-reduction-requires
 accepted-reduction-requires c κs =
-    let d = answer-later _ _ _ _ (c .before .before .before .before .before .before .before .before .before .before .check .ensures) (c .before .before .before .before .before .before .before .before .if1 .left) (c .before .before .before .before .before .later-answer .ensures) in
+    let d = answer-later _ _ _ _ _ (c .before .before .before .before .before .before .before .before .before .before .check .ensures) (c .before .before .before .before .before .before .before .before .if1 .left) (c .before .before .before .before .before .later-answer .ensures) in
     let e = rw d at (c .before .before .before .if2 .left) in
-    (reduce-reducible _ _ _ _ e, (c .before .before .before .before .before .before .before .starts-of .ensures, (reduce-map-room _ _ _ _ e, reduce-short-room _ _ _ _ e)))
+    (reduce-reducible _ _ _ _ _ e, (c .before .before .before .before .before .before .before .starts-of .ensures, (reduce-map-room _ _ _ _ _ e, reduce-short-room _ _ _ _ _ e)))
 
 same-length : tie.Need-same-length
 same-length c = search needs
@@ -59,9 +59,9 @@ returns-3 c =
     let map = st .args .map .now in
     let short = st .args .short .now in
     let z = c .before .before .before .before .before .before .before .before .if2 .left in
-    let d = answer-later _ _ _ _ (c .before .before .before .before .before .before .before .before .before .before .before .before .before .before .before .check .ensures) (c .before .before .before .before .before .before .before .before .before .before .before .before .before .if1 .left) (c .before .before .before .before .before .before .before .before .before .before .later-answer .ensures) in
+    let d = answer-later _ _ _ _ _ (c .before .before .before .before .before .before .before .before .before .before .before .before .before .before .before .check .ensures) (c .before .before .before .before .before .before .before .before .before .before .before .before .before .if1 .left) (c .before .before .before .before .before .before .before .before .before .before .later-answer .ensures) in
     let w = c .before .before .before .before .accepted-reduction .ensures in
-    (w .0 ∙ accepted-returns _ _ map short d z, (w .1 .0 ∙ accepted-map _ _ map short d z, w .1 .1 ∙ accepted-short _ _ map short d z))
+    (w .0 ∙ accepted-returns _ _ _ map short d z, (accepted-map _ _ _ map short d z (w .1 .0), accepted-short _ _ _ map short d z (w .1 .1)))
 
 pub reduce-spec : {M : Type 1} → statement M
 reduce-spec =

@@ -10,7 +10,7 @@ check-requires : tie.Need-check-requires
 check-requires c κs = search needs
 
 returns : tie.Need-returns
-returns c = answer-checked _ _ _ _ (c .before .before .check .ensures) (c .if1 .taken)
+returns c = answer-checked _ _ _ _ _ (c .before .before .check .ensures) (c .if1 .taken)
 
 starts-of-requires : tie.Need-starts-of-requires
 starts-of-requires c κs = admitted-ready (check-admitted _ _ (rw (c .before .before .check .ensures) at (c .if1 .left)))
@@ -20,7 +20,7 @@ later-answer-requires c κs =
     record { admitted = check-admitted _ _ (rw (c .before .before .before .before .check .ensures) at (c .before .before .if1 .left)); table = c .before .starts-of .ensures }
 
 returns-2 : tie.Need-returns-2
-returns-2 c = answer-later _ _ _ _ (c .before .before .before .before .before .check .ensures) (c .before .before .before .if1 .left) (c .later-answer .ensures)
+returns-2 c = answer-later _ _ _ _ _ (c .before .before .before .before .before .check .ensures) (c .before .before .before .if1 .left) (c .later-answer .ensures)
 
 pub reduce-answer-spec : {M : Type 1} → statement M
 reduce-answer-spec =

@@ -36,7 +36,7 @@ reduce-marked-requires c κs =
     let st = c .before .before .before .before .before .before .before .before in
     let red = st .pre .0 in
     let e = c .before .before .before .before .mark-rounds .ensures .1 in
-    (red .admitted, (held-settles red _, (left-marks (st .args .shape) _ _ _ e (omega (arith, red .admitted .hops-most)), (omega (arith, red .admitted .states-most), omega (arith, red .admitted .hops-most, red .admitted .three-a-hop)))))
+    (red .admitted, (held-settles red _, (left-marks (st .args .shape) _ _ _ _ e (omega (arith, red .admitted .hops-most)), (omega (arith, red .admitted .states-most), omega (arith, red .admitted .hops-most, red .admitted .three-a-hop)))))
 
 slice-aggregate-put-report : tie.Need-slice-aggregate-put-report
 slice-aggregate-put-report c = search needs

@@ -1,0 +1,12 @@
+-- `senses::is_sense` meets its contract. Assumes nothing.
+use mathlib.Core.Path.{refl}
+use Rattle.senses.specs.Senses.{isSense}
+use Rattle.senses.proofs.is_sense.Statement.{statement}
+use Rattle.senses.proofs.is_sense.Tie as tie
+
+returns : tie.Need-returns
+unfolding isSense
+returns c = refl
+
+pub is-sense-spec : {M : Type 1} → statement M
+is-sense-spec = tie.close (tie.spec returns)

@@ -1,0 +1,16 @@
+-- What the states of a table of words get from one another along a set U of hops. Assumes nothing: these are definitions.
+use Prim.Native.Nat.{ℕ}
+use mathlib.Core.Path.{_≡_}
+use mathlib.Core.Bool.{true}
+use mathlib.Core.List.{List}
+use mathlib.Core.Logic.{_↔_}
+use Rattle.lts.specs.Closes.{Reach, Via}
+use Rattle.bits.specs.Bits.{inTable}
+
+-- a state has afterwards what those that it comes to had before
+abbrev pub Back : (ℕ → ℕ → Type 0) → Reach → List ℕ → List ℕ → Type 0
+Back U r old new = (s b : ℕ) → (inTable new s b ≡ true) ↔ ((t : ℕ) × Via U r s t × (inTable old t b ≡ true))
+
+-- a state has afterwards what those that come to it had before
+abbrev pub Forth : (ℕ → ℕ → Type 0) → Reach → List ℕ → List ℕ → Type 0
+Forth U r old new = (t b : ℕ) → (inTable new t b ≡ true) ↔ ((s : ℕ) × Via U r s t × (inTable old s b ≡ true))
