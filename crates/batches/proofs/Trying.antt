@@ -5,13 +5,12 @@ use Prim.Native.Nat.{ℕ, _+_, _-_, _<_, _≤_}
 use mathlib.Core.Path.{_≡_, refl, sym, ap, _∙_}
 use mathlib.Core.Bool.{Bool, true, false, not, cond, _&&_, _||_}
 use mathlib.Core.List.{List}
-use mathlib.Core.Logic.{_⊎_, inl, inr, ⊎-elim, _↔_}
+use mathlib.Core.Logic.{_⊎_, inl, inr, ⊎-elim}
 use native.Mathlib.Omega.{arith}
-use lib.ListN.{length, getD, drop}
+use lib.ListN.{getD, drop}
 use lib.Dec.{eqb, ltb}
 use borrow.Author.Tests.{eqb-true, eq-eqb, lt-ltb, ltb-true}
-use Rattle.below.specs.Tests.{all}
-use Rattle.below.proofs.Bools.{clash, and-yes, and-left, and-right, or-left, or-right, or-yes, lt-or-le}
+use Rattle.below.proofs.Bools.{and-yes, and-left, and-right, lt-or-le}
 use Rattle.below.proofs.Tests.{all-at, all-yes, any-found}
 use Rattle.outputs.specs.Output.{onFront}
 use Rattle.graph.specs.Hops.{count, from, label, to, is, has}
@@ -19,9 +18,9 @@ use Rattle.graph.specs.Order.{Ascending}
 use Rattle.graph.specs.declared.Shape.{Shape}
 use Rattle.graph.proofs.Places.{has-at, has-place, is-yes, is-from, is-to}
 use Rattle.limits.specs.Check.{InRange}
-use Rattle.lts.specs.Closes.{Reach, nowhere, Via, here, Sense, Answered, Closes}
+use Rattle.lts.specs.Closes.{nowhere, Via, here, Sense, Answered, Closes}
 use Rattle.silent.specs.Silent.{HopOf}
-use Rattle.shrinking.specs.Pairs.{Pairs, In, Within}
+use Rattle.shrinking.specs.Pairs.{Pairs, In}
 use Rattle.confluence.specs.Held.{isMarked, heldBy, marksOf}
 use Rattle.confluence.proofs.Held.{held-says, held-yes}
 use Rattle.senses.specs.Senses.{closesIn, markedIn}

@@ -15,7 +15,6 @@ use trials::put_answers;
 use trials::put_ends;
 use trials::put_froms;
 use trials::put_labels;
-ghost use mathlib.Core.Path.{_≡_};
 ghost use Prim.Native.Nat.{_+_, _<_, _≤_};
 ghost use lib.ListN.{length};
 ghost use Rattle.graph.specs.Hops.{count};

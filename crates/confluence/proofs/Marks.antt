@@ -13,7 +13,7 @@ use Rattle.below.specs.Tests.{listed}
 use Rattle.below.proofs.Bools.{and-yes, and-left, and-right, same-test}
 use Rattle.below.proofs.Tests.{length-listed, getD-listed}
 use Rattle.outputs.specs.Output.{onFront}
-use Rattle.graph.specs.Hops.{count, from, label, to, is, has}
+use Rattle.graph.specs.Hops.{count, from, label, to, has}
 use Rattle.graph.proofs.Places.{is-yes, is-from, is-to, has-place, place-has}
 use Rattle.shrinking.specs.Pairs.{Pairs, In, Within}
 use Rattle.confluence.specs.Rounds.{silentHops}

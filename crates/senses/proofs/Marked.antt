@@ -5,8 +5,8 @@ use mathlib.Core.Path.{_≡_, ap, _∙_}
 use mathlib.Core.Bool.{true}
 use mathlib.Core.List.{List}
 use mathlib.Core.Logic.{_↔_}
-use Rattle.below.proofs.Bools.{and-left, and-right, same-test}
-use Rattle.graph.specs.Hops.{count, has}
+use Rattle.below.proofs.Bools.{same-test}
+use Rattle.graph.specs.Hops.{count}
 use Rattle.graph.specs.declared.Shape.{Shape}
 use Rattle.limits.specs.Check.{InRange}
 use Rattle.lts.specs.Closes.{Sense, r1, r2, r3, r8, SetOf, Greatest, Implies}
@@ -15,7 +15,7 @@ use Rattle.lts.proofs.SenseForms.{r1-iff}
 use Rattle.silent.specs.Silent.{HopOf}
 use Rattle.shrinking.specs.Pairs.{Pairs, In, Within}
 use Rattle.shrinking.specs.Rounds.{Monotone, Kept}
-use Rattle.shrinking.proofs.Rounds.{left-within, left-fixed, left-greatest, left-kept, left-same}
+use Rattle.shrinking.proofs.Rounds.{left-within, left-greatest, left-kept, left-same}
 use Rattle.confluence.specs.Rounds.{silentHops, marked, ConfluentSet}
 use Rattle.confluence.proofs.Rounds.{silent-listed}
 use Rattle.confluence.proofs.Marked.{marked-confluent, marked-greatest}

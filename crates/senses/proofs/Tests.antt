@@ -1,18 +1,17 @@
 -- What the tests of a sense say, and the other way round: `closesIn` is the condition of `lts: Closes`, with "in U" read as `u s t ≡ true`. And they only
 -- grow with the set. No sense is named here. Assumes nothing.
 use Prim.Native.Nat.{ℕ, zero, suc, _<_}
-use mathlib.Core.Path.{_≡_, refl, sym, _∙_}
-use mathlib.Core.Bool.{Bool, true, _&&_, _||_}
+use mathlib.Core.Path.{_≡_, refl}
+use mathlib.Core.Bool.{Bool, true, _&&_}
 use mathlib.Core.List.{List}
 use mathlib.Core.Logic.{_⊎_, inl, inr, ⊎-elim}
 use lib.Dec.{eqb}
 use borrow.Author.Tests.{eq-eqb, ne-eqb, eqb-true}
-use Rattle.below.specs.Tests.{any}
 use Rattle.below.proofs.Bools.{and-yes, and-left, and-right, or-left, or-right, or-yes, eq-or-not}
 use Rattle.below.proofs.Tests.{all-at, all-yes, any-at, any-found}
 use Rattle.graph.specs.Hops.{count, from, label, to, has}
 use Rattle.graph.specs.declared.Shape.{Shape}
-use Rattle.graph.proofs.Places.{has-at, has-place, place-has}
+use Rattle.graph.proofs.Places.{has-at, has-place}
 use Rattle.limits.specs.Check.{InRange}
 use Rattle.lts.specs.Star.{Star, stay, go}
 use Rattle.lts.specs.Closes.{Reach, nowhere, single, walks, Via, here, hop, walk, Sense, Answered, Closes}

@@ -16,7 +16,7 @@ use starts::wide;
 ghost use mathlib.Core.Path.{_≡_};
 ghost use Prim.Native.Nat.{_+_, _<_, _≤_, _^_};
 ghost use lib.Bits.{bitOr};
-ghost use lib.ListN.{length, getD, set, replicate};
+ghost use lib.ListN.{getD, set, replicate};
 ghost use Rattle.graph.specs.Hops.{count, from, label, to};
 ghost use Rattle.graph.specs.Answers.{most-states};
 ghost use Rattle.limits.specs.Check.{Admitted};

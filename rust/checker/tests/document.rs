@@ -222,7 +222,7 @@ fn the_case_of_the_senses() {
     assert_eq!(reduced_in(8, 5, 2, &hops), (vec![0, 0, 1, 1, 1], vec![0, 1, 1], vec![2, 2, 1, 0]));
 }
 
-/// W7.5: only R8 closes by a walk, and R2 and R3 are not comparable.
+/// Only R8 closes by a walk, and R2 and R3 are not comparable.
 #[test]
 fn the_senses_apart() {
     let marks = |states, hops: &[u16], place: usize| in_each(states, 2, hops).map(|marks| marks[place]);
@@ -231,26 +231,26 @@ fn the_senses_apart() {
     assert_eq!(marks(3, &[0, 0, 1, 0, 1, 0, 1, 0, 2, 2, 1, 1], 0), [0, 0, 1, 1]);
 }
 
-/// W7.3: walks go over marked hops alone.
+/// Walks go over marked hops alone.
 #[test]
 fn walks_over_marked_hops() {
     assert_eq!(marks_in(2, 3, 2, &[1, 0, 2, 1, 1, 0, 2, 0, 0, 2, 1, 2])[0], 0);
 }
 
-/// W7.2: a silent hop needs no answer where the walk ends.
+/// A silent hop needs no answer where the walk ends.
 #[test]
 fn a_silent_hop_alone() {
     assert_eq!(in_each(2, 1, &[0, 0, 1]), [[1]; 4].map(Vec::from));
 }
 
-/// W7.6: the walks are least also where there is a ring.
+/// The walks are least also where there is a ring.
 #[test]
 fn the_walks_on_a_ring() {
     let ring = [0, 0, 1, 0, 1, 0, 1, 0, 1];
     assert_eq!(marked(&graph(2, 2, &ring), 3)[0], 0);
 }
 
-/// W7.8: 19 stands after 4 and before 5 and 6.
+/// 19 stands after 4 and before 5 and 6.
 #[test]
 fn other_senses() {
     let (p1, ring) = (graph(4, 2, &P1), graph(1, 1, &[0, 0, 0]));

@@ -1,6 +1,6 @@
 -- `sweeps::settle` meets its contract: the marks hold the marked set, and a sweep that takes nothing leaves a confluent set.
 -- Assumes nothing.
-use Prim.Native.Nat.{ℕ, _+_, _<_}
+use Prim.Native.Nat.{_+_}
 use mathlib.Core.Path.{_≡_, refl, _∙_}
 use native.Mathlib.Omega.{arith}
 use lib.ListN.{length, drop}

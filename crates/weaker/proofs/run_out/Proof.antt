@@ -4,10 +4,10 @@ use mathlib.Core.Path.{_≡_, refl, _∙_}
 use native.Mathlib.Omega.{arith}
 use borrow.Author.Needs.{needs}
 use lib.ListN.{length}
-use Rattle.senses.specs.Senses.{markedBy}
+use Rattle.senses.specs.Senses.{senseOf, markedBy}
 use Rattle.sweeps.specs.Sweep.{markCount, Swept}
 use Rattle.sweeps.proofs.Settling.{count-within, swept-none, swept-then}
-use Rattle.batches.specs.Batch.{Anything}
+use Rattle.batches.specs.Batch.{Anything, TriedIn}
 use Rattle.weaker.proofs.run_out.Statement.{statement}
 use Rattle.weaker.proofs.run_out.Tie as tie
 
@@ -37,8 +37,10 @@ loop-less c = omega (arith, c .before .before .try-batch .ensures .fewer, c .bef
 
 loop-again : tie.Need-loop-again Inv-loop μ-loop
 loop-again c =
+    let st = c .before .before .before .before .before .before .before .before .before .before .args in
     let v = c .before .before .before .before .before .before .loop .inv in
-    (c .before .before .try-batch .kept .1 .1 .1 .1 .1 .1 .1 .1 .0 ∙ v .0, swept-then (v .1) (c .before .before .try-batch .ensures) (λ a b. tt))
+    let tried = TriedIn (senseOf (st .sense)) (st .hops .now) (st .base) (st .base + st .m) in
+    (c .before .before .try-batch .kept .1 .1 .1 .1 .1 .1 .1 .1 .0 ∙ v .0, swept-then {B = tried} (v .1) (c .before .before .try-batch .ensures) (λ a b. tt))
 
 same-length : tie.Need-same-length Inv-loop μ-loop
 same-length c = c .before .loop .inv .0

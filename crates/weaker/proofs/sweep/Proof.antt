@@ -1,5 +1,5 @@
 -- `weaker::sweep` meets its contract, batch by batch. Assumes nothing.
-use Prim.Native.Nat.{_-_, _≤_}
+use Prim.Native.Nat.{_+_, _-_, _≤_}
 use mathlib.Core.Path.{_≡_, refl, _∙_}
 use native.Mathlib.Omega.{arith}
 use borrow.Author.Needs.{needs}
@@ -54,11 +54,15 @@ loop-less c = omega (arith, c .before .before .before .before .before .before .b
 loop-again : tie.Need-loop-again Inv-loop μ-loop
 loop-again c =
     let st = c .before .before .before .before .before .before .before .before .before .before .before .before in
-    let v = c .before .before .before .before .before .before .before .before .loop .inv in (
+    let v = c .before .before .before .before .before .before .before .before .loop .inv in
+    let k = senseOf (st .args .sense) in
+    let hs = st .args .hops .now in
+    let b = c .before .before .before .before .before .before .before .before .loop .base in
+    let m = c .before .before .before .before .before .before .batch-len .result in (
       v .0,
       c .before .before .before .before .before .before .batch-len .ensures .0,
       c .before .before .try-batch .kept .1 .1 .1 .1 .1 .1 .1 .1 .0 ∙ v .2,
-      swept-then (v .3) (c .before .before .try-batch .ensures) (tried-more (senseOf (st .args .sense)) (st .args .hops .now) _ _ _),
+      swept-then {B = TriedIn k hs b (b + m)} (v .3) (c .before .before .try-batch .ensures) (tried-more k hs b m (st .args .marks .now)),
     )
 
 same-length : tie.Need-same-length Inv-loop μ-loop
