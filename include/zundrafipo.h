@@ -24,7 +24,7 @@
 #include <stdint.h>
 
 #define ZF_VERSION_MAJOR 0
-#define ZF_VERSION_MINOR 3
+#define ZF_VERSION_MINOR 4
 #define ZF_VERSION_PATCH 0
 
 /* The limits. State and label counts are 1 at least. */
@@ -74,6 +74,7 @@
 #define ZF_ANSWER_MARK 3
 #define ZF_ANSWER_MARK_FAST 4
 #define ZF_ANSWER_REDUCE 7
+#define ZF_ANSWER_SHRINK 8
 #define ZF_ANSWER_AUDIT 7
 #define ZF_ANSWER_ROUND 4
 #define ZF_ANSWER_FIND 5
@@ -87,6 +88,7 @@
 #define ZF_STACK_MARK 49152
 #define ZF_STACK_MARK_FAST 49152
 #define ZF_STACK_REDUCE 65536
+#define ZF_STACK_SHRINK 131072
 #define ZF_STACK_AUDIT 40960
 #define ZF_STACK_ROUND 40960
 #define ZF_STACK_FIND 4096
@@ -113,6 +115,13 @@ uint32_t zf_mark_fast(uint32_t states, uint32_t labels, uint32_t initial, const 
 /* Reduces a graph in a sense (ZF_SENSE_..). Outputs: `map`, one number a state; `short_hops`, for which room is asked as for the input, hops_len numbers, and of which three
  * are written for each hop of the short graph. Figures: the short graph's state count, label count, hop count and initial state. */
 uint32_t zf_reduce(uint32_t states, uint32_t labels, uint32_t initial, const uint16_t *hops, size_t hops_len, uint32_t sense,
+                   uint16_t *map, size_t map_len, uint16_t *short_hops, size_t short_len, uint64_t *answer, size_t answer_len);
+
+/* Reduces in a sense (ZF_SENSE_..) again and again until no hop is marked, with the refusals of zf_reduce and room as it asks for. Outputs: `map`, one number a state of
+ * the graph that goes in, from first states to those of the last graph; `short_hops`, three numbers for each hop of the last graph. Figures: the last graph's state count,
+ * label count, hop count and initial state; the number of reductions that marked something, which is below the state count, and at most 1 under R8. With 0 the last graph is
+ * the first one, and each state is mapped to itself. */
+uint32_t zf_shrink(uint32_t states, uint32_t labels, uint32_t initial, const uint16_t *hops, size_t hops_len, uint32_t sense,
                    uint16_t *map, size_t map_len, uint16_t *short_hops, size_t short_len, uint64_t *answer, size_t answer_len);
 
 /* Counts the faults of a map from graph 1 to graph 2, and names the first; none: the map is a branching bisimulation that joins the initial states.

@@ -1,5 +1,5 @@
 /* What include/zundrafipo.h promises to a caller, tried on the library: its limits, the name of each number, of each sense and of each kind of fault, where a hop is found,
- * how long each answer is and what a short one does, and null pointers beside a length of 0. The same file is C and C++. */
+ * what shrinking leaves, how long each answer is and what a short one does, and null pointers beside a length of 0. The same file is C and C++. */
 #include <stdio.h>
 #include <string.h>
 #include "zundrafipo.h"
@@ -86,12 +86,17 @@ static void no_sense(const char *what, uint32_t number) {
     expect(what, answer[2], 0);
     expect(what, zf_reduce(P1, number, map, 4, list, 12, answer, ZF_ANSWER_REDUCE), ZF_SENSE);
     expect(what, answer[3] + answer[4] + answer[5] + answer[6], 0);
+    expect(what, zf_shrink(P1, number, map, 4, list, 12, answer, ZF_ANSWER_SHRINK), ZF_SENSE);
+    expect(what, answer[3] + answer[4] + answer[5] + answer[6] + answer[7], 0);
     expect(what, zf_mark(4, 2, 0, repeated, 6, number, marks, 4, answer, ZF_ANSWER_MARK), ZF_ORDER);
     expect(what, zf_reduce(4, 2, 0, repeated, 6, number, map, 4, list, 12, answer, ZF_ANSWER_REDUCE), ZF_ORDER);
+    expect(what, zf_shrink(4, 2, 0, repeated, 6, number, map, 4, list, 12, answer, ZF_ANSWER_SHRINK), ZF_ORDER);
     expect(what, zf_mark(4, 2, 0, silent_ring, 3, number, NULL, 0, answer, ZF_ANSWER_MARK), ZF_SENSE);
     expect(what, zf_reduce(4, 2, 0, silent_ring, 3, number, NULL, 0, NULL, 0, answer, ZF_ANSWER_REDUCE), ZF_SENSE);
+    expect(what, zf_shrink(4, 2, 0, silent_ring, 3, number, NULL, 0, NULL, 0, answer, ZF_ANSWER_SHRINK), ZF_SENSE);
     expect(what, zf_mark(P1, number, NULL, 0, NULL, 0), ZF_SENSE);
     expect(what, zf_reduce(P1, number, NULL, 0, NULL, 0, NULL, 0), ZF_SENSE);
+    expect(what, zf_shrink(P1, number, NULL, 0, NULL, 0, NULL, 0), ZF_SENSE);
 }
 
 /* The case that only R8 marks whole; one that R2 marks and R3 does not, and the other way round, each with a hop more so that there are five. */
@@ -120,6 +125,68 @@ static void senses(void) {
     no_sense("sense 258", 258);
     no_sense("sense 65,537", 65537);
     no_sense("the highest sense", UINT32_MAX);
+}
+
+/* How many of the elements from a place up to another are not as they were set before a call. */
+static uint64_t altered(const uint16_t *at, size_t from, size_t to) {
+    uint64_t count = 0;
+    for (; from < to; from++) count += at[from] != 256 * UNWRITTEN + UNWRITTEN;
+    return count;
+}
+
+/* Shrinks so many numbers of a list in a sense and compares all that it leaves; what is behind the map and the hops stays as it was. */
+static void shrunk(const char *what, uint32_t number, uint32_t states, const uint16_t *list_of, size_t len, const uint16_t *last_map, const uint16_t *last, size_t last_len,
+                   const uint64_t *figures) {
+    size_t i;
+    memset(map, UNWRITTEN, sizeof map);
+    memset(list, UNWRITTEN, sizeof list);
+    for (i = 0; i < 16; i++) answer[i] = UNWRITTEN;
+    expect(what, zf_shrink(states, 3, 0, list_of, len, number, map, ZF_MOST_STATES, list, NUMBERS, answer, 16), ZF_ACCEPTED);
+    expect(what, answer[0], ZF_ACCEPTED);
+    expect(what, answer[1], 1);
+    expect(what, answer[2], 0);
+    for (i = 0; i < 5; i++) expect(what, answer[3 + i], figures[i]);
+    for (i = ZF_ANSWER_SHRINK; i < 16; i++) expect(what, answer[i], UNWRITTEN);
+    for (i = 0; i < states; i++) expect(what, map[i], last_map[i]);
+    for (i = 0; i < last_len; i++) expect(what, list[i], last[i]);
+    expect(what, altered(map, states, ZF_MOST_STATES) + altered(list, last_len, NUMBERS), 0);
+}
+
+/* A refusal of shrink: its number and place, no figures, and outputs that stay as they were. */
+static void not_shrunk(const char *what, uint32_t states, uint32_t initial, const uint16_t *list_of, size_t len, size_t map_len, size_t short_len,
+                       uint32_t number, uint64_t place) {
+    size_t i;
+    memset(map, UNWRITTEN, sizeof map);
+    memset(list, UNWRITTEN, sizeof list);
+    expect(what, zf_shrink(states, 3, initial, list_of, len, ZF_SENSE_R1, map, map_len, list, short_len, answer, ZF_ANSWER_SHRINK), number);
+    expect(what, answer[0], number);
+    expect(what, answer[1], 1);
+    expect(what, answer[2], place);
+    for (i = 3; i < ZF_ANSWER_SHRINK; i++) expect(what, answer[i], 0);
+    expect(what, altered(map, 0, ZF_MOST_STATES) + altered(list, 0, NUMBERS), 0);
+}
+
+/* A chain of three states that takes two reductions, but under R8 one; P2, in which nothing is marked; and no hops. */
+static void shrinking(void) {
+    static const uint16_t chain[24] = {0, 0, 1, 0, 1, 0, 0, 2, 0, 1, 0, 2, 1, 1, 1, 1, 2, 0, 2, 1, 0, 2, 2, 2}, last[6] = {0, 1, 0, 0, 2, 0};
+    static const uint16_t to_one[4] = {0, 0, 0, 0}, to_each[4] = {0, 1, 2, 3}, ring_behind[6] = {0, 0, 1, 1, 0, 1}, repeated[6] = {0, 0, 1, 0, 0, 1};
+    static const uint64_t twice[5] = {1, 3, 2, 0, 2}, once[5] = {1, 3, 2, 0, 1}, never[5] = {4, 3, 3, 0, 0}, alone[5] = {2, 3, 0, 0, 0};
+    static const uint32_t senses_of[4] = {ZF_SENSE_R1, ZF_SENSE_R2, ZF_SENSE_R3, ZF_SENSE_R8};
+    static const char *const names_of[4] = {"shrink R1", "shrink R2", "shrink R3", "shrink R8"};
+    size_t i;
+    for (i = 0; i < 4; i++) {
+        shrunk(names_of[i], senses_of[i], 3, chain, 24, to_one, last, 6, i < 3 ? twice : once);
+        shrunk(names_of[i], senses_of[i], 4, p1, 9, to_each, p1, 9, never);
+        shrunk(names_of[i], senses_of[i], 2, NULL, 0, to_each, NULL, 0, alone);
+    }
+    not_shrunk("shrink's ZF_COUNTS", 4, 0, p1, 11, 4, 12, ZF_COUNTS, 0);
+    not_shrunk("shrink's ZF_INITIAL", 4, 4, p1, 12, 4, 12, ZF_INITIAL, 0);
+    not_shrunk("shrink's ZF_HOP", 3, 0, p1, 12, 4, 12, ZF_HOP, 2);
+    not_shrunk("shrink's ZF_ORDER", 4, 0, repeated, 6, 4, 12, ZF_ORDER, 1);
+    not_shrunk("shrink's ZF_RING", 4, 0, ring_behind, 6, 4, 12, ZF_RING, 1);
+    not_shrunk("shrink's ZF_RING before ZF_ROOM", 4, 0, ring_behind, 6, 0, 0, ZF_RING, 1);
+    not_shrunk("shrink's ZF_ROOM for the map", 3, 0, chain, 24, 2, 24, ZF_ROOM, 0);
+    not_shrunk("shrink's ZF_ROOM for the hops", 3, 0, chain, 24, 3, 23, ZF_ROOM, 0);
 }
 
 /* An audit of P1 with so many numbers of p1_short and an initial state: its fault count, and the first fault. */
@@ -175,6 +242,7 @@ static uint32_t check(size_t n) { return zf_check(P1, answer, n); }
 static uint32_t mark(size_t n) { return zf_mark(P1, ZF_SENSE_R1, marks, 4, answer, n); }
 static uint32_t mark_fast(size_t n) { return zf_mark_fast(P1, marks, 4, answer, n); }
 static uint32_t reduce(size_t n) { return zf_reduce(P1, ZF_SENSE_R1, map, 4, list, 12, answer, n); }
+static uint32_t shrink(size_t n) { return zf_shrink(P1, ZF_SENSE_R1, map, 4, list, 12, answer, n); }
 static uint32_t audit(size_t n) { return zf_audit(P1, 2, 2, 0, p1_short, 6, p1_map, 4, answer, n); }
 static uint32_t round_of(size_t n) { return zf_round(P1, 0, 1, answer, n); }
 static uint32_t find(size_t n) { return zf_find(P1, 2, 0, 3, answer, n); }
@@ -182,14 +250,14 @@ static uint32_t hops_of(size_t n) { return zf_hops_of(1, 1, P1, 2, 2, 0, p1_shor
 static uint32_t write_p1(size_t n) { return zf_write(P1, name, 2, file, sizeof file, answer, n); }
 static uint32_t read_p1(size_t n) { return zf_read(file, length, list, NUMBERS, answer, n); }
 
-/* An answer that is just long enough is written and nothing behind it; one that is an element shorter is not, nor is any other output. */
+/* An answer that is just long enough is written and nothing behind it; a shorter one is not, nor is any other output. */
 static void answer_of(const char *entry, uint32_t (*call)(size_t), size_t takes, uint64_t last) {
     size_t i;
     memset(marks, UNWRITTEN, sizeof marks);
     memset(map, UNWRITTEN, sizeof map);
     memset(list, UNWRITTEN, sizeof list);
     for (i = 0; i < 16; i++) answer[i] = UNWRITTEN;
-    expect(entry, call(takes - 1), ZF_ROOM);
+    for (i = 0; i < takes; i++) expect(entry, call(i), ZF_ROOM);
     for (i = 0; i < 16; i++) expect(entry, answer[i], UNWRITTEN);
     expect(entry, marks[0], UNWRITTEN);
     expect(entry, map[0], 256 * UNWRITTEN + UNWRITTEN);
@@ -204,6 +272,7 @@ static void answers(void) {
     answer_of("zf_mark's answer", mark, ZF_ANSWER_MARK, 0);
     answer_of("zf_mark_fast's answer", mark_fast, ZF_ANSWER_MARK_FAST, 2);
     answer_of("zf_reduce's answer", reduce, ZF_ANSWER_REDUCE, 0);
+    answer_of("zf_shrink's answer", shrink, ZF_ANSWER_SHRINK, 1);
     answer_of("zf_audit's answer", audit, ZF_ANSWER_AUDIT, 2);
     answer_of("zf_round's answer", round_of, ZF_ANSWER_ROUND, 1);
     answer_of("zf_find's answer", find, ZF_ANSWER_FIND, 3);
@@ -230,6 +299,12 @@ static void nothing(void) {
     expect("reduce no map", zf_reduce(1, 1, 0, NULL, 0, ZF_SENSE_R8, NULL, 0, NULL, 0, answer, ZF_ANSWER_REDUCE), ZF_ROOM);
     expect("reduce no room", zf_reduce(P1, ZF_SENSE_R1, map, 4, NULL, 0, answer, ZF_ANSWER_REDUCE), ZF_ROOM);
     expect("reduce no answer", zf_reduce(P1, ZF_SENSE_R1, map, 4, list, 12, NULL, 0), ZF_ROOM);
+    expect("shrink no hops", zf_shrink(1, 1, 0, NULL, 0, ZF_SENSE_R8, map, 1, NULL, 0, answer, ZF_ANSWER_SHRINK), ZF_ACCEPTED);
+    expect("its states", answer[3], 1);
+    expect("its hops and reductions", answer[5] + answer[7], 0);
+    expect("shrink no map", zf_shrink(1, 1, 0, NULL, 0, ZF_SENSE_R8, NULL, 0, NULL, 0, answer, ZF_ANSWER_SHRINK), ZF_ROOM);
+    expect("shrink no room", zf_shrink(P1, ZF_SENSE_R1, map, 4, NULL, 0, answer, ZF_ANSWER_SHRINK), ZF_ROOM);
+    expect("shrink no answer", zf_shrink(P1, ZF_SENSE_R1, map, 4, list, 12, NULL, 0), ZF_ROOM);
     expect("audit no hops", zf_audit(4, 2, 0, NULL, 0, 2, 2, 0, NULL, 0, p1_map, 4, answer, ZF_ANSWER_AUDIT), ZF_ACCEPTED);
     expect("its faults", answer[3], 0);
     expect("its first fault", answer[4], ZF_FAULT_NONE);
@@ -258,6 +333,7 @@ int main(void) {
     limits();
     numbers();
     senses();
+    shrinking();
     faults();
     places();
     answers();

@@ -16,7 +16,8 @@
 #define NAMES (ZF_MOST_LABELS - 1)
 #define BLOCK (NAMES * (ZF_LONGEST_NAME + 1))
 
-static uint16_t tiles[NUMBERS], unordered[NUMBERS], ring[NUMBERS], falling[NUMBERS], turned[NUMBERS], knot[NUMBERS], small[NUMBERS], read_hops[NUMBERS], written_hops[NUMBERS];
+static uint16_t tiles[NUMBERS], unordered[NUMBERS], ring[NUMBERS], falling[NUMBERS], turned[NUMBERS], again[NUMBERS], knot[NUMBERS], small[NUMBERS];
+static uint16_t read_hops[NUMBERS], written_hops[NUMBERS];
 static uint16_t map[ZF_MOST_STATES], wrong_map[ZF_MOST_STATES], one_class[ZF_MOST_STATES], written_map[ZF_MOST_STATES];
 static const uint16_t loops[12] = {0, 1, 0, 0, 2, 0, 0, 3, 0, 0, 4, 0}; /* all but the last are the ring's */
 static uint8_t names[BLOCK], repeated[BLOCK], marks[ZF_MOST_HOPS], out[ZF_LONGEST_FILE], file[ZF_LONGEST_FILE + 1], repeated_file[ZF_LONGEST_FILE];
@@ -67,6 +68,19 @@ static void fill_turned(void) {
     for (unsigned l = 1; l <= 8; l++)
         for (unsigned i = 0; i < (l < 8 ? 511 : 8); i++) at = put_hop(at, 0, l, 1 + i);
     for (unsigned i = 0; i < 511; i++) at = put_hop(at, 1 + i, 0, ZF_MOST_STATES - 1 - i);
+}
+
+/* A silent chain in which state i has a hop labelled 1 to itself for odd i and to 0 for even i, and one labelled 2 the other way round: each reduction takes off one state,
+ * but under R8 one takes off all. By labels 3 and 4, which change nothing, there are as many hops as there can be. */
+static void fill_again(void) {
+    uint16_t *at = again;
+    for (unsigned s = 0; s < ZF_MOST_STATES; s++) {
+        if (s + 1 < ZF_MOST_STATES) at = put_hop(at, s, 0, s + 1);
+        at = put_hop(at, s, 1, s % 2 == 1 ? s : 0);
+        at = put_hop(at, s, 2, s % 2 == 0 ? s : 0);
+        at = put_hop(at, s, 3, s);
+    }
+    put_hop(at, ZF_MOST_STATES - 1, 4, 0);
 }
 
 /* 64 states, a silent hop from each to each. */
@@ -133,6 +147,30 @@ static uint32_t reduce_sense(void) { return reduce_in(4, tiles, ZF_ANSWER_REDUCE
 static uint32_t reduce_ring(void) { return reduce_in(ZF_SENSE_R8, ring, ZF_ANSWER_REDUCE); }
 static uint32_t reduce_short(void) { return reduce_in(ZF_SENSE_R1, tiles, ZF_ANSWER_REDUCE - 1); }
 static uint32_t reduce_short_r8(void) { return reduce_in(ZF_SENSE_R8, tiles, ZF_ANSWER_REDUCE - 1); }
+
+static uint32_t shrink_in(uint32_t sense, const uint16_t *hops, size_t answer_len) {
+    return zf_shrink(FULL, LIST(hops), sense, written_map, ZF_MOST_STATES, LIST(written_hops), answer, answer_len);
+}
+static uint32_t shrink(void) { return shrink_in(ZF_SENSE_R1, tiles, ZF_ANSWER_SHRINK); }
+static uint32_t shrink_r2(void) { return shrink_in(ZF_SENSE_R2, tiles, ZF_ANSWER_SHRINK); }
+static uint32_t shrink_r3(void) { return shrink_in(ZF_SENSE_R3, tiles, ZF_ANSWER_SHRINK); }
+static uint32_t shrink_r8(void) { return shrink_in(ZF_SENSE_R8, tiles, ZF_ANSWER_SHRINK); }
+static uint32_t shrink_again(void) { return shrink_in(ZF_SENSE_R1, again, ZF_ANSWER_SHRINK); }
+static uint32_t shrink_again_r2(void) { return shrink_in(ZF_SENSE_R2, again, ZF_ANSWER_SHRINK); }
+static uint32_t shrink_again_r3(void) { return shrink_in(ZF_SENSE_R3, again, ZF_ANSWER_SHRINK); }
+static uint32_t shrink_again_r8(void) { return shrink_in(ZF_SENSE_R8, again, ZF_ANSWER_SHRINK); }
+static uint32_t shrink_falling(void) { return shrink_in(ZF_SENSE_R1, falling, ZF_ANSWER_SHRINK); }
+static uint32_t shrink_falling_r2(void) { return shrink_in(ZF_SENSE_R2, falling, ZF_ANSWER_SHRINK); }
+static uint32_t shrink_falling_r3(void) { return shrink_in(ZF_SENSE_R3, falling, ZF_ANSWER_SHRINK); }
+static uint32_t shrink_falling_r8(void) { return shrink_in(ZF_SENSE_R8, falling, ZF_ANSWER_SHRINK); }
+static uint32_t shrink_turned(void) { return shrink_in(ZF_SENSE_R1, turned, ZF_ANSWER_SHRINK); }
+static uint32_t shrink_turned_r2(void) { return shrink_in(ZF_SENSE_R2, turned, ZF_ANSWER_SHRINK); }
+static uint32_t shrink_turned_r3(void) { return shrink_in(ZF_SENSE_R3, turned, ZF_ANSWER_SHRINK); }
+static uint32_t shrink_turned_r8(void) { return shrink_in(ZF_SENSE_R8, turned, ZF_ANSWER_SHRINK); }
+static uint32_t shrink_sense(void) { return shrink_in(4, tiles, ZF_ANSWER_SHRINK); }
+static uint32_t shrink_ring(void) { return shrink_in(ZF_SENSE_R8, ring, ZF_ANSWER_SHRINK); }
+static uint32_t shrink_short(void) { return shrink_in(ZF_SENSE_R1, again, ZF_ANSWER_SHRINK - 1); }
+static uint32_t shrink_short_r8(void) { return shrink_in(ZF_SENSE_R8, again, ZF_ANSWER_SHRINK - 1); }
 
 static uint32_t audit_with(const uint16_t *by) {
     return zf_audit(FULL, LIST(tiles), ZF_MOST_STATES / 2, ZF_MOST_LABELS, ZF_MOST_STATES / 2 - 1, small, small_len, by, ZF_MOST_STATES, answer, ZF_ANSWER_AUDIT);
@@ -218,6 +256,26 @@ static const struct call calls[] = {
     {"zf_reduce", "a ring of 1,024 states", reduce_ring, ZF_RING, 5, 0, ZF_STACK_REDUCE},
     {"zf_reduce", "R1, answer too short", reduce_short, ZF_ROOM, 0, 0, ZF_STACK_REDUCE},
     {"zf_reduce", "R8, answer too short", reduce_short_r8, ZF_ROOM, 0, 0, ZF_STACK_REDUCE},
+    {"zf_shrink", "R1", shrink, ZF_ACCEPTED, 5, 1792, ZF_STACK_SHRINK},
+    {"zf_shrink", "R2", shrink_r2, ZF_ACCEPTED, 5, 1792, ZF_STACK_SHRINK},
+    {"zf_shrink", "R3", shrink_r3, ZF_ACCEPTED, 5, 1792, ZF_STACK_SHRINK},
+    {"zf_shrink", "R8", shrink_r8, ZF_ACCEPTED, 5, 1792, ZF_STACK_SHRINK},
+    {"zf_shrink", "R1, a chain, each reduction takes one state", shrink_again, ZF_ACCEPTED, 7, ZF_MOST_STATES - 1, ZF_STACK_SHRINK},
+    {"zf_shrink", "R2, that chain", shrink_again_r2, ZF_ACCEPTED, 7, ZF_MOST_STATES - 1, ZF_STACK_SHRINK},
+    {"zf_shrink", "R3, that chain", shrink_again_r3, ZF_ACCEPTED, 7, ZF_MOST_STATES - 1, ZF_STACK_SHRINK},
+    {"zf_shrink", "R8, that chain, in one reduction", shrink_again_r8, ZF_ACCEPTED, 7, 1, ZF_STACK_SHRINK},
+    {"zf_shrink", "R1, a chain that falls a hop a round", shrink_falling, ZF_ACCEPTED, 7, 0, ZF_STACK_SHRINK},
+    {"zf_shrink", "R2, the chain", shrink_falling_r2, ZF_ACCEPTED, 7, 1, ZF_STACK_SHRINK},
+    {"zf_shrink", "R3, the chain", shrink_falling_r3, ZF_ACCEPTED, 7, 0, ZF_STACK_SHRINK},
+    {"zf_shrink", "R8, the chain", shrink_falling_r8, ZF_ACCEPTED, 7, 1, ZF_STACK_SHRINK},
+    {"zf_shrink", "R1, 3,585 images in descending order", shrink_turned, ZF_ACCEPTED, 5, 3585, ZF_STACK_SHRINK},
+    {"zf_shrink", "R2, the images", shrink_turned_r2, ZF_ACCEPTED, 5, 3585, ZF_STACK_SHRINK},
+    {"zf_shrink", "R3, the images", shrink_turned_r3, ZF_ACCEPTED, 5, 3585, ZF_STACK_SHRINK},
+    {"zf_shrink", "R8, the images", shrink_turned_r8, ZF_ACCEPTED, 5, 3585, ZF_STACK_SHRINK},
+    {"zf_shrink", "a sense that is none", shrink_sense, ZF_SENSE, 7, 0, ZF_STACK_SHRINK},
+    {"zf_shrink", "a ring of 1,024 states", shrink_ring, ZF_RING, 7, 0, ZF_STACK_SHRINK},
+    {"zf_shrink", "R1, answer too short", shrink_short, ZF_ROOM, 0, 0, ZF_STACK_SHRINK},
+    {"zf_shrink", "R8, answer too short", shrink_short_r8, ZF_ROOM, 0, 0, ZF_STACK_SHRINK},
     {"zf_audit", "of what reduce left", audit, ZF_ACCEPTED, 3, 0, ZF_STACK_AUDIT},
     {"zf_audit", "a ring of 1,024 states in one class", audit_ring, ZF_ACCEPTED, 3, 0, ZF_STACK_AUDIT},
     {"zf_audit", "all states to one, the initial one too", audit_apart, ZF_ACCEPTED, 4, ZF_FAULT_INITIAL, ZF_STACK_AUDIT},
@@ -283,6 +341,7 @@ static int prepare(const char *path) {
     fill_ring();
     fill_falling();
     fill_turned();
+    fill_again();
     fill_knot();
     fill_names();
     if (zf_write(FULL, LIST(tiles), names, BLOCK, file, sizeof file, answer, ZF_ANSWER_WRITE) != ZF_ACCEPTED || answer[3] != ZF_LONGEST_FILE) return 0;

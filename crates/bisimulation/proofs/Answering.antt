@@ -1,7 +1,8 @@
 -- The ways out of the entry, in the words of what it returns; and what was admitted can be audited. Assumes nothing.
 use Prim.Native.Nat.{ℕ}
-use mathlib.Core.Path.{_≡_}
+use mathlib.Core.Path.{_≡_, refl, sym, ap, _∙_}
 use mathlib.Core.List.{List}
+use mathlib.Core.Logic.{_↔_}
 use native.Mathlib.Omega.{arith}
 use borrow.Author.Tests.{eq-eqb, ne-eqb}
 use Rattle.graph.specs.declared.Shape.{Shape}
@@ -12,8 +13,9 @@ use Rattle.faults.specs.First.{noFault, firstFault}
 use Rattle.faults.specs.Images.{Auditable}
 use Rattle.faults.specs.declared.Fault.{Fault}
 use Rattle.fitting.specs.Fitting.{auditAnswer}
-use Rattle.fitting.proofs.Fits.{Audited}
-use Rattle.bisimulation.specs.Auditing.{auditOf}
+use Rattle.faults.proofs.Naming.{none-named}
+use Rattle.fitting.proofs.Fits.{Audited, answer-audited, audited-answer}
+use Rattle.bisimulation.specs.Auditing.{auditOf, faultless}
 use Rattle.bisimulation.specs.declared.Audit.{Audit}
 
 pub auditable : {sh1 sh2 : Shape} {h1 h2 m : List ℕ} → Audited sh1 sh2 h1 h2 m → Auditable sh1 h1 h2 m
@@ -35,3 +37,16 @@ module _ (sh1 sh2 : Shape) (h1 h2 m : List ℕ) {a : Answer} (ea : a ≡ auditAn
       _≡_ {A = Audit} (record { answer = a; faults = x; first = f }) (auditOf sh1 sh2 h1 h2 m)
   unfolding auditOf
   audit-counts z e n = rw (← ea, eq-eqb _ _ z, e, n)
+
+-- the audit accepts and finds no fault exactly where all that was lent is admitted and the count is 0
+pub faultless-iff : (sh1 sh2 : Shape) (h1 h2 m : List ℕ) → (auditOf sh1 sh2 h1 h2 m ≡ faultless) ↔ (Audited sh1 sh2 h1 h2 m × (faultsOf sh1 sh2 h1 h2 m ≡ 0))
+unfolding auditOf
+faultless-iff sh1 sh2 h1 h2 m = (λ e. (audited e, none e), λ (a, z). sym (audit-counts sh1 sh2 h1 h2 m (sym (audited-answer sh1 sh2 h1 h2 m a)) refl (sym z) (none-named sh1 sh2 h1 h2 m z))) where
+  zero : auditOf sh1 sh2 h1 h2 m ≡ faultless → auditAnswer sh1 sh2 h1 h2 m .number ≡ 0
+  zero e = ap (λ (x : Audit). x .answer .number) e
+
+  audited : auditOf sh1 sh2 h1 h2 m ≡ faultless → Audited sh1 sh2 h1 h2 m
+  audited e = answer-audited sh1 sh2 h1 h2 m (zero e)
+
+  none : auditOf sh1 sh2 h1 h2 m ≡ faultless → faultsOf sh1 sh2 h1 h2 m ≡ 0
+  none e = ap (λ (x : Audit). x .faults) (audit-counts sh1 sh2 h1 h2 m refl (zero e) refl refl ∙ e)

@@ -27,16 +27,14 @@ use Rattle.bisimulation.specs.Bisimulation.{BranchingBisimulation, MapRe
 -- the map loses no hop of graph 1 and makes no hop of graph 2 up, and leads from the one initial state to the other
 pub record Faultless (sh1 sh2 : Shape) (h1 h2 m : List ℕ) : Type 0 where
   pub joins : mapped m (sh1 .initial) ≡ sh2 .initial
-  pub fore : (s a t : ℕ) → HopOf h1 s a t → ((a ≡ 0) × (mapped m s ≡ mapped m t)) ⊎ HopOf h2 (mapped m s) a (mapped m t)
-  pub back :
-      (s a q : ℕ) → s < sh1 .states → HopOf h2 (mapped m s) a q → ((a ≡ 0) × (mapped m s ≡ q)) ⊎ Back (HopOf h1) (mapped m) s a q
+  pub keeps : Reduces (λ s. s < sh1 .states) (HopOf h1) (HopOf h2) (mapped m)
 
 -- both ends of a hop are states
 module _ {sh : Shape} {hs : List ℕ} (ranged : InRange sh hs) (s a t : ℕ) (h : HopOf hs s a t) where
-  hop-from : s < sh .states
+  pub hop-from : s < sh .states
   hop-from = let p = has-place hs s a t h in rw (p .from-is) at (ranged .from-in (p .at) (p .within))
 
-  hop-to : t < sh .states
+  pub hop-to : t < sh .states
   hop-to = let p = has-place hs s a t h in rw (p .to-is) at (ranged .to-in (p .at) (p .within))
 
 module _ (h1 h2 m : List ℕ) where
@@ -114,9 +112,9 @@ module _ (sh1 sh2 : Shape) (h1 h2 m : List ℕ) (ranged : InRange sh1 h1) where
     go (inl e) = and-no-right (eqb (mapped m s) (from h2 j)) (not-yes (f (eqb-true _ _ e)))
     go (inr e) = and-no-left _ e
 
-  zero-faultless : faultsOf sh1 sh2 h1 h2 m ≡ 0 → Faultless sh1 sh2 h1 h2 m
+  pub zero-faultless : faultsOf sh1 sh2 h1 h2 m ≡ 0 → Faultless sh1 sh2 h1 h2 m
   unfolding faultsOf initialFault lostFaults madeUpFaults
-  zero-faultless z = record { joins = joined (eqb (mapped m (sh1 .initial)) (sh2 .initial)) refl first; fore = ahead; back = behind }
+  zero-faultless z = record { joins = joined (eqb (mapped m (sh1 .initial)) (sh2 .initial)) refl first; keeps = record { fore = ahead; back = behind } }
     where
       first : initialFault sh1 sh2 m ≡ 0
       first = omega arith
@@ -154,16 +152,16 @@ module _ (sh1 sh2 : Shape) (h1 h2 m : List ℕ) (ranged : InRange sh1 h1) where
         total-zero (λ (j : ℕ). tally (sh1 .states) (madeUp sh1 h1 h2 m j)) (count h2) (λ j l. tally-zero (madeUp sh1 h1 h2 m j) (sh1 .states) (λ s k. third j s l k)),
       ) where
         second : (i : ℕ) → i < count h1 → not (kept h1 h2 m i) ≡ false
-        second i l = not-yes (says-kept h1 h2 m i (f .fore (from h1 i) (label h1 i) (to h1 i) (has-at h1 l)))
+        second i l = not-yes (says-kept h1 h2 m i (f .keeps .fore (from h1 i) (label h1 i) (to h1 i) (has-at h1 l)))
 
         third : (j s : ℕ) → j < count h2 → s < sh1 .states → madeUp sh1 h1 h2 m j s ≡ false
-        third j s l k = matched-unmade j s (λ e. says-matched j s e (f .back s (label h2 j) (to h2 j) k (rw e (has-at h2 l))))
+        third j s l k = matched-unmade j s (λ e. says-matched j s e (f .keeps .back s (label h2 j) (to h2 j) k (rw e (has-at h2 l))))
 
   faultless-bisimulation : AdmittedMap sh1 sh2 m → Faultless sh1 sh2 h1 h2 m → BranchingBisimulation sh1 sh2 h1 h2 (MapRelation sh1 m)
   faultless-bisimulation fit f = record {
     pairs = λ s r b. (b .0, rw (b .1) at (fit .entries-in s (b .0)));
-    there = λ s r b a t h. there s r b a t h (f .fore s a t h);
-    back = λ s r b a q h. again s r b a q (f .back s a q (b .0) (rw (b .1) h));
+    there = λ s r b a t h. there s r b a t h (f .keeps .fore s a t h);
+    back = λ s r b a q h. again s r b a q (f .keeps .back s a q (b .0) (rw (b .1) h));
   }
     where
       there : (s r : ℕ) → MapRelation sh1 m s r → (a t : ℕ) → HopOf h1 s a t →
@@ -180,8 +178,10 @@ module _ (sh1 sh2 : Shape) (h1 h2 m : List ℕ) (ranged : InRange sh1 h1) where
   bisimulation-faultless : BranchingBisimulation sh1 sh2 h1 h2 (MapRelation sh1 m) × JoinsInitial sh1 sh2 (MapRelation sh1 m) → Faultless sh1 sh2 h1 h2 m
   bisimulation-faultless (b, i) = record {
     joins = i .1;
-    fore = λ s a t h. ahead s a t (b .there s (mapped m s) (hop-from ranged s a t h, refl) a t h);
-    back = λ s a q l h. behind s a q (b .back s (mapped m s) (l, refl) a q h);
+    keeps = record {
+      fore = λ s a t h. ahead s a t (b .there s (mapped m s) (hop-from ranged s a t h, refl) a t h);
+      back = λ s a q l h. behind s a q (b .back s (mapped m s) (l, refl) a q h);
+    };
   }
     where
       ahead : (s a t : ℕ) →
@@ -207,10 +207,10 @@ zero-means sh1 sh2 h1 h2 m a1 a2 fit = (
 )
 
 -- a map that agrees with one that reduces graph 1 to graph 2, and joins the initial states, has no faults
-pub reduces-zero : (sh1 sh2 : Shape) (h1 h2 m : List ℕ) → InRange sh1 h1 → {f : ℕ → ℕ} → Reduces (HopOf h1) (HopOf h2) f →
+pub reduces-zero : (sh1 sh2 : Shape) (h1 h2 m : List ℕ) → InRange sh1 h1 → {f : ℕ → ℕ} → Reduces (λ s. s < sh1 .states) (HopOf h1) (HopOf h2) f →
     ((s : ℕ) → s < sh1 .states → mapped m s ≡ f s) → mapped m (sh1 .initial) ≡ sh2 .initial → faultsOf sh1 sh2 h1 h2 m ≡ 0
 reduces-zero sh1 sh2 h1 h2 m ranged {f} F same joins =
-    faultless-zero sh1 sh2 h1 h2 m ranged (record { joins = joins; fore = λ s a t h. ahead s a t h (F .fore s a t h); back = behind }) where
+    faultless-zero sh1 sh2 h1 h2 m ranged (record { joins = joins; keeps = record { fore = λ s a t h. ahead s a t h (F .fore s a t h); back = behind } }) where
       from-same : (s a t : ℕ) → HopOf h1 s a t → mapped m s ≡ f s
       from-same s a t h = same s (hop-from ranged s a t h)
 
@@ -222,7 +222,7 @@ reduces-zero sh1 sh2 h1 h2 m ranged {f} F same joins =
       ahead s a t h x = rw (from-same s a t h, to-same s a t h) x
 
       behind : (s a q : ℕ) → s < sh1 .states → HopOf h2 (mapped m s) a q → ((a ≡ 0) × (mapped m s ≡ q)) ⊎ Back (HopOf h1) (mapped m) s a q
-      behind s a q l h = go (F .back s a q (rw (same s l) at h)) where
+      behind s a q l h = go (F .back s a q l (rw (same s l) at h)) where
         go : ((a ≡ 0) × (f s ≡ q)) ⊎ Back (HopOf h1) f s a q → ((a ≡ 0) × (mapped m s ≡ q)) ⊎ Back (HopOf h1) (mapped m) s a q
         go (inl (z, d)) = inl (z, same s l ∙ d)
         go (inr (u, t, su, d, k, e)) = inr (u, t, su, from-same u a t k ∙ d ∙ sym (same s l), k, to-same u a t k ∙ e)

@@ -3,6 +3,7 @@ use Prim.Native.Nat.{ℕ}
 use mathlib.Core.Bool.{cond}
 use mathlib.Core.List.{List}
 use lib.Dec.{eqb}
+use Rattle.graph.specs.Answers.{accepted}
 use Rattle.graph.specs.declared.Shape.{Shape}
 use Rattle.faults.specs.Faults.{faultsOf}
 use Rattle.faults.specs.First.{noFault, firstFault}
@@ -16,3 +17,7 @@ auditOf sh1 sh2 h1 h2 m = record {
   faults = cond (eqb (auditAnswer sh1 sh2 h1 h2 m .number) 0) (faultsOf sh1 sh2 h1 h2 m) 0;
   first = cond (eqb (auditAnswer sh1 sh2 h1 h2 m .number) 0) (firstFault sh1 sh2 h1 h2 m) noFault;
 }
+
+-- accepted, no fault counted, and none named
+abbrev pub faultless : Audit
+faultless = record { answer = accepted; faults = 0; first = noFault }

@@ -1,13 +1,16 @@
-// Reduce and audit.
+// Reduce, shrink and audit.
 use tells_auditing::tell_audit;
 use tells_reducing::tell_reduce;
+use tells_shrinking::tell_shrink;
 ghost use mathlib.Core.Path.{_≡_};
 ghost use lib.ListN.{length};
 ghost use Rattle.quotient.specs.Reduce.{reduceAnswer, reduceOf, mapOutput, shortOutput};
+ghost use Rattle.last_graph.specs.Shrink.{shrinkOf, lastMap, lastHops};
 ghost use Rattle.fitting.specs.Fitting.{auditAnswer};
 ghost use Rattle.bisimulation.specs.Auditing.{auditOf};
 ghost use Rattle.answers.specs.Numbers.{shapeOf, returned, told, unlessShort};
 ghost use Rattle.tells_reducing.specs.Numbers.{reductionNumbers};
+ghost use Rattle.tells_shrinking.specs.Numbers.{shrinkingNumbers};
 ghost use Rattle.tells_auditing.specs.Numbers.{auditNumbers};
 
 #[no_mangle]
@@ -42,6 +45,40 @@ pub extern "C" fn zf_reduce(
         (now (answer .entry)) ⌝ }
 {
     tell_reduce(states, labels, initial, hops, sense, map, short, answer)
+}
+
+#[no_mangle]
+pub extern "C" fn zf_shrink(
+    states: u32,
+    labels: u32,
+    initial: u32,
+    hops: &[u16],
+    sense: u32,
+    map: &mut [u16],
+    short: &mut [u16],
+    answer: &mut [u64],
+) -> u32
+    ensures returns { λ r. ⌜ r ≡
+        returned
+        (reduceAnswer (shapeOf states labels initial) (now (hops .entry)) sense (length (now (map .entry))) (length (now (short .entry))))
+        8
+        (length (now (answer .entry))) ⌝ }
+    ensures mapped { λ r. ⌜ now (map .exit) ≡
+        unlessShort 8
+        (now (answer .entry))
+        (lastMap (shapeOf states labels initial) (now (hops .entry)) sense (now (map .entry)) (now (short .entry)))
+        (now (map .entry)) ⌝ }
+    ensures shortened { λ r. ⌜ now (short .exit) ≡
+        unlessShort 8
+        (now (answer .entry))
+        (lastHops (shapeOf states labels initial) (now (hops .entry)) sense (now (map .entry)) (now (short .entry)))
+        (now (short .entry)) ⌝ }
+    ensures tells { λ r. ⌜ now (answer .exit) ≡
+        told 8
+        (shrinkingNumbers (shrinkOf (shapeOf states labels initial) (now (hops .entry)) sense (length (now (map .entry))) (length (now (short .entry)))))
+        (now (answer .entry)) ⌝ }
+{
+    tell_shrink(states, labels, initial, hops, sense, map, short, answer)
 }
 
 #[no_mangle]

@@ -1,4 +1,4 @@
--- Branching bisimulations as relations (van Glabbeek and Weijland), from the maps of `Compose.antt`. Assumes nothing.
+-- Branching bisimulations as relations (van Glabbeek and Weijland), from maps that keep branching bisimilarity on all numbers. Assumes nothing.
 use Prim.Native.Nat.{ℕ}
 use mathlib.Core.Path.{_≡_, refl, sym, _∙_}
 use mathlib.Core.Logic.{_⊎_, inl, inr}
@@ -6,7 +6,7 @@ use Rattle.lts.specs.Star.{stay, Joined}
 use Rattle.lts.specs.Reduction.{Confluent, Rests, Back, Reduces}
 use Rattle.lts.specs.Branching.{Answers, Follows, Branching}
 use Rattle.lts.proofs.Confluence.{joined→rep, rep→joined}
-use Rattle.lts.proofs.Compose.{reduces}
+use Rattle.lts.proofs.Left.{kept-left, left-reduces}
 
 -- for one relation another that says the same
 module _ (Hop1 Hop2 : ℕ → ℕ → ℕ → Type 0) (R Q : ℕ → ℕ → Type 0) (f : (s n : ℕ) → R s n → Q s n) (g : (s n : ℕ) → Q s n → R s n) where
@@ -17,12 +17,12 @@ module _ (Hop1 Hop2 : ℕ → ℕ → ℕ → Type 0) (R Q : ℕ → ℕ → Typ
       on (inl (z, r)) = inl (z, f t n r)
       on (inr (u, x, nu, r, k, d)) = inr (u, x, nu, f s u r, k, f t x d)
 
-module _ {Hop1 Hop2 : ℕ → ℕ → ℕ → Type 0} {f : ℕ → ℕ} (F : Reduces Hop1 Hop2 f) where
+module _ {Hop1 Hop2 : ℕ → ℕ → ℕ → Type 0} {f : ℕ → ℕ} (F : Reduces (λ _. Unit {0}) Hop1 Hop2 f) where
   -- a state and its image are branching bisimilar
   pub image-branching : Branching Hop1 Hop2 (λ s n. f s ≡ n)
   image-branching = record {
     there = λ s n e a t h. there s n e a t (F .fore s a t h);
-    again = λ n s e a q h. again n s e a q (F .back s a q (rw e h));
+    again = λ n s e a q h. again n s e a q (F .back s a q tt (rw e h));
   }
     where
       there : (s n : ℕ) → f s ≡ n → (a t : ℕ) → ((a ≡ 0) × (f s ≡ f t)) ⊎ Hop2 (f s) a (f t) → Answers Hop2 (λ s n. f s ≡ n) s n a t
@@ -46,7 +46,7 @@ module _ {Hop1 Hop2 : ℕ → ℕ → ℕ → Type 0} {f : ℕ → ℕ} (F : Red
 
       on : ((a ≡ 0) × (f s ≡ f t)) ⊎ Hop2 (f s) a (f t) → Answers Hop1 Fibre s n a t
       on (inl (z, d)) = inl (z, sym d ∙ e)
-      on (inr k) = met (F .back n a (f t) (rw e at k))
+      on (inr k) = met (F .back n a (f t) tt (rw e at k))
 
   pub fibre-branching : Branching Hop1 Hop1 Fibre
   fibre-branching = record {
@@ -57,7 +57,7 @@ module _ {Hop1 Hop2 : ℕ → ℕ → ℕ → Type 0} {f : ℕ → ℕ} (F : Red
 -- states joined by hops of a confluent set are branching bisimilar
 pub joined-branching : {Hop : ℕ → ℕ → ℕ → Type 0} {U : ℕ → ℕ → Type 0} {rep : ℕ → ℕ} → Confluent Hop U → Rests U rep → Branching Hop Hop (Joined U)
 joined-branching {Hop} {U} {rep} c r =
-    let b = fibre-branching (reduces c r) in
+    let b = fibre-branching (left-reduces c r (kept-left c r)) in
     record {
       there = Follows·map Hop Hop (λ s n. rep s ≡ rep n) (Joined U) (rep→joined c r) (λ s n. joined→rep c r) (b .there);
       again = Follows·map Hop Hop (λ n s. rep s ≡ rep n) (λ n s. Joined U s n) (λ n s. rep→joined c r s n) (λ n s. joined→rep c r) (b .again);

@@ -29,7 +29,7 @@ Kept Hop rep n a m = (t : ℕ) × Hop n a t × (rep t ≡ m)
 abbrev pub Back : (ℕ → ℕ → ℕ → Type 0) → (ℕ → ℕ) → ℕ → ℕ → ℕ → Type 0
 Back Hop f s a q = (u : ℕ) × (t : ℕ) × Star (Silent Hop) s u × (f u ≡ f s) × Hop u a t × (f t ≡ q)
 
--- the map f from graph 1 to graph 2 loses no hop (`fore`) and makes none up (`back`)
-pub record Reduces (Hop1 Hop2 : ℕ → ℕ → ℕ → Type 0) (f : ℕ → ℕ) : Type 0 where
+-- the map f from the states D of graph 1 to graph 2 loses no hop (`fore`) and makes none up (`back`)
+pub record Reduces (D : ℕ → Type 0) (Hop1 Hop2 : ℕ → ℕ → ℕ → Type 0) (f : ℕ → ℕ) : Type 0 where
   pub fore : (s a t : ℕ) → Hop1 s a t → ((a ≡ 0) × (f s ≡ f t)) ⊎ Hop2 (f s) a (f t)
-  pub back : (s a q : ℕ) → Hop2 (f s) a q → ((a ≡ 0) × (f s ≡ q)) ⊎ Back Hop1 f s a q
+  pub back : (s a q : ℕ) → D s → Hop2 (f s) a q → ((a ≡ 0) × (f s ≡ q)) ⊎ Back Hop1 f s a q

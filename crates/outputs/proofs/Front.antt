@@ -1,11 +1,11 @@
 -- Laws of a list written over the front or a part of an older one, one element at a time or part after part. Assumes nothing.
-use Prim.Native.Nat.{ℕ, suc, _+_, _<_, _≤_}
+use Prim.Native.Nat.{ℕ, suc, _+_, _-_, _<_, _≤_}
 use mathlib.Core.Path.{_≡_, refl, sym, ap, _∙_}
-use mathlib.Core.List.{List, [], _∷_, _++_, append-assoc}
+use mathlib.Core.List.{List, [], _∷_, _++_, append-assoc, append-nil}
 use native.Mathlib.Numerals.{add-one}
 use native.Mathlib.Omega.{arith}
 use lib.ListN.{length, take, drop, set, getD, length-append, take-append-drop}
-use lib.Seq.{length-take-le, take-suc, take-all, set-at, drop-cons, take-at, take-append-seam, drop-append-add, drop-drop, ext-getD}
+use lib.Seq.{length-take-le, take-suc, take-all, set-at, drop-cons, take-at, take-append-seam, drop-append-add, drop-drop, ext-getD, getD-append-add, getD-drop, drop-length}
 use Rattle.below.specs.Tests.{listed}
 use Rattle.below.proofs.Tests.{length-listed, getD-listed}
 use Rattle.outputs.specs.Output.{onFront, overAt}
@@ -54,6 +54,16 @@ front-then s t old =
 pub front-next : (old s t : List ℕ) {out out' : List ℕ} {k : ℕ} → out ≡ onFront s old → out' ≡ overAt k t out → length s ≡ k → out' ≡ onFront (s ++ t) old
 front-next old s t {k = k} e d l = d ∙ ap (overAt k t) e ∙ ap (λ (n : ℕ). overAt n t (onFront s old)) (sym l) ∙ front-then s t old
 
+-- past the front stands what was there
+pub front-past : (new old : List ℕ) {i : ℕ} → length new ≤ i → getD (onFront new old) i 0 ≡ getD old i 0
+front-past new old {i} l = on (i - length new) (omega arith) where
+  on : (k : ℕ) → i ≡ length new + k → getD (onFront new old) i 0 ≡ getD old i 0
+  on k e = rw e (getD-append-add new (drop (length new) old) k 0 ∙ getD-drop (length new) old k 0)
+
+-- a front as long as the whole is the whole
+pub front-all : (new old : List ℕ) → length new ≡ length old → onFront new old ≡ new
+front-all new old e = rw (e, drop-length old, append-nil)
+
 -- the numbers of a list, one after the other
 module _ (f : ℕ → ℕ) (old : List ℕ) where
   pub listed-none : old ≡ onFront (listed 0 f) old
@@ -89,3 +99,16 @@ module _ (at : ℕ) (old hs : List ℕ) where
 
   pub bytes-done : {out : List ℕ} {i : ℕ} → out ≡ overAt at (take i hs) old → i ≤ length hs → length hs ≤ i → out ≡ overAt at hs old
   bytes-done {i = i} e l m = rw (take-all i hs m) at e
+
+-- the elements of a list put at the front, one after the other
+module _ (old vs : List ℕ) where
+  pub numbers-more : {out : List ℕ} {i : ℕ} → out ≡ onFront (take i vs) old → i < length vs → length vs ≤ length old →
+      set out i (getD vs i 0) ≡ onFront (take (i + 1) vs) old
+  numbers-more {i = i} e l f =
+      rw (e, add-one, take-suc vs i 0 l)
+      (ap (λ (n : ℕ). set (onFront (take i vs) old) n (getD vs i 0)) (sym sized) ∙ front-more (take i vs) old (getD vs i 0) (omega (arith, sized))) where
+        sized : length (take i vs) ≡ i
+        sized = length-take-le i vs (omega arith)
+
+  pub numbers-done : {out : List ℕ} {i : ℕ} → out ≡ onFront (take i vs) old → length vs ≤ i → out ≡ onFront vs old
+  numbers-done {i = i} e m = rw (take-all i vs m) at e

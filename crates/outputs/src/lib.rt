@@ -4,7 +4,7 @@
 ghost use mathlib.Core.Path.{_≡_};
 ghost use Prim.Native.Nat.{_+_, _≤_};
 ghost use lib.ListN.{length};
-ghost use Rattle.outputs.specs.Output.{overAt};
+ghost use Rattle.outputs.specs.Output.{onFront, overAt};
 
 // Bytes at a place of the output.
 pub fn put_bytes(out: &mut [u8], at: usize, bytes: &[u8])
@@ -14,6 +14,18 @@ pub fn put_bytes(out: &mut [u8], at: usize, bytes: &[u8])
     let mut i: usize = 0;
     while i < bytes.len() {
         out[at + i] = bytes[i];
+        i += 1;
+    }
+}
+
+// Numbers at the front of the output.
+pub fn put_numbers(out: &mut [u16], numbers: &[u16])
+    requires { ⌜ length (now numbers) ≤ length (now out) ⌝ }
+    ensures { λ _. ⌜ now (out .exit) ≡ onFront (now (numbers .entry)) (now (out .entry)) ⌝ }
+{
+    let mut i: usize = 0;
+    while i < numbers.len() {
+        out[i] = numbers[i];
         i += 1;
     }
 }

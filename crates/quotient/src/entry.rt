@@ -71,9 +71,9 @@ pub fn reduce_answer(
     later_answer(shape, hops, &starts, sense, entries, numbers)
 }
 
-// Marks in the sense with the number: 1 in rounds that test only what is due, any other by sweeps. As in `marks`, the choice
-// is the entry's own, so that sense 1 takes no stack of the others'.
-fn mark_in(shape: Shape, hops: &[u16], starts: &[u16; STARTS], sense: u32, marks: &mut [u8])
+// Marks in the sense with the number: 1 in rounds that test only what is due, any other by sweeps; for `reduce` and for the repeated reduction. `mark` makes
+// the choice for itself: in one function for all, sense 1 would take stack of the others'.
+pub fn mark_in(shape: Shape, hops: &[u16], starts: &[u16; STARTS], sense: u32, marks: &mut [u8])
     requires tabled { ⌜ Tabled shape (now hops) (now starts) ⌝ }
     requires free { ⌜ ringless shape (now hops) .number ≡ 0 ⌝ }
     requires room { ⌜ count (now hops) ≤ length (now marks) ⌝ }

@@ -1,46 +1,42 @@
 -- The short graph is admitted, and the map to it keeps branching bisimilarity: it loses no hop and makes none up. Assumes nothing.
 use Prim.Native.Nat.{ℕ, _<_}
-use mathlib.Core.Path.{_≡_, refl, ap, subst}
-use mathlib.Core.Bool.{true}
+use mathlib.Core.Path.{refl, ap, subst}
 use mathlib.Core.List.{List}
-use mathlib.Core.Logic.{_⊎_, inl, inr}
 use native.Mathlib.Omega.{arith}
 use Rattle.below.specs.Tests.{tally}
-use Rattle.graph.specs.Hops.{count, from, label, to, flat, has}
+use Rattle.graph.specs.Hops.{count, from, label, to, flat}
 use Rattle.limits.specs.Check.{Admitted}
 use Rattle.graph.specs.declared.Shape.{Shape}
 use Rattle.below.proofs.Tests.{tally-within}
 use Rattle.graph.proofs.Places.{has-at, has-place, length-flat, count-flat}
-use Rattle.lts.specs.Reduction.{Confluent, Rests, Kept, Back, Reduces}
-use Rattle.lts.proofs.Star.{wider}
-use Rattle.lts.proofs.Confluence.{rep-normal, forward}
+use Rattle.lts.specs.Reduction.{Confluent, Reduces}
+use Rattle.lts.specs.Left.{Left}
+use Rattle.lts.proofs.Left.{left-reduces}
 use Rattle.silent.specs.Silent.{HopOf}
 use Rattle.shrinking.specs.Pairs.{Pairs, In}
 use Rattle.representatives.specs.Representative.{Settles, resting, newOf, repOf, mapOf}
 use Rattle.representatives.proofs.Resting.{rep-resting, rep-rests}
 use Rattle.representatives.proofs.Numbers.{new-over, new-injective}
-use Rattle.representatives.proofs.Mapped.{map-in}
+use Rattle.representatives.proofs.Mapped.{rep-own, map-in}
 use Rattle.short.specs.Short.{shortHops, shortShape}
 use Rattle.short.proofs.Images.{ShortHop, short-ascending, short-within, short-has, short-only}
 
--- the map to the short graph keeps branching bisimilarity: it loses no hop and makes none up
-pub map-reduces : {sh : Shape} {hs : List ℕ} {u : Pairs} → Settles sh hs u → Confluent (HopOf hs) (In u) →
-    Reduces (HopOf hs) (HopOf (flat (shortHops sh hs u))) (mapOf sh hs u)
-unfolding mapOf
-map-reduces {sh} {hs} {u} sett conf = record { fore = λ s a t h. fore-on s a t (forward conf rests s a t h); back = λ s a q h. inr (back-on s a q (short-only sh hs u _ a q h)) } where
-  rests : Rests (In u) (repOf sh hs u)
-  rests = rep-rests sett
+module _ {sh : Shape} {hs : List ℕ} {u : Pairs} (sett : Settles sh hs u) where
+  -- the short graph is what is left, numbered anew
+  pub short-left : Left (HopOf hs) (repOf sh hs u) (HopOf (flat (shortHops sh hs u))) (mapOf sh hs u)
+  unfolding mapOf
+  short-left = record {
+    same = λ s. ap (newOf hs u) (rep-own sh hs u _ (rep-resting sett s));
+    other = λ s t. new-injective hs u _ _ (rep-resting sett s) (rep-resting sett t);
+    fore = λ s a t h. short-has sh hs u _ a _ (repOf sh hs u s, t, rep-resting sett s, h, refl, refl);
+    back = λ s a q h.
+        let (r, t, e, k, d, g) = short-only sh hs u _ a q h in
+        (t, subst (λ (x : ℕ). HopOf hs x a t) (new-injective hs u r _ e (rep-resting sett s) d) k, g);
+  }
 
-  fore-on : (s a t : ℕ) → ((a ≡ 0) × (repOf sh hs u s ≡ repOf sh hs u t)) ⊎ Kept (HopOf hs) (repOf sh hs u) (repOf sh hs u s) a (repOf sh hs u t) →
-      ((a ≡ 0) × (newOf hs u (repOf sh hs u s) ≡ newOf hs u (repOf sh hs u t))) ⊎
-      HopOf (flat (shortHops sh hs u)) (newOf hs u (repOf sh hs u s)) a (newOf hs u (repOf sh hs u t))
-  fore-on s a t (inl (z, e)) = inl (z, ap (newOf hs u) e)
-  fore-on s a t (inr (v, k, e)) = inr (short-has sh hs u _ a _ (repOf sh hs u s, v, rep-resting sett s, k, refl, ap (newOf hs u) e))
-
-  back-on : (s a q : ℕ) → ShortHop sh hs u (newOf hs u (repOf sh hs u s)) a q → Back (HopOf hs) (λ (x : ℕ). newOf hs u (repOf sh hs u x)) s a q
-  back-on s a q (r, t, e, k, f, g) =
-      let same : r ≡ repOf sh hs u s = new-injective hs u r (repOf sh hs u s) e (rep-resting sett s) f in
-      (repOf sh hs u s, t, wider (conf .silent) (rests .down s), ap (newOf hs u) (rep-normal conf rests (rests .rest s)), subst (λ (x : ℕ). has hs x a t ≡ true) same k, g)
+  -- the map to the short graph keeps branching bisimilarity: it loses no hop and makes none up
+  pub map-reduces : Confluent (HopOf hs) (In u) → {D : ℕ → Type 0} → Reduces D (HopOf hs) (HopOf (flat (shortHops sh hs u))) (mapOf sh hs u)
+  map-reduces conf = left-reduces conf (rep-rests sett) short-left
 
 -- the short graph is admitted
 module _ {sh : Shape} {hs : List ℕ} {u : Pairs} (adm : Admitted sh hs) (sett : Settles sh hs u) where

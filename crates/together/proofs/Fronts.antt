@@ -21,7 +21,8 @@ use Rattle.quotient.specs.Reduce.{noShape, markedTo, markedMap, markedHops, mar
 use Rattle.quotient.specs.declared.Reduction.{Reduction}
 use Rattle.quotient.proofs.Answering.{reduce-reducible, reduce-map-room, reduce-short-room, accepted-returns, accepted-map, accepted-short}
 use Rattle.bisimulation.specs.declared.Audit.{Audit}
-use Rattle.together.specs.Together.{auditLeft, faultless}
+use Rattle.bisimulation.specs.Auditing.{faultless}
+use Rattle.together.specs.Together.{auditLeft}
 use Rattle.together.proofs.Right.{reduce-right}
 
 module _ (sh : Shape) (hs : List ℕ) (k : ℕ) (map short : List ℕ) where

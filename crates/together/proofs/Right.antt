@@ -1,7 +1,7 @@
 -- What `reduce` makes of a graph without rings passes the audit, in any sense: the map and the short graph are admitted, and the fault count is 0. So the
 -- map is a branching bisimulation that joins the initial states. Assumes nothing.
 use Prim.Native.Nat.{ℕ, _<_}
-use mathlib.Core.Path.{_≡_, refl, sym}
+use mathlib.Core.Path.{_≡_, refl}
 use mathlib.Core.List.{List}
 use Rattle.graph.specs.Hops.{flat}
 use Rattle.graph.specs.declared.Shape.{Shape}
@@ -15,13 +15,11 @@ use Rattle.short.specs.Short.{shortHops, shortShape, mapList}
 use Rattle.quotient.proofs.Reduced.{map-inside, short-admitted, short-reduces}
 use Rattle.graph.specs.Map.{mapped}
 use Rattle.faults.specs.Faults.{faultsOf}
-use Rattle.faults.proofs.Naming.{none-named}
 use Rattle.bisimulation.specs.Bisimulation.{BranchingBisimulation, MapRelation, JoinsInitial}
-use Rattle.bisimulation.specs.Auditing.{auditOf}
+use Rattle.bisimulation.specs.Auditing.{auditOf, faultless}
 use Rattle.bisimulation.proofs.Meaning.{zero-means, reduces-zero}
-use Rattle.fitting.proofs.Fits.{Audited, audited-answer}
-use Rattle.bisimulation.proofs.Answering.{audit-counts}
-use Rattle.together.specs.Together.{faultless}
+use Rattle.fitting.proofs.Fits.{Audited}
+use Rattle.bisimulation.proofs.Answering.{faultless-iff}
 
 module _ {sh : Shape} {hs : List ℕ} (red : Reducible sh hs) (sense : Sense) where
   abbrev u : Pairs
@@ -50,10 +48,7 @@ module _ {sh : Shape} {hs : List ℕ} (red : Reducible sh hs) (sense : Sense) wh
 
   -- the audit accepts what `reduce` makes, and finds no fault
   pub reduce-right : auditOf sh (shortShape sh hs u) hs (flat (shortHops sh hs u)) (mapList sh hs u) ≡ faultless
-  reduce-right =
-      sym (audit-counts sh (shortShape sh hs u) hs (flat (shortHops sh hs u)) (mapList sh hs u)
-      (sym (audited-answer sh (shortShape sh hs u) hs (flat (shortHops sh hs u)) (mapList sh hs u) reduced-audited)) refl (sym reduced-zero)
-      (none-named sh (shortShape sh hs u) hs (flat (shortHops sh hs u)) (mapList sh hs u) reduced-zero))
+  reduce-right = faultless-iff sh (shortShape sh hs u) hs (flat (shortHops sh hs u)) (mapList sh hs u) .1 (reduced-audited, reduced-zero)
 
   -- so the map is one of Definition 2.4
   pub reduce-bisimulation :

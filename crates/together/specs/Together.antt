@@ -5,7 +5,6 @@ use mathlib.Core.List.{List}
 use lib.ListN.{take}
 use lib.Dec.{eqb}
 use Rattle.graph.specs.Hops.{between}
-use Rattle.graph.specs.Answers.{accepted}
 use Rattle.graph.specs.declared.Shape.{Shape}
 use Rattle.quotient.specs.declared.Reduction.{Reduction}
 use Rattle.faults.specs.First.{noFault}
@@ -19,7 +18,3 @@ unfoldable pub auditLeft : Shape → List ℕ → Reduction → List ℕ → Lis
 auditLeft sh hs red map short =
     cond (eqb (red .answer .number) 0) (auditOf sh (red .shape) hs (between short 0 (red .hops)) (take (sh .states) map))
     (record { answer = red .answer; faults = 0; first = noFault })
-
--- accepted, no fault counted, and none named
-abbrev pub faultless : Audit
-faultless = record { answer = accepted; faults = 0; first = noFault }

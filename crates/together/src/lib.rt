@@ -13,7 +13,8 @@ ghost use Prim.Native.Nat.{_≤_};
 ghost use lib.ListN.{length};
 ghost use Rattle.graph.specs.Hops.{count};
 ghost use Rattle.quotient.specs.Reduce.{reduceOf, mapOutput, shortOutput};
-ghost use Rattle.together.specs.Together.{auditLeft, faultless};
+ghost use Rattle.bisimulation.specs.Auditing.{faultless};
+ghost use Rattle.together.specs.Together.{auditLeft};
 
 // What reducing and then auditing returns: the results of both.
 pub struct AuditedReduction {

@@ -32,7 +32,7 @@ extern "C" {
 type Placed = [Archive; PLACES.len()];
 
 /// The rows that the words of the command line ask for, and what came out by entry. It is said whether mark and reduce of the old archive take a sense: those of
-/// versions before 0.3.0 do not, and then the rows are those of R1.
+/// versions before 0.3.0 do not, and then the rows are those of R1. Entries that one of the two has not, as shrink before 0.4.0, have no rows.
 pub fn table(old: &str, new: &str, old_takes_sense: bool) {
     let folder = Folder::new();
     let [old, new] = [("old", old, old_takes_sense), ("new", new, true)]
@@ -40,8 +40,7 @@ pub fn table(old: &str, new: &str, old_takes_sense: bool) {
     let ratios: RefCell<BTreeMap<String, Vec<f64>>> = RefCell::default();
     let take = |row: &Row| {
         let mut archives = old.iter().chain(&new);
-        let both_have = archives.all(|archive| (row.entry != "find" || archive.finds()) && (row.sense == 1 || archive.takes_sense()));
-        if both_have && asked(row.entry, row.input) {
+        if archives.all(|archive| has(archive, row)) && asked(row.entry, row.input) {
             ratios.borrow_mut().entry(row.entry.to_string()).or_default().push(beside(row, &old, &new));
         }
     };
@@ -54,6 +53,16 @@ pub fn table(old: &str, new: &str, old_takes_sense: bool) {
         let (least, most) = ratios.iter().fold((f64::MAX, 0f64), |(least, most), &ratio| (least.min(ratio), most.max(ratio)));
         println!("| {entry} | {} | {mean:.3} | {least:.2} | {most:.2} |", ratios.len());
     }
+}
+
+/// Whether an archive has the entry of a row, in the row's sense.
+fn has(archive: &Archive, row: &Row) -> bool {
+    let entry = match row.entry.split(' ').next() {
+        Some("find") => archive.finds(),
+        Some("shrink") => archive.shrinks(),
+        _ => true,
+    };
+    entry && (row.sense == 1 || archive.takes_sense())
 }
 
 /// A row's ratio, new to old.

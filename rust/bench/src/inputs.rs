@@ -145,13 +145,19 @@ fn falling() -> Named {
 pub fn markings() -> Vec<Named> {
     let (layers, states) = layers(45);
     vec![
-        one_a_round(),
+        {
+            let (chain, states) = one_a_round(1024);
+            graph("chain of 1,024 that falls a hop a round", states, 2, chain)
+        },
         many_into("510 silent hops and 1,023 labels to a state with 510 silent hops", false),
         many_into("the same, one of the silent hops stays marked", true),
         answered_again(),
         graph("three layers of 45 states, silent hops between all", states, 1, layers),
         looked_at_again("two states with 44 labels over waves", 30, 30, (1, 1), 44),
-        over_one(600, 350),
+        {
+            let (block, states) = over_one(600, 350);
+            graph("block of 350 and 2 states over a state whose 600 hops fall one a round", states, 3, block)
+        },
     ]
 }
 
@@ -174,9 +180,9 @@ pub fn long_markings() -> Vec<Named> {
 
 /// From each state to the next a silent hop and one labelled 1; the last has one labelled 1 to the first. A silent hop closes while the next one is marked, and so
 /// one falls a round.
-fn one_a_round() -> Named {
-    let along = (0..1023).flat_map(|s| [[s, 0, s + 1], [s, 1, s + 1]]);
-    graph("chain of 1,024 that falls a hop a round", 1024, 2, along.chain([[1023, 1, 0]]))
+fn one_a_round(length: u16) -> (Hops, u16) {
+    let along = (0..length - 1).flat_map(|s| [[s, 0, s + 1], [s, 1, s + 1]]);
+    (along.chain([[length - 1, 1, 0]]).collect(), length)
 }
 
 /// State 0 has silent hops to 510 states and a hop by each visible label to state 1, which has silent hops to 510 others: for each of these that falls every hop
@@ -206,23 +212,21 @@ fn layers(width: u16) -> (Hops, u16) {
 /// Five states with silent hops to each of 500, which lead to one: 2,500 hops that stay marked, beside a chain that falls a hop a sweep.
 fn fans() -> Named {
     let fan = (0..5).flat_map(|s| (5..505).map(move |t| [s, 0, t])).chain((5..505).map(|t| [t, 0, 505]));
-    let (chain, states) = one_a_sweep(500);
-    let chain = chain.into_iter().map(|[from, label, to]| [506 + from, label, 506 + to]);
-    graph("five fans of 500, beside a chain that falls a hop a sweep", 506 + states, 3, fan.chain(chain))
+    let (hops, states) = beside((fan.collect(), 506), one_a_sweep(500));
+    graph("five fans of 500, beside a chain that falls a hop a sweep", states, 3, hops)
 }
 
 /// State 0 has silent hops to so many ends, which fall one a round, the lowest first: it has a hop labelled 2 to itself, which each end answers by one to the end
 /// before it. Silent hops lead from all of them to a hub, so that nothing else falls. Over it a block: so many states with a hop labelled 1 to 0, and with silent
 /// hops to two that have one to each end. For each hop that falls all those silent hops are tested again, and look through the ends that have fallen. A sweep takes them all at once.
-fn over_one(ends: u16, ones: u16) -> Named {
+fn over_one(ends: u16, ones: u16) -> (Hops, u16) {
     let (hub, one) = (1 + ends, 2 + ends);
     let two = one + ones;
     let falling = (1..=hub).map(|e| [0, 0, e]).chain((1..hub).map(|e| [e, 0, hub]));
     let again = (2..hub).map(|e| [e, 2, e - 1]).chain([[0, 2, 0], [hub, 2, hub]]);
     let block = (one..two).flat_map(|s| [[s, 0, two], [s, 0, two + 1], [s, 1, 0]]).chain([[two, 0, two + 1]]);
     let answers = (two..two + 2).flat_map(|s| (1..hub).map(move |e| [s, 1, e]));
-    let name = "block of 350 and 2 states over a state whose 600 hops fall one a round";
-    graph(name, two + 2, 3, falling.chain(again).chain(block).chain(answers))
+    (falling.chain(again).chain(block).chain(answers).collect(), two + 2)
 }
 
 /// Waves, and over them a block: silent hops from each of some states to each of others, the former with hops by so many labels to each state of the chains, the
@@ -277,8 +281,7 @@ pub fn walks() -> Vec<Named> {
     };
     let strewn = |name, length, chains| {
         let (hops, states) = self::waves(length, chains);
-        let order = Random::new().shuffled(states);
-        graph(name, states, 3, hops.into_iter().map(|[from, label, to]| [order[usize::from(from)], label, order[usize::from(to)]]))
+        graph(name, states, 3, numbered(&Random::new().shuffled(states), hops))
     };
     vec![
         {
@@ -330,6 +333,73 @@ fn hub(name: &'static str, (spokes, labels, chain): (u16, u16, u16), behind: boo
         states += more;
     }
     graph(name, states, 3 + labels, hops)
+}
+
+/// Graphs that are timed for shrinking: many reductions, beside a marking of some length that each of them does again.
+pub fn repetitions() -> Vec<Named> {
+    let chain = |name, order: Vec<u16>| {
+        let (hops, states) = one_a_reduction(order.len() as u16);
+        graph(name, states, 3, numbered(&order, hops))
+    };
+    vec![
+        chain("chain of 1,024 that a reduction shortens by one, numbered along", (0..1024).collect()),
+        chain("chain of 1,024 that a reduction shortens by one, numbered against", (0..1024).rev().collect()),
+        chain("chain of 1,024 that a reduction shortens by one, numbered at random", Random::new().shuffled(1024)),
+        {
+            let (hops, states) = beside(one_a_reduction(400), one_a_round(600));
+            graph("chain of 400 that a reduction shortens by one, beside one of 600 that falls a hop a round", states, 3, hops)
+        },
+        beside_over_one("chain of 100 that a reduction shortens by one, beside a block over a state whose 150 hops fall one a round", 100, 150, 100),
+        beside_waves("chain of 40 that a reduction shortens by one, beside waves of 5 by 100, numbered at random", 40, 100, 5),
+    ]
+}
+
+/// The graphs on which shrinking takes longest, up to minutes.
+pub fn long_repetitions() -> Vec<Named> {
+    vec![
+        beside_over_one("chain of 338 that a reduction shortens by one, beside a block over a state whose 340 hops fall one a round", 338, 340, 340),
+        beside_waves("chain of 340 that a reduction shortens by one, beside waves of 5 by 420, numbered at random", 340, 420, 5),
+    ]
+}
+
+/// A silent chain in which state i has a hop labelled 1 to itself for odd i and to 0 for even i, and one labelled 2 the other way round. Under R1, R2 and R3 only the first
+/// silent hop is marked, and a reduction leaves the chain that is one state shorter.
+fn one_a_reduction(length: u16) -> (Hops, u16) {
+    let silent = (1..length).map(|i| [i - 1, 0, i]);
+    let visible = (0..length).flat_map(|i| if i % 2 == 1 { [[i, 1, i], [i, 2, 0]] } else { [[i, 1, 0], [i, 2, i]] });
+    (silent.chain(visible).collect(), length)
+}
+
+/// The chain, and beside it the block over a state whose hops fall one a round, in which everything falls at last, and so again in each marking: the ends have a hop labelled
+/// 3 to 0, which the hub answers by the last end, to which 0's hop falls last; so has the first of the two states, with label 4, and the second one answers.
+fn beside_over_one(name: &'static str, length: u16, ends: u16, ones: u16) -> Named {
+    let (mut block, states) = over_one(ends, ones);
+    let (hub, two) = (1 + ends, states - 2);
+    block.extend((1..hub).map(|e| [e, 3, 0]).chain([[hub, 3, ends], [two, 4, 0], [two + 1, 4, ends]]));
+    let (hops, states) = beside(one_a_reduction(length), (block, states));
+    graph(name, states, 5, hops)
+}
+
+/// The chain, and beside it waves in which everything falls at last: a state of the chains and the next one have hops by different labels, 3 and 4, to the last e, which
+/// each e answers; and each e but the last has a hop by a label of its own to 0, which those after it answer by the first e, to which 0's hop falls last. The states are numbered
+/// at random, so that the falls go here and there through the list.
+fn beside_waves(name: &'static str, length: u16, wave: u16, chains: u16) -> Named {
+    let (mut waves, states) = waves(wave, chains);
+    let (e, last) = (|j: u16| wave + j, wave + chains);
+    waves.extend((0..wave).map(|i| [i, 3 + i % 2, last]).chain((0..=chains).flat_map(|j| [[e(j), 3, last], [e(j), 4, last]])));
+    waves.extend((0..chains).flat_map(|j| (j + 1..=chains).map(move |l| [e(l), 5 + j, e(0)]).chain([[e(j), 5 + j, 0]])));
+    let (hops, states) = beside(one_a_reduction(length), (waves, states));
+    graph(name, states, 5 + chains, numbered(&Random::new().shuffled(states), hops))
+}
+
+fn beside((one, first): (Hops, u16), (two, second): (Hops, u16)) -> (Hops, u16) {
+    let two = two.into_iter().map(|[from, label, to]| [first + from, label, first + to]);
+    (one.into_iter().chain(two).collect(), first + second)
+}
+
+/// The same hops with the states numbered in another order.
+fn numbered(order: &[u16], hops: Hops) -> Hops {
+    hops.into_iter().map(|[from, label, to]| [order[usize::from(from)], label, order[usize::from(to)]]).collect()
 }
 
 /// For the audit: all states on a ring of silent hops, a map to one state, and as many hops of that state as there can be; the ring goes through the states

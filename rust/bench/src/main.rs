@@ -1,14 +1,16 @@
 //! Times each entry of the library beside a plain Rust implementation of the same algorithm, by turns in the same run, and prints a Markdown table: with the ratio
 //! of the two, and with how many times the library's check of the same graph the library takes. A second table has mark_fast beside repeated sweeps too, a third
-//! what each sense costs and what it buys, a fourth the growth of mark and reduce from 128 states to 1,024.
+//! what each sense costs and what it buys, a fourth what repetition does, a fifth the growth of mark and reduce from 128 states to 1,024.
 //!
 //!     cargo run --release -p bench --features library [-- WORD]
 //!
 //! With a word only the rows that have it are timed. Some words ask for a table of their own:
 //!
 //! - `senses [WORD ..]`: the third table alone, or some of its rows;
-//! - `growth`: the fourth table alone;
-//! - `minutes`: mark_fast on the graphs on which repeated sweeps take a second to minutes, where these are left out else; swept once each;
+//! - `repetition [WORD ..]`: the fourth table alone, or some of its rows;
+//! - `growth`: the fifth table alone;
+//! - `minutes`: mark_fast on the graphs on which repeated sweeps take a second to minutes, where these are left out else; swept once each. Then shrink on those on which
+//!   it takes up to minutes, which are in no other table;
 //! - `program PATH`: the program at the path beside the library's entries;
 //! - `against OLD NEW [WORD ..]`: the archive at one path beside that at another, both loaded while it runs, so that none need be linked. `against-0.2 OLD NEW`: the
 //!   old one is of a version before 0.3.0, whose mark and reduce take no sense, and the rows are those of R1.
@@ -25,6 +27,7 @@ mod made;
 mod marking;
 mod names;
 mod program;
+mod repetition;
 mod report;
 mod rows;
 mod senses;
@@ -36,17 +39,21 @@ use rows::Row;
 use show::{ratio, time};
 use timing::{agree, library_or_plain, medians, Timed};
 
+/// R1, R2, R3 and R8.
+const SENSES: [u32; 4] = [1, 2, 3, 8];
+
 fn main() {
     let words: Vec<String> = std::env::args().skip(1).collect();
     match words.iter().map(String::as_str).collect::<Vec<_>>()[..] {
         ["growth"] => growth::table(),
         ["senses", ..] => senses::table(),
+        ["repetition", ..] => repetition::table(),
         ["minutes"] => minutes(),
         ["program", path] => program::table(path),
         ["against", old, new, ..] => against::table(old, new, true),
         ["against-0.2", old, new, ..] => against::table(old, new, false),
         ["program" | "against" | "against-0.2"] | [_, _, ..] => {
-            eprintln!("usage: bench [WORD | senses [WORD ..] | growth | minutes | program PATH | against OLD NEW [WORD ..] | against-0.2 OLD NEW [WORD ..]]");
+            eprintln!("usage: bench [WORD | senses [WORD ..] | repetition [WORD ..] | growth | minutes | program PATH | against OLD NEW [WORD ..] | against-0.2 OLD NEW [WORD ..]]");
             std::process::exit(2);
         }
         _ => everything(),
@@ -58,7 +65,7 @@ fn asked(entry: &str, input: &str) -> bool {
     let words: Vec<String> = std::env::args().skip(1).collect();
     let words = match words.first().map(String::as_str) {
         Some("against" | "against-0.2") => &words[3..],
-        Some("senses") => &words[1..],
+        Some("senses" | "repetition") => &words[1..],
         _ => &words,
     };
     words.is_empty() || words.iter().any(|word| format!("{entry} on {input}").contains(word))
@@ -67,6 +74,10 @@ fn asked(entry: &str, input: &str) -> bool {
 fn minutes() {
     marking::head();
     inputs::long_markings().iter().for_each(|input| marking::row(input, true));
+
+    println!();
+    repetition::head();
+    inputs::long_repetitions().iter().for_each(repetition::rows);
 }
 
 fn everything() {
@@ -89,6 +100,9 @@ fn everything() {
 
     println!();
     senses::table();
+
+    println!();
+    repetition::table();
 
     println!();
     growth::table();

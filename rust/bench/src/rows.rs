@@ -2,7 +2,7 @@
 
 use crate::inputs::{self, Named, Random};
 use crate::timing::Outputs;
-use crate::{made, marking, names};
+use crate::{made, marking, names, SENSES};
 use differential::entries::{Entries, Graph, Plain};
 
 /// A call of one entry on one input.
@@ -27,9 +27,10 @@ fn row(take: Take, entry: &str, input: &str, checked: Option<&Graph>, call: Call
     take(&Row { entry, sense: 1, input, checked, plain: &|o| call(&Plain, o), call });
 }
 
-/// An entry in a weaker sense, which is part of its name, and the plain one.
+/// An entry in a sense, of which a weaker one is part of its name, and the plain one.
 fn row_in(take: Take, (entry, sense): (&str, u32), input: &str, checked: Option<&Graph>, call: Call) {
-    take(&Row { entry: &format!("{entry} R{sense}"), sense, input, checked, plain: &|o| call(&Plain, o), call });
+    let entry = if sense == 1 { entry.to_string() } else { format!("{entry} R{sense}") };
+    take(&Row { entry: &entry, sense, input, checked, plain: &|o| call(&Plain, o), call });
 }
 
 /// All but those of `mark_fast`, which has a table of its own.
@@ -49,6 +50,11 @@ pub fn all(take: Take) {
         weaker(take, sense, &markings, false);
         weaker(take, sense, &long, false);
         weaker(take, sense, &inputs::walks(), false);
+    }
+    let repetitions = inputs::repetitions();
+    for sense in SENSES {
+        shrink(take, sense, &graphs, true);
+        shrink(take, sense, &repetitions, false);
     }
     audits(take, &graphs);
     rounds(take, &graphs);
@@ -97,6 +103,14 @@ fn weaker(take: Take, sense: u32, graphs: &[Named], reduced: bool) {
     }
     for Named { name, graph } in graphs.iter().filter(|_| reduced) {
         row_in(take, ("reduce", sense), name, Some(graph), &|e, o| e.reduce(graph, sense, &mut o.map, &mut o.hops, &mut o.answer));
+    }
+}
+
+/// Shrink in a sense, held against check where that is asked for.
+fn shrink(take: Take, sense: u32, graphs: &[Named], held: bool) {
+    for Named { name, graph } in graphs {
+        let checked = held.then_some(graph);
+        row_in(take, ("shrink", sense), name, checked, &|e, o| e.shrink(graph, sense, &mut o.map, &mut o.hops, &mut o.answer));
     }
 }
 

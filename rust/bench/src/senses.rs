@@ -3,10 +3,8 @@
 use crate::inputs::{self, Named};
 use crate::show::time;
 use crate::timing::{medians, Timed};
-use crate::{asked, made, marking};
+use crate::{asked, made, marking, SENSES};
 use differential::entries;
-
-const SENSES: [u32; 4] = [1, 2, 3, 8];
 
 /// Of the library, or of the plain implementation where it is not linked, each graph of the tables and those on which walks are long.
 pub fn table() {

@@ -14,7 +14,7 @@ mod silent;
 pub use file::{read, write, LONGEST_FILE};
 pub use graph::{check, find, hops_of, Graph, Hop};
 pub use senses::SENSES;
-pub use silent::{audit, audit_and_faults, lowest_on_ring, mark, mark_fast, marked, reduce, round, survivors, Fault};
+pub use silent::{audit, audit_and_faults, lowest_on_ring, mark, mark_fast, marked, reduce, round, shrink, survivors, Fault};
 
 /// An answer: number, table and place, then the figures of the entry.
 #[derive(Clone, Debug, PartialEq, Eq)]

@@ -1,6 +1,6 @@
-//! Rings, marking, the round question, reducing and auditing.
+//! Rings, marking, the round question, reducing once and again, and auditing.
 
-use crate::graph::{Graph, Hop};
+use crate::graph::{check, Graph, Hop};
 use crate::senses::{self, Walks};
 use crate::{refuse, written, Answer, Refusal};
 use std::collections::{BTreeSet, HashSet};
@@ -237,6 +237,13 @@ pub fn reduce(graph: &Graph, sense: u64, map: &[u16], short: &[u16]) -> (Answer,
 type Reduced = (Vec<u64>, Vec<u16>, Vec<u16>);
 
 fn try_reduce(graph: &Graph, sense: u64, map_before: &[u16], short_before: &[u16]) -> Result<Reduced, Refusal> {
+    check_to_reduce(graph, sense, map_before, short_before)?;
+    let short = short_graph(graph, sense);
+    let figures = vec![short.states, graph.labels, short.hops.len() as u64 / 3, short.initial];
+    Ok((figures, written(&short.map, map_before), written(&short.hops, short_before)))
+}
+
+fn check_to_reduce(graph: &Graph, sense: u64, map_before: &[u16], short_before: &[u16]) -> Result<(), Refusal> {
     graph.check_1_to_4(1)?;
     senses::is_one(sense)?;
     let admitted = Admitted::new(graph);
@@ -244,6 +251,20 @@ fn try_reduce(graph: &Graph, sense: u64, map_before: &[u16], short_before: &[u16
     if map_before.len() < admitted.states || short_before.len() < 3 * admitted.list.len() {
         refuse(6, 0)?;
     }
+    Ok(())
+}
+
+/// A short graph, whose label count is that of the graph it comes from, and the map to it.
+struct Short {
+    states: u64,
+    initial: u64,
+    hops: Vec<u16>,
+    map: Vec<u16>,
+}
+
+/// For a graph without rings that checks 1 to 4 pass.
+fn short_graph(graph: &Graph, sense: u64) -> Short {
+    let admitted = Admitted::new(graph);
     let u = greatest(&admitted, sense);
     let classes = classes_of(&admitted, &u);
     // "each class has exactly one state that no marked hop leaves: its representative"
@@ -261,10 +282,37 @@ fn try_reduce(graph: &Graph, sense: u64, map_before: &[u16], short_before: &[u16
             short.insert((new as u16, hop.label as u16, map[hop.to as usize]));
         }
     }
-    let flat: Vec<u16> = short.iter().flat_map(|&(from, label, to)| [from, label, to]).collect();
-    let initial = u64::from(map[graph.initial as usize]);
-    let figures = vec![stays.len() as u64, graph.labels, short.len() as u64, initial];
-    Ok((figures, written(&map, map_before), written(&flat, short_before)))
+    let hops = short.iter().flat_map(|&(from, label, to)| [from, label, to]).collect();
+    Short { states: stays.len() as u64, initial: map[graph.initial as usize].into(), hops, map }
+}
+
+/// The entry shrink: the answer, and what the outputs for the map and for the last graph's hops hold afterwards. Figures: the last graph's state, label and hop counts
+/// and its initial state, and the number of reductions.
+pub fn shrink(graph: &Graph, sense: u64, map: &[u16], short: &[u16]) -> (Answer, Vec<u16>, Vec<u16>) {
+    match try_shrink(graph, sense, map, short) {
+        Ok((figures, map, short)) => (Answer::accepted(figures), map, short),
+        Err(refusal) => (Answer::refused(refusal, 5), map.to_vec(), short.to_vec()),
+    }
+}
+
+/// "Repeat, under a chosen sense, until no hop is marked, and return the last graph, one map from first states to last, and the number of reductions that marked
+/// something. Outputs and refusals are as in reduce."
+fn try_shrink(graph: &Graph, sense: u64, map_before: &[u16], short_before: &[u16]) -> Result<Reduced, Refusal> {
+    check_to_reduce(graph, sense, map_before, short_before)?;
+    let mut last = Short { states: graph.states, initial: graph.initial, hops: graph.hops.to_vec(), map: (0..graph.states as u16).collect() };
+    let mut reductions = 0;
+    loop {
+        let now = Graph { states: last.states, labels: graph.labels, initial: last.initial, hops: &last.hops };
+        assert_eq!((check(&now).number, lowest_on_ring(&now)), (0, None), "5 is asked of the input alone: no short graph has a ring");
+        if !marked(&now, sense).contains(&1) {
+            let figures = vec![last.states, graph.labels, last.hops.len() as u64 / 3, last.initial, reductions];
+            return Ok((figures, written(&last.map, map_before), written(&last.hops, short_before)));
+        }
+        let next = short_graph(&now, sense);
+        let map = last.map.iter().map(|&state| next.map[usize::from(state)]).collect();
+        last = Short { map, ..next };
+        reductions += 1;
+    }
 }
 
 /// "A class is a set of states joined by marked hops taken either way." Each state with its class's lowest member.

@@ -268,6 +268,157 @@ fn other_senses() {
     }
 }
 
+/// Map, last hops and figures. The map has no faults, the number of reductions is below the state count, and nothing is marked in the last graph, whatever the graph.
+fn shrunk_in(sense: u64, states: u64, labels: u64, hops: &[u16]) -> (Vec<u16>, Vec<u16>, Vec<u64>) {
+    let first = graph(states, labels, hops);
+    let (answer, map, last) = shrink(&first, sense, &vec![77; states as usize + 2], &vec![88; hops.len() + 2]);
+    assert_eq!((answer.number, answer.table, answer.place), (0, 1, 0));
+    let (map, map_behind) = map.split_at(states as usize);
+    let (last, last_behind) = last.split_at(3 * answer.figures[2] as usize);
+    assert_eq!(map_behind, [77, 77]);
+    assert!(last_behind.iter().all(|&x| x == 88));
+    let [states_left, labels_left, _, initial, reductions] = answer.figures[..] else { panic!("five figures") };
+    let end = Graph { states: states_left, labels: labels_left, initial, hops: last };
+    assert_eq!(audit(&first, &end, map).figures, [0; 4]);
+    assert!(reductions < states && (sense != 8 || reductions <= 1));
+    assert!(!marked(&end, sense).contains(&1));
+    (map.to_vec(), last.to_vec(), answer.figures)
+}
+
+/// The number of reductions in each of the four senses.
+fn reductions_in_each(states: u64, labels: u64, hops: &[u16]) -> [u64; 4] {
+    SENSES.map(|sense| shrunk_in(sense, states, labels, hops).2[4])
+}
+
+/// W13.6: a silent chain in which state i has a hop labelled 1 to itself for odd i and to 0 for even i, and one labelled 2 the other way round.
+fn one_a_reduction(states: u16) -> Vec<u16> {
+    let to = |i: u16, own: bool| if own { i } else { 0 };
+    let mut hops = vec![];
+    for i in 0..states {
+        if i + 1 < states {
+            hops.extend([i, 0, i + 1]);
+        }
+        hops.extend([i, 1, to(i, i % 2 == 1), i, 2, to(i, i % 2 == 0)]);
+    }
+    hops
+}
+
+#[test]
+fn one_reduction_lays_bare_another() {
+    let hops = one_a_reduction(3);
+    assert_eq!(hops, [0, 0, 1, 0, 1, 0, 0, 2, 0, 1, 0, 2, 1, 1, 1, 1, 2, 0, 2, 1, 0, 2, 2, 2]);
+    let last = (vec![0, 0, 0], vec![0, 1, 0, 0, 2, 0]);
+    for (sense, reductions) in [(1, 2), (2, 2), (3, 2), (8, 1)] {
+        assert_eq!(shrunk_in(sense, 3, 3, &hops), (last.0.clone(), last.1.clone(), vec![1, 3, 2, 0, reductions]));
+    }
+    // the first of them leaves the chain of two states
+    assert_eq!(reduced(3, 3, &hops), (vec![0, 0, 1], vec![0, 0, 1, 0, 1, 0, 0, 2, 0, 1, 1, 0, 1, 2, 1], vec![2, 3, 5, 0]));
+}
+
+#[test]
+fn the_bound_is_reached() {
+    for states in [1, 2, 4, 5, 10, 33] {
+        let (all, once) = (u64::from(states) - 1, u64::from(states > 1));
+        assert_eq!(reductions_in_each(states.into(), 3, &one_a_reduction(states)), [all, all, all, once], "{states} states");
+    }
+}
+
+#[test]
+fn nothing_is_marked_at_first() {
+    for sense in SENSES {
+        let p3 = [0, 0, 1, 0, 0, 2];
+        assert_eq!(shrunk_in(sense, 3, 1, &p3), (vec![0, 1, 2], p3.to_vec(), vec![3, 1, 2, 0, 0]));
+        assert_eq!(shrunk_in(sense, 2, 1, &[]), (vec![0, 1], vec![], vec![2, 1, 0, 0, 0]));
+        assert_eq!(shrunk_in(sense, 2, 2, &[0, 1, 1, 1, 1, 0]), (vec![0, 1], vec![0, 1, 1, 1, 1, 0], vec![2, 2, 2, 0, 0]));
+    }
+}
+
+/// The worked graphs are reduced once at the most, and shrink leaves what reduce leaves.
+#[test]
+fn one_reduction_is_enough() {
+    for (states, labels, hops) in
+        [(4, 2, &P1[..]), (4, 2, &P1[..9]), (3, 1, &[0, 0, 1, 0, 0, 2, 1, 0, 2]), (2, 2, &[0, 0, 1, 0, 1, 0, 1, 1, 1]), (5, 3, &P10)]
+    {
+        for sense in SENSES {
+            let (map, short, mut figures) = reduced_in(sense, states, labels, hops);
+            figures.push(u64::from(figures[0] < states));
+            assert_eq!(shrunk_in(sense, states, labels, hops), (map, short, figures));
+        }
+    }
+}
+
+/// "one map from first states to last": the maps of the reductions one after the other.
+#[test]
+fn the_maps_one_after_the_other() {
+    let (states, hops) = (6, one_a_reduction(6));
+    // 5 and 4 change their numbers
+    let number = |state: u16| [0, 1, 2, 3, 5, 4][usize::from(state)];
+    let mut turned: Vec<[u16; 3]> = hops.chunks(3).map(|hop| [number(hop[0]), hop[1], number(hop[2])]).collect();
+    turned.sort();
+    let (mut hops, mut map, mut count): (Vec<u16>, Vec<u16>, u64) = (turned.concat(), (0..states).collect(), states.into());
+    let whole = hops.clone();
+    for left in (1..states).rev() {
+        let (step, short, figures) = reduced(count, 3, &hops);
+        map = map.iter().map(|&state| step[usize::from(state)]).collect();
+        (hops, count) = (short, figures[0]);
+        assert_eq!(count, u64::from(left));
+    }
+    assert_eq!(shrunk_in(1, states.into(), 3, &whole), (map, hops, vec![1, 3, 2, 0, 5]));
+}
+
+/// The initial state goes where the map leads it.
+#[test]
+fn the_last_initial_state() {
+    let hops = [0, 0, 1, 2, 1, 0];
+    let g = Graph { states: 3, labels: 2, initial: 2, hops: &hops };
+    let (answer, map, last) = shrink(&g, 1, &[9; 3], &[9; 6]);
+    assert_eq!(answer.numbers(), [0, 1, 0, 2, 2, 1, 1, 1]);
+    assert_eq!((map, last), (vec![0, 0, 1], vec![1, 1, 0, 9, 9, 9]));
+}
+
+/// W13.5, and the laws of `shrunk_in`, on all graphs without a ring of up to three states and two labels; some take two reductions under R1, R2 and R3.
+#[test]
+fn small_graphs_shrunk() {
+    let (mut all, mut twice) = (0, [0; 4]);
+    for (states, labels) in [(1, 1), (1, 2), (2, 1), (2, 2), (3, 1), (3, 2)] {
+        let hops: Vec<[u16; 3]> = (0..states).flat_map(|s| (0..labels).flat_map(move |a| (0..states).map(move |t| [s, a, t]))).collect();
+        for rank in 0..1u32 << hops.len() {
+            let chosen: Vec<u16> = (0..hops.len()).filter(|i| rank >> i & 1 == 1).flat_map(|i| hops[i]).collect();
+            if lowest_on_ring(&graph(states.into(), labels.into(), &chosen)).is_none() {
+                all += 1;
+                for (twice, count) in twice.iter_mut().zip(reductions_in_each(states.into(), labels.into(), &chosen)) {
+                    *twice += u32::from(count == 2);
+                }
+            }
+        }
+    }
+    assert_eq!((all, twice), (1 + 2 + 3 + 48 + 25 + 12_800, [1206, 582, 708, 0]));
+}
+
+#[test]
+fn shrink_refuses_as_reduce() {
+    let (p1, ring) = (graph(4, 2, &P1), graph(3, 1, &[0, 0, 1, 1, 0, 2, 2, 0, 1]));
+    let refused = |g: &Graph, sense, map: &[u16], short: &[u16]| {
+        let (answer, map_after, short_after) = shrink(g, sense, map, short);
+        assert_eq!((&map_after[..], &short_after[..], &answer.figures[..]), (map, short, &[0; 5][..]));
+        assert_eq!(answer.numbers()[..3], reduce(g, sense, map, short).0.numbers()[..3]);
+        [answer.number, answer.table, answer.place]
+    };
+    for sense in SENSES {
+        assert_eq!(refused(&p1, sense, &[5; 3], &[6; 12]), [6, 1, 0]);
+        assert_eq!(refused(&p1, sense, &[5; 4], &[6; 11]), [6, 1, 0]);
+        assert_eq!(refused(&ring, sense, &[], &[]), [5, 1, 1]);
+        assert_eq!(refused(&graph(1025, 1, &[]), sense, &[], &[]), [1, 1, 0]);
+        assert_eq!(refused(&Graph { initial: 4, ..p1 }, sense, &[5; 4], &[6; 12]), [2, 1, 0]);
+        assert_eq!(refused(&graph(3, 2, &P1), sense, &[], &[]), [3, 1, 2]);
+    }
+    for sense in [0, 4, 7, 9, 65_537] {
+        assert_eq!(refused(&p1, sense, &[5; 4], &[6; 12]), [19, 1, 0]);
+        assert_eq!(refused(&ring, sense, &[], &[]), [19, 1, 0]);
+        assert_eq!(refused(&graph(3, 1, &[0, 0, 1, 0, 0, 1]), sense, &[], &[]), [4, 1, 1]);
+    }
+}
+
 #[test]
 fn the_order_of_nine_and_ten() {
     let g = graph(4, 2, &P1);

@@ -7,6 +7,7 @@ type Check = unsafe extern "C" fn(u32, u32, u32, *const u16, usize, *mut u64, us
 type Find = unsafe extern "C" fn(u32, u32, u32, *const u16, usize, u32, u32, u32, *mut u64, usize) -> u32;
 type Mark = unsafe extern "C" fn(u32, u32, u32, *const u16, usize, u32, *mut u8, usize, *mut u64, usize) -> u32;
 type MarkR1 = unsafe extern "C" fn(u32, u32, u32, *const u16, usize, *mut u8, usize, *mut u64, usize) -> u32;
+/// Shrink has the same form.
 type Reduce = unsafe extern "C" fn(u32, u32, u32, *const u16, usize, u32, *mut u16, usize, *mut u16, usize, *mut u64, usize) -> u32;
 type ReduceR1 = unsafe extern "C" fn(u32, u32, u32, *const u16, usize, *mut u16, usize, *mut u16, usize, *mut u64, usize) -> u32;
 type Audit = unsafe extern "C" fn(u32, u32, u32, *const u16, usize, u32, u32, u32, *const u16, usize, *const u16, usize, *mut u64, usize) -> u32;
@@ -26,6 +27,8 @@ pub struct Archive {
     check: Check,
     /// The first archives have none.
     find: Option<Find>,
+    /// Those of versions before 0.4.0 have none.
+    shrink: Option<Reduce>,
     sensed: Sensed,
     mark_fast: MarkR1,
     audit: Audit,
@@ -42,6 +45,7 @@ pub static LINKED: Archive = {
     Archive {
         check: zf_check,
         find: Some(zf_find),
+        shrink: Some(zf_shrink),
         sensed: Sensed::Asked { mark: zf_mark, reduce: zf_reduce },
         mark_fast: zf_mark_fast,
         audit: zf_audit,
@@ -75,6 +79,7 @@ impl Archive {
         Archive {
             check: transmute::<*mut c_void, Check>(there("zf_check")),
             find: transmute::<*mut c_void, Option<Find>>(address("zf_find")),
+            shrink: transmute::<*mut c_void, Option<Reduce>>(address("zf_shrink")),
             sensed,
             mark_fast: transmute::<*mut c_void, MarkR1>(there("zf_mark_fast")),
             audit: transmute::<*mut c_void, Audit>(there("zf_audit")),
@@ -93,6 +98,11 @@ impl Archive {
     /// Whether it can look a hop up.
     pub fn finds(&self) -> bool {
         self.find.is_some()
+    }
+
+    /// Whether it can reduce until nothing is marked.
+    pub fn shrinks(&self) -> bool {
+        self.shrink.is_some()
     }
 }
 
@@ -146,6 +156,15 @@ impl Entries for Archive {
                 unsafe { reduce(states, labels, initial, hops, len, map, map_len, short, short_len, answer, answer_len) }
             }
         }
+    }
+
+    fn shrink(&self, g: &Graph, sense: u32, map: &mut [u16], short: &mut [u16], answer: &mut [u64]) -> u32 {
+        let shrink = self.shrink.expect("an archive with zf_shrink");
+        let (hops, len) = (g.hops.as_ptr(), g.hops.len());
+        let (map, map_len) = (map.as_mut_ptr(), map.len());
+        let (short, short_len) = (short.as_mut_ptr(), short.len());
+        let (answer, answer_len) = (answer.as_mut_ptr(), answer.len());
+        unsafe { shrink(g.states, g.labels, g.initial, hops, len, sense, map, map_len, short, short_len, answer, answer_len) }
     }
 
     fn audit(&self, one: &Graph, two: &Graph, map: &[u16], answer: &mut [u64]) -> u32 {

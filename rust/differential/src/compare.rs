@@ -2,8 +2,8 @@
 //! of them, and inputs that must stay as they are.
 
 use crate::met::{
-    fast_word, fault_word, find_word, graph_word, hops_of_condition, marked_word, read_word, round_word, sensed_word, smaller_word, write_word,
-    Condition, Met,
+    fast_word, fault_word, find_word, graph_word, hops_of_condition, marked_word, read_word, reductions_word, round_word, sensed_word, short_word,
+    shrink_in, smaller_word, write_word, Condition, Met,
 };
 use crate::random::Random;
 use checker::Answer;
@@ -93,6 +93,42 @@ impl Length {
         }
     }
 }
+
+/// What the checker says of a graph, a sense, and outputs for a map and for hops.
+type Expected = fn(&checker::Graph, u64, &[u16], &[u16]) -> (Answer, Vec<u16>, Vec<u16>);
+/// The same of what is compared, which also has an answer to write.
+type Call = fn(&dyn Entries, &Graph, u32, &mut [u16], &mut [u16], &mut [u64]) -> u32;
+
+/// An entry that writes a map and short hops.
+struct Shortening {
+    name: &'static str,
+    /// The length of its answer.
+    answer: usize,
+    expected: Expected,
+    call: Call,
+    /// Its name in a sense, with what was met.
+    met: fn(u32) -> &'static str,
+    /// The condition that an accepted answer met.
+    accepted: fn(&Graph, u32, &Answer) -> &'static str,
+}
+
+const REDUCE: Shortening = Shortening {
+    name: "reduce",
+    answer: 7,
+    expected: checker::reduce,
+    call: |entries, g, sense, map, short, answer| entries.reduce(g, sense, map, short, answer),
+    met: |_| "reduce",
+    accepted: |g, sense, answer| smaller_word(sense, answer.figures[0] < g.states.into()),
+};
+
+const SHRINK: Shortening = Shortening {
+    name: "shrink",
+    answer: 8,
+    expected: checker::shrink,
+    call: |entries, g, sense, map, short, answer| entries.shrink(g, sense, map, short, answer),
+    met: shrink_in,
+    accepted: |g, _, answer| reductions_word(g, answer.figures[4]),
+};
 
 /// Compares calls and counts them.
 pub struct Comparer<'a> {
@@ -233,22 +269,38 @@ impl<'a> Comparer<'a> {
 
     /// Where it accepts, also what came out.
     pub fn reduce(&mut self, g: &Graph, sense: u32, map_len: Length, short_len: Length) -> Option<(Graph, Vec<u16>)> {
+        let (_, short, map) = self.shortened(&REDUCE, g, sense, map_len, short_len)?;
+        Some((short, map))
+    }
+
+    /// Where it accepts, also what came out, with the number of reductions; the laws of wish 13 must hold of it.
+    pub fn shrink(&mut self, g: &Graph, sense: u32, map_len: Length, short_len: Length) -> Option<(Graph, Vec<u16>, u64)> {
+        let (answer, last, map) = self.shortened(&SHRINK, g, sense, map_len, short_len)?;
+        let reductions = answer.figures[4];
+        let of = || format!("sense {sense} of {}", show(g));
+        assert!(reductions < u64::from(g.states), "the number of reductions is below the first state count, not {reductions}: {}", of());
+        assert!(sense != 8 || reductions <= 1, "one reduction at the most, not {reductions}: {}", of());
+        assert_eq!(checker::audit(&g.lent(), &last.lent(), &map).numbers(), [0, 1, 0, 0, 0, 0, 0], "the map has no faults: {}", of());
+        assert!(!checker::marked(&last.lent(), sense.into()).contains(&1), "no hop of the last graph is marked: {}", of());
+        Some((last, map, reductions))
+    }
+
+    /// A call of reduce or shrink; where it accepts, the answer, the graph and the map.
+    fn shortened(&mut self, entry: &Shortening, g: &Graph, sense: u32, map_len: Length, short_len: Length) -> Option<(Answer, Graph, Vec<u16>)> {
         let (map_len, short_len) = (map_len.choose(&mut self.random), short_len.choose(&mut self.random));
-        let what = || format!("reduce, sense {sense}, map of {map_len}, short hops of {short_len}, {}", show(g));
+        let what = || format!("{}, sense {sense}, map of {map_len}, short hops of {short_len}, {}", entry.name, show(g));
         let input = g.hops.clone();
         let mut map = Lent::<u16>::new(&mut self.random, map_len);
         let mut short = Lent::<u16>::new(&mut self.random, short_len);
-        let (expected, map_after, short_after) = checker::reduce(&g.lent(), sense.into(), map.held(), short.held());
-        let mut answer = self.answer(7);
-        let returned = self.entries.reduce(g, sense, map.part(), short.part(), answer.part());
+        let (expected, map_after, short_after) = (entry.expected)(&g.lent(), sense.into(), map.held(), short.held());
+        let mut answer = self.answer(entry.answer);
+        let returned = (entry.call)(self.entries, g, sense, map.part(), short.part(), answer.part());
         let met = match expected.number {
-            0 => Some(smaller_word(sense, expected.figures[0] < g.states.into())),
-            5 => Some("5"),
-            6 if short_len >= g.hops.len() => Some("6 map"),
-            6 => (map_len >= g.states as usize).then_some("6 short hops"),
-            number => sensed_word(g, sense, number, expected.place, map_len >= g.states as usize && short_len >= g.hops.len()),
+            0 => Some((entry.accepted)(g, sense, &expected)),
+            number => short_word(g, sense, number, expected.place, map_len, short_len),
         };
-        let fits = self.judge(returned, expected.number, &expected.numbers(), ("reduce", met), &answer, &what);
+        let met = ((entry.met)(sense), met);
+        let fits = self.judge(returned, expected.number, &expected.numbers(), met, &answer, &what);
         self.output(&map, &map_after, fits, &what);
         self.output(&short, &short_after, fits, &what);
         self.same_input(&g.hops, &input, &what);
@@ -258,7 +310,7 @@ impl<'a> Comparer<'a> {
         let figures = &expected.figures;
         let hops = short_after[..3 * figures[2] as usize].to_vec();
         let short = Graph { states: figures[0] as u32, labels: figures[1] as u32, initial: figures[3] as u32, hops };
-        Some((short, map_after[..g.states as usize].to_vec()))
+        Some((expected, short, map_after[..g.states as usize].to_vec()))
     }
 
     pub fn audit(&mut self, one: &Graph, two: &Graph, map: &[u16]) -> Answer {

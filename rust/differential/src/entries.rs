@@ -23,6 +23,7 @@ pub trait Entries {
     fn mark(&self, g: &Graph, sense: u32, marks: &mut [u8], answer: &mut [u64]) -> u32;
     fn mark_fast(&self, g: &Graph, marks: &mut [u8], answer: &mut [u64]) -> u32;
     fn reduce(&self, g: &Graph, sense: u32, map: &mut [u16], short: &mut [u16], answer: &mut [u64]) -> u32;
+    fn shrink(&self, g: &Graph, sense: u32, map: &mut [u16], short: &mut [u16], answer: &mut [u64]) -> u32;
     fn audit(&self, one: &Graph, two: &Graph, map: &[u16], answer: &mut [u64]) -> u32;
     fn round(&self, g: &Graph, place: u64, rounds: u32, answer: &mut [u64]) -> u32;
     fn hops_of(&self, side: u32, state: u32, one: &Graph, two: &Graph, answer: &mut [u64]) -> u32;
@@ -43,6 +44,11 @@ pub struct Plain;
 
 fn shape(g: &Graph) -> plain::Shape {
     plain::Shape { states: g.states, labels: g.labels, initial: g.initial }
+}
+
+/// Those of a short graph.
+fn figures(short: plain::Short) -> [u64; 4] {
+    [short.states, short.labels, short.hops, short.initial].map(u64::from)
 }
 
 /// Writes an answer where it fits; 6 where an accepted one does not.
@@ -95,8 +101,19 @@ impl Entries for Plain {
         let fits = answer.len() >= 7;
         with_copies(map, fits, |map| {
             with_copies(short, fits, |short| {
-                let (found, s) = plain::reduce(shape(g), &g.hops, sense, map, short);
-                give(found, &[s.states.into(), s.labels.into(), s.hops.into(), s.initial.into()], answer)
+                let (found, short) = plain::reduce(shape(g), &g.hops, sense, map, short);
+                give(found, &figures(short), answer)
+            })
+        })
+    }
+
+    fn shrink(&self, g: &Graph, sense: u32, map: &mut [u16], short: &mut [u16], answer: &mut [u64]) -> u32 {
+        let fits = answer.len() >= 8;
+        with_copies(map, fits, |map| {
+            with_copies(short, fits, |short| {
+                let (found, last, reductions) = plain::shrink(shape(g), &g.hops, sense, map, short);
+                let [states, labels, hops, initial] = figures(last);
+                give(found, &[states, labels, hops, initial, reductions.into()], answer)
             })
         })
     }

@@ -26,7 +26,7 @@ struct Options {
 }
 
 fn options() -> Options {
-    let mut options = Options { seed: 20_261_115, small: 200_000, files: 200_000, large: 400, plain: !cfg!(feature = "library") };
+    let mut options = Options { seed: 20_261_115, small: 100_000, files: 200_000, large: 400, plain: !cfg!(feature = "library") };
     let mut words = std::env::args().skip(1);
     while let Some(word) = words.next() {
         let mut number = || words.next().and_then(|n| n.parse().ok()).unwrap_or_else(|| usage());
@@ -74,6 +74,7 @@ fn main() {
     part("random small graphs", &mut |c| parts::small(c, options.small));
     part("markings of many rounds", &mut |c| parts::rounds(c, options.small / 10));
     part("graphs of some hundred hops in each sense", &mut |c| parts::senses(c, options.small / 50));
+    part("graphs of many reductions", &mut |c| parts::reductions(c, options.small / 20));
     part("random files", &mut |c| parts::files(c, options.files));
     part("every damage of a byte", &mut parts::every_damage);
     part("large graphs", &mut |c| parts::large(c, options.large));

@@ -149,18 +149,7 @@ pub fn many_rounds(random: &mut Random, most_states: usize) -> Graph {
         8 => over_waves(random.between(2, 7) as u16, random.between(1, 6) as u16, random.between(1, 3) as u16, random.between(1, 3) as u16),
         _ => over_one(size, random.between(1, 3) as u16),
     };
-    for _ in 0..random.below(4) {
-        let (one, two) = (random.below(states.into()) as u16, random.below(states.into()) as u16);
-        match random.below(4) {
-            // silent hops lead upward in all of them
-            0 if one != two => _ = hops.insert((one.min(two), 0, one.max(two))),
-            1 => _ = hops.insert((one, random.between(1, 2) as u16, two)),
-            _ => {
-                let at = random.below(hops.len());
-                hops = hops.into_iter().enumerate().filter(|(i, _)| *i != at).map(|(_, hop)| hop).collect();
-            }
-        }
-    }
+    alter(random, states, &mut hops);
     let mut labels = 3;
     if random.percent(40) {
         // rows that are longer than what leads to a state: hops that every state has
@@ -168,9 +157,71 @@ pub fn many_rounds(random: &mut Random, most_states: usize) -> Graph {
         let to = random.below(states.into()) as u16;
         hops.extend((0..states).flat_map(|s| (3..labels as u16).map(move |label| (s, label, to))));
     }
-    let name = order(random, states.into());
-    let hops = hops.into_iter().map(|(from, label, to)| (name[usize::from(from)], label, name[usize::from(to)])).collect();
+    let hops = renumbered(random, states, hops);
     graph_of(states.into(), labels, random.below(states.into()), &hops)
+}
+
+/// Puts a few hops in or leaves some out, of a graph in which silent hops lead upward: they do then, too.
+fn alter(random: &mut Random, states: u16, hops: &mut Hops) {
+    for _ in 0..random.below(4) {
+        let (one, two) = (random.below(states.into()) as u16, random.below(states.into()) as u16);
+        match random.below(4) {
+            0 if one != two => _ = hops.insert((one.min(two), 0, one.max(two))),
+            1 => _ = hops.insert((one, random.between(1, 2) as u16, two)),
+            _ => {
+                let at = random.below(hops.len());
+                let hop = *hops.iter().nth(at).expect("a hop");
+                hops.remove(&hop);
+            }
+        }
+    }
+}
+
+/// The same graph with its states in any order.
+fn renumbered(random: &mut Random, states: u16, hops: Hops) -> Hops {
+    let name = order(random, states.into());
+    hops.into_iter().map(|(from, label, to)| (name[usize::from(from)], label, name[usize::from(to)])).collect()
+}
+
+/// A graph of up to about so many states that takes many reductions under R1, R2 and R3: chains of which each takes off one state, alone, beside each other, beside
+/// one that falls a hop a round, and chains whose states lead here and there. In any order, with a few hops put in or left out.
+pub fn many_reductions(random: &mut Random, most_states: usize) -> Graph {
+    let size = random.between(2, most_states) as u16;
+    let (states, mut hops) = match random.below(5) {
+        0 => one_a_reduction(size),
+        1 => beside(one_a_reduction(size.div_ceil(2)), one_a_reduction((size / 2).max(1))),
+        2 => beside(one_a_reduction(size.div_ceil(2)), chain((size / 2).max(2))),
+        3 => beside(one_a_reduction(size.div_ceil(2)), ladder((size / 4).max(1))),
+        _ => astray(random, size),
+    };
+    alter(random, states, &mut hops);
+    let hops = renumbered(random, states, hops);
+    graph_of(states.into(), 3, random.below(states.into()), &hops)
+}
+
+/// W13.6: a silent chain in which state i has a hop labelled 1 to itself for odd i and to 0 for even i, and one labelled 2 the other way round. Only its first silent hop
+/// is marked, and the chain that a reduction leaves is one state shorter; under R8 they all are.
+pub fn one_a_reduction(states: u16) -> (u16, Hops) {
+    let silent = (1..states).map(|i| (i - 1, 0, i));
+    let visible = (0..states).flat_map(|i| if i % 2 == 1 { [(i, 1, i), (i, 2, 0)] } else { [(i, 1, 0), (i, 2, i)] });
+    (states, silent.chain(visible).collect())
+}
+
+/// A silent chain whose states have hops labelled 1 and 2 to themselves, to the first state or to the next.
+fn astray(random: &mut Random, states: u16) -> (u16, Hops) {
+    let mut hops: Hops = (1..states).map(|i| (i - 1, 0, i)).collect();
+    for i in 0..states {
+        for label in 1..3 {
+            hops.insert((i, label, random.pick(&[0, i, i, (i + 1).min(states - 1)])));
+        }
+    }
+    (states, hops)
+}
+
+/// Two graphs beside each other.
+pub fn beside((first, one): (u16, Hops), (second, two): (u16, Hops)) -> (u16, Hops) {
+    let two = two.into_iter().map(|(from, label, to)| (first + from, label, first + to));
+    (first + second, one.into_iter().chain(two).collect())
 }
 
 /// State 0 has silent hops to some states, these to a hub, and both have hops by some labels to one target: a chain of silent hops stands behind the target or before
@@ -183,8 +234,7 @@ pub fn hub(random: &mut Random, most: usize) -> Graph {
         let (one, two) = (random.below(states.into()) as u16, random.below(states.into()) as u16);
         hops.insert((one, 1, two));
     }
-    let name = order(random, states.into());
-    let hops = hops.into_iter().map(|(from, label, to)| (name[usize::from(from)], label, name[usize::from(to)])).collect();
+    let hops = renumbered(random, states, hops);
     graph_of(states.into(), usize::from(labels) + 3, random.below(states.into()), &hops)
 }
 
@@ -249,9 +299,7 @@ pub fn waves(length: u16, chains: u16) -> (u16, Hops) {
 pub fn fans(states: u16, width: u16, length: u16) -> (u16, Hops) {
     let hub = states + width;
     let fan = (0..states).flat_map(|s| (states..hub).map(move |t| (s, 0, t))).chain((states..hub).map(|t| (t, 0, hub)));
-    let (more, beside) = chain_to_one_end(length);
-    let beside = beside.into_iter().map(|(from, label, to)| (hub + 1 + from, label, hub + 1 + to));
-    (hub + 1 + more, fan.chain(beside).collect())
+    beside((hub + 1, fan.collect()), chain_to_one_end(length))
 }
 
 /// Three layers of so many states, with silent hops from each state to all of the next layer: none of the last hops closes, and then none of the first.

@@ -101,6 +101,15 @@ const SMALLER: &[&str] = &[
     "0 R8, as many states",
 ];
 
+/// How many reductions an accepted shrink took. All: as many as there can be, one below the state count, which is three at least.
+const REDUCTIONS: &[&str] = &["0 no reduction", "0 one reduction", "0 some reductions", "0 ten reductions or more", "0 all reductions"];
+
+/// Those under R8, which takes one at the most.
+const REDUCTIONS_R8: &[&str] = &[REDUCTIONS[0], REDUCTIONS[1]];
+
+/// Rows 5 and 6 of reduce and shrink.
+const RING_AND_ROOM: &[&str] = &["5", "6 map", "6 short hops"];
+
 /// Numbers that are no sense, on what is accepted with one. Cut: to 8 or 16 bits each is a sense.
 const NO_SENSE: [(u32, &str); 9] = [
     (0, "19 for 0"),
@@ -140,13 +149,18 @@ const BESIDE: &[&str] = &["all the same", "R2 more than R1", "R3 more than R1", 
 const SHORT_ANSWER: &[&str] = &["answer too short, else accepted", "answer too short, else refused"];
 
 /// All that a run must meet.
-const MUST: [(&str, &[&[&str]]); 15] = [
+const MUST: [(&str, &[&[&str]]); 20] = [
     ("check", &[&["0"], GRAPH, LENGTH, SHORT_ANSWER]),
     ("find", &[FOUND, FAR, GRAPH, LENGTH, SHORT_ANSWER]),
     ("mark", &[MARKED, GRAPH, LENGTH, SENSE, &["5", "6"], SHORT_ANSWER]),
     ("marks of the senses", &[BESIDE]),
     ("mark_fast", &[FAST, GRAPH, LENGTH, &["5", "6"], SHORT_ANSWER]),
-    ("reduce", &[SMALLER, GRAPH, LENGTH, SENSE, &["5", "6 map", "6 short hops"], SHORT_ANSWER]),
+    ("reduce", &[SMALLER, GRAPH, LENGTH, SENSE, RING_AND_ROOM, SHORT_ANSWER]),
+    ("shrink", &[SENSE, SHORT_ANSWER]),
+    ("shrink, R1", &[REDUCTIONS, GRAPH, LENGTH, RING_AND_ROOM]),
+    ("shrink, R2", &[REDUCTIONS, GRAPH, LENGTH, RING_AND_ROOM]),
+    ("shrink, R3", &[REDUCTIONS, GRAPH, LENGTH, RING_AND_ROOM]),
+    ("shrink, R8", &[REDUCTIONS_R8, GRAPH, LENGTH, RING_AND_ROOM]),
     ("audit", &[FAULTS, &["7", "8 too short", "8 too long", "8 entry"], SHORT_ANSWER]),
     ("audit, graph 1", &[GRAPH, LENGTH]),
     ("audit, graph 2", &[GRAPH, LENGTH]),
@@ -261,6 +275,39 @@ pub fn marked_word(sense: u32, some: bool) -> &'static str {
 /// Whether an accepted reduce left fewer states.
 pub fn smaller_word(sense: u32, fewer: bool) -> &'static str {
     of_sense(SMALLER, sense, fewer)
+}
+
+/// Shrink in a sense, or in what is none.
+pub fn shrink_in(sense: u32) -> &'static str {
+    match sense {
+        1 => "shrink, R1",
+        2 => "shrink, R2",
+        3 => "shrink, R3",
+        8 => "shrink, R8",
+        _ => "shrink",
+    }
+}
+
+/// How many reductions an accepted shrink of a graph took.
+pub fn reductions_word(g: &Graph, reductions: u64) -> &'static str {
+    match reductions {
+        0 => REDUCTIONS[0],
+        1 => REDUCTIONS[1],
+        _ if reductions + 1 == g.states.into() => REDUCTIONS[4],
+        2..=9 => REDUCTIONS[2],
+        _ => REDUCTIONS[3],
+    }
+}
+
+/// Which condition of rows 1 to 6 and 19 refuses a graph with a sense and with outputs of such lengths to reduce or shrink.
+pub fn short_word(g: &Graph, sense: u32, number: u64, place: u64, map_len: usize, short_len: usize) -> Option<&'static str> {
+    let (map, short) = (map_len >= g.states as usize, short_len >= g.hops.len());
+    match number {
+        5 => Some("5"),
+        6 if short => Some("6 map"),
+        6 => map.then_some("6 short hops"),
+        _ => sensed_word(g, sense, number, place, map && short),
+    }
 }
 
 /// Which condition of rows 1 to 4 and 19 refuses a graph with a sense, where the outputs have room or not.

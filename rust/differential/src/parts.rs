@@ -22,7 +22,7 @@ fn any_sense(c: &mut Comparer) -> u32 {
     }
 }
 
-/// Mark and reduce in each sense: R1's marks are among R2's and R3's, theirs among R8's, and what reduce left has no faults.
+/// Mark, reduce and shrink in each sense: R1's marks are among R2's and R3's, theirs among R8's, and what reduce and shrink left has no faults.
 fn in_each_sense(c: &mut Comparer, g: &Graph) {
     let marked = SENSES.map(|sense| c.mark(g, sense, AtLeast(g.hops.len() / 3)));
     if let [Some(r1), Some(r2), Some(r3), Some(r8)] = marked {
@@ -31,15 +31,36 @@ fn in_each_sense(c: &mut Comparer, g: &Graph) {
         }
     }
     for sense in SENSES {
-        if let Some((short, map)) = c.reduce(g, sense, AtLeast(g.states.min(1030) as usize), AtLeast(g.hops.len())) {
-            no_faults(c, g, &short, &map);
+        let (map_len, short_len) = (AtLeast(g.states.min(1030) as usize), AtLeast(g.hops.len()));
+        match c.reduce(g, sense, map_len, short_len) {
+            None => _ = c.shrink(g, sense, map_len, short_len),
+            Some((short, map)) => {
+                no_faults(c, g, &short, &map);
+                shrunk(c, g, sense);
+            }
         }
     }
 }
 
 fn no_faults(c: &mut Comparer, g: &Graph, short: &Graph, map: &[u16]) {
     let answer = c.audit(g, short, map);
-    assert_eq!(answer.numbers(), [0, 1, 0, 0, 0, 0, 0], "what reduce left of {g:?} has no faults");
+    assert_eq!(answer.numbers(), [0, 1, 0, 0, 0, 0, 0], "what was left of {g:?} has no faults");
+}
+
+/// The number of reductions of a graph that shrink takes in a sense. What it left has no faults, and neither reduce nor shrink moves it.
+fn shrunk(c: &mut Comparer, g: &Graph, sense: u32) -> u64 {
+    let (last, map, reductions) = c.shrink(g, sense, AtLeast(g.states as usize), AtLeast(g.hops.len())).expect("a graph without rings");
+    if reductions > 1 {
+        no_faults(c, g, &last, &map);
+    }
+    if reductions > 0 {
+        let (states, numbers) = (last.states as usize, last.hops.len());
+        let (again, _) = c.reduce(&last, sense, AtLeast(states), AtLeast(numbers)).expect("no short graph has a ring");
+        assert_eq!((again.states, &again.hops), (last.states, &last.hops), "reduce leaves what shrink left of {g:?}");
+        let (_, _, more) = c.shrink(&last, sense, AtLeast(states), AtLeast(numbers)).expect("no short graph has a ring");
+        assert_eq!(more, 0, "shrink leaves what it left of {g:?}");
+    }
+    reductions
 }
 
 /// P1 to P10, and the examples of the limits.
@@ -73,7 +94,21 @@ pub fn worked(c: &mut Comparer) {
     assert_eq!(by_states.figures, [2, 3, 0, 1], "hops before states");
     c.audit(&graph(3, 2, &[0, 0, 1, 1, 0, 2, 2, 1, 2]), &graph(2, 2, &[0, 0, 1, 0, 1, 0, 1, 0, 0]), &[0, 1, 0]);
     worked_senses(c);
+    worked_shrinking(c);
     c.answer_len = None;
+}
+
+/// W13.6: the number of reductions of chains in each sense, alone, where it is as high as it can be, and with a state beside them.
+fn worked_shrinking(c: &mut Comparer) {
+    for states in [1, 2, 3, 4, 7, 12, 13] {
+        let (_, hops) = make::one_a_reduction(states);
+        for more in [0, 1] {
+            let g = make::graph_of(usize::from(states) + more, 3, 0, &hops);
+            whole(c, &g);
+            let (all, once) = (u64::from(states) - 1, u64::from(states > 1));
+            assert_eq!(SENSES.map(|sense| shrunk(c, &g, sense)), [all, all, all, once], "reductions of a chain of {states}");
+        }
+    }
 }
 
 /// The case of wish 7 and graphs that tell the senses apart: which of the four mark a hop.
@@ -114,9 +149,11 @@ fn whole(c: &mut Comparer, g: &Graph) {
         }
         for len in 0..=states + 2 {
             c.reduce(g, sense, Exactly(len), AtLeast(numbers));
+            c.shrink(g, sense, Exactly(len), AtLeast(numbers));
         }
         for len in 0..=numbers + 2 {
             c.reduce(g, sense, AtLeast(states), Exactly(len));
+            c.shrink(g, sense, AtLeast(states), Exactly(len));
         }
     }
     (0..=hops + 2).for_each(|len| _ = c.mark_fast(g, Exactly(len)));
@@ -191,6 +228,7 @@ pub fn all_small(c: &mut Comparer) {
                 c.mark(&g, sense, About(2));
                 c.mark_fast(&g, About(2));
                 c.reduce(&g, sense, About(2), About(6));
+                c.shrink(&g, sense, About(2), About(6));
                 c.write(&g, &[], About(20));
             }
         }
@@ -249,6 +287,7 @@ pub fn answers(c: &mut Comparer) {
                 for sense in [1, 2, 3, 8, 4] {
                     c.mark(&g, sense, Exactly(short / 3));
                     c.reduce(&g, sense, Exactly(g.states as usize), Exactly(short));
+                    c.shrink(&g, sense, Exactly(g.states as usize), Exactly(short));
                 }
                 c.mark_fast(&g, Exactly(short / 3));
                 c.read(&file, Exactly(short));
@@ -281,6 +320,7 @@ pub fn conditions(c: &mut Comparer) {
         for sense in [1, 2, 3, 8, 4] {
             c.mark(&g, sense, Exactly(numbers / 3));
             c.reduce(&g, sense, Exactly(states), Exactly(numbers));
+            c.shrink(&g, sense, Exactly(states), Exactly(numbers));
         }
         c.mark_fast(&g, Exactly(numbers / 3));
         c.audit(&g, &p1, &vec![0; states]);
@@ -308,6 +348,7 @@ fn other_senses(c: &mut Comparer, p1: &Graph) {
             for (marks, map, short) in [(4, 4, 12), (3, 3, 12), (0, 4, 11), (0, 0, 0)] {
                 c.mark(g, sense, Exactly(marks));
                 c.reduce(g, sense, Exactly(map), Exactly(short));
+                c.shrink(g, sense, Exactly(map), Exactly(short));
             }
         }
     }
@@ -459,6 +500,7 @@ fn every_entry(c: &mut Comparer, g: &Graph, other_states: usize) {
     let sense = any_sense(c);
     let (map_len, short_len) = if c.random.percent(50) { (AtLeast(states), AtLeast(g.hops.len())) } else { (About(states), About(g.hops.len())) };
     let reduced = c.reduce(g, sense, map_len, short_len);
+    c.shrink(g, sense, map_len, short_len);
     for _ in 0..3 {
         let place = c.random.below(hops + 1) as u64;
         let place = match c.random.below(20) {
@@ -545,6 +587,7 @@ pub fn rounds(c: &mut Comparer, count: usize) {
         let g = make::graph_of(states.into(), 3, 0, &hops);
         c.mark(&g, 1, Exactly(hops.len()));
         c.reduce(&g, 1, Exactly(states.into()), Exactly(3 * hops.len()));
+        c.shrink(&g, 1, Exactly(states.into()), Exactly(3 * hops.len()));
         c.answer_len = Some(4);
         let tests = c.mark_fast(&g, Exactly(hops.len())).figures[0];
         c.answer_len = None;
@@ -577,6 +620,26 @@ pub fn senses(c: &mut Comparer, count: usize) {
     for (states, hops) in graphs {
         in_each_sense(c, &make::graph_of(states.into(), 3, 0, &hops));
     }
+}
+
+/// Graphs that take many reductions: random small ones and some large ones, and chains that take as many as there can be, under R1 the longest there is. Under R8 one
+/// reduction does it all.
+pub fn reductions(c: &mut Comparer, count: usize) {
+    for _ in 0..count {
+        let g = make::many_reductions(&mut c.random, 24);
+        in_each_sense(c, &g);
+        let sense = any_sense(c);
+        c.shrink(&g, sense, About(g.states as usize), About(g.hops.len()));
+    }
+    for states in [40, 90] {
+        let g = make::many_reductions(&mut c.random, states);
+        in_each_sense(c, &g);
+    }
+    let reductions_of = |c: &mut Comparer, (states, hops): (u16, Hops), sense| shrunk(c, &make::graph_of(states.into(), 3, 0, &hops), sense);
+    assert_eq!(SENSES.map(|sense| reductions_of(c, make::one_a_reduction(120), sense)), [119, 119, 119, 1], "reductions of a chain of 120");
+    assert_eq!(reductions_of(c, make::beside(make::one_a_reduction(100), make::chain(100)), 1), 99, "reductions beside a chain that falls");
+    assert_eq!(reductions_of(c, make::one_a_reduction(1024), 1), 1023, "reductions of the longest chain under R1");
+    assert_eq!(reductions_of(c, make::one_a_reduction(1024), 8), 1, "reductions of the longest chain under R8");
 }
 
 /// Random files and name blocks, whole ones and broken ones.
@@ -749,6 +812,7 @@ pub fn limits(c: &mut Comparer) {
                 c.mark(&g, sense, About(count));
                 c.mark_fast(&g, About(count));
                 c.reduce(&g, sense, About(states as usize), About(3 * count));
+                c.shrink(&g, sense, About(states as usize), About(3 * count));
                 c.round(&g, 0, 1);
                 c.write(&g, &[], About(24_600));
                 c.read(&make::file(&g, &[]), About(3 * count));

@@ -20,14 +20,18 @@ fn split(answer: checker::Answer) -> Result<Vec<u64>, Refusal> {
 pub fn wrappers(c: &mut Comparer, count: usize) {
     senses();
     for i in 0..count {
-        let mut g = if i % 50 == 0 { make::graph(&mut c.random, 300, 4, 900) } else { make::graph(&mut c.random, 7, 4, 16) };
+        let mut g = match i % 50 {
+            0 => make::graph(&mut c.random, 300, 4, 900),
+            1..=5 => make::many_reductions(&mut c.random, 12),
+            _ => make::graph(&mut c.random, 7, 4, 16),
+        };
         if c.random.percent(25) {
             g = make::damaged(&mut c.random, &g);
         }
         one_graph(c, &g);
         typed_views(c, &g);
         name_block(c);
-        c.calls += 19;
+        c.calls += 23;
     }
 }
 
@@ -103,18 +107,23 @@ fn senses() {
     assert_eq!(Sense::default(), Sense::R1, "the sense of the program");
 }
 
-/// Mark and reduce in a sense.
+/// Mark, reduce and shrink in a sense.
 fn in_sense(g: &Graph, sense: Sense) {
     let (graph, number) = (lent(g), sense.number().into());
     let (answer, marks) = checker::mark(&g.lent(), number, &vec![0; g.hops.len() / 3]);
     assert_eq!(graph.mark(sense), split(answer).map(|_| marks.iter().map(|&m| m == 1).collect()), "mark of {g:?} under {sense}");
 
-    let (answer, map, short) = checker::reduce(&g.lent(), number, &vec![0; (g.states as usize).min(1024)], &vec![0; g.hops.len()]);
-    let expected = split(answer).map(|figures| zundrafipo::Reduction {
-        graph: zundrafipo::Graph::new(figures[0] as u32, figures[1] as u32, figures[3] as u32, short[..3 * figures[2] as usize].to_vec()),
-        map,
-    });
+    let short_of = |figures: &[u64], hops: &[u16]| {
+        zundrafipo::Graph::new(figures[0] as u32, figures[1] as u32, figures[3] as u32, hops[..3 * figures[2] as usize].to_vec())
+    };
+    let (map, hops) = (vec![0; (g.states as usize).min(1024)], vec![0; g.hops.len()]);
+    let (answer, map_after, short) = checker::reduce(&g.lent(), number, &map, &hops);
+    let expected = split(answer).map(|figures| zundrafipo::Reduction { graph: short_of(&figures, &short), map: map_after });
     assert_eq!(graph.reduce(sense), expected, "reduce of {g:?} under {sense}");
+
+    let (answer, map_after, last) = checker::shrink(&g.lent(), number, &map, &hops);
+    let shrinking = |figures: Vec<u64>| zundrafipo::Shrinking { graph: short_of(&figures, &last), map: map_after, reductions: figures[4] as u32 };
+    assert_eq!(graph.shrink(sense), split(answer).map(shrinking), "shrink of {g:?} under {sense}");
 }
 
 /// The fault of an answer's figures.

@@ -15,6 +15,7 @@ mod rings;
 mod round;
 mod rounds;
 mod senses;
+mod shrink;
 
 pub use audit::audit;
 pub use check::{check, find, hops_of};
@@ -23,6 +24,7 @@ pub use mark::mark;
 pub use reduce::reduce;
 pub use round::round;
 pub use rounds::mark_fast;
+pub use shrink::shrink;
 
 pub const MOST_STATES: usize = 1024;
 pub const MOST_LABELS: usize = 1024;

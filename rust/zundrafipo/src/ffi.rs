@@ -51,6 +51,23 @@ extern "C" {
         answer_len: usize,
     ) -> u32;
 
+    /// Reduces in a sense again and again until no hop is marked. Answer: 8, with the last graph's state count, label count, hop count and initial state, and the number
+    /// of reductions that marked something.
+    pub fn zf_shrink(
+        states: u32,
+        labels: u32,
+        initial: u32,
+        hops: *const u16,
+        hops_len: usize,
+        sense: u32,
+        map: *mut u16,
+        map_len: usize,
+        short_hops: *mut u16,
+        short_len: usize,
+        answer: *mut u64,
+        answer_len: usize,
+    ) -> u32;
+
     /// Counts the faults of a map from graph 1 to graph 2 and names the first. Answer: 7, with the fault count and the first fault's kind, place and state.
     pub fn zf_audit(
         states1: u32,

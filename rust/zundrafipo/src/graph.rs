@@ -1,4 +1,4 @@
-use crate::{ffi, figure, judge, length, Audit, Fault, Hop, Hops, Refusal, Sense, LONGEST_FILE, MOST_HOPS, MOST_STATES};
+use crate::{ffi, figure, judge, length, Audit, Fault, Hop, Hops, Refusal, Sense, LONGEST_FILE, MOST_HOPS};
 use std::ops::Range;
 
 /// A mode graph: counts, initial state and one flat list of hops, which [`Graph::hops`] shows as [`Hop`]s.
@@ -42,46 +42,6 @@ pub struct FastMarking {
     /// The number of tests. The first round tests every silent hop, each later one those still marked that have a hop to try with a closing that fell in the
     /// round before.
     pub tests: u32,
-}
-
-/// What [`Graph::reduce`] gives: the short graph, and the map that leads to it.
-///
-/// ```
-/// use zundrafipo::{Graph, Reduction, Sense};
-///
-/// let Reduction { graph, map } = Graph::new(2, 2, 1, vec![0, 0, 1, 0, 1, 0, 1, 1, 1]).reduce(Sense::R1)?;
-/// assert_eq!(map, [0, 0]);
-/// assert_eq!(graph, Graph::new(1, 2, 0, vec![0, 1, 0]));
-/// # Ok::<(), zundrafipo::Refusal>(())
-/// ```
-#[derive(Clone, Debug, PartialEq, Eq, Hash)]
-pub struct Reduction {
-    /// The short graph.
-    pub graph: Graph,
-    /// The new state of each old one.
-    pub map: Vec<u16>,
-}
-
-/// The counts and the initial state of a short graph whose hops are in a lent output ([`Graph::reduce_into`]).
-///
-/// ```
-/// use zundrafipo::{Graph, Sense, ShortFigures};
-///
-/// let (mut map, mut short) = ([0; 2], [0; 3]);
-/// let figures = Graph::new(2, 1, 0, vec![0, 0, 1]).reduce_into(Sense::R1, &mut map, &mut short)?;
-/// assert_eq!(figures, ShortFigures { states: 1, labels: 1, hops: 0, initial: 0 });
-/// # Ok::<(), zundrafipo::Refusal>(())
-/// ```
-#[derive(Clone, Copy, Debug, PartialEq, Eq, Hash)]
-pub struct ShortFigures {
-    /// State count.
-    pub states: u32,
-    /// Label count.
-    pub labels: u32,
-    /// Hop count; the output holds three numbers for each.
-    pub hops: u32,
-    /// Initial state.
-    pub initial: u32,
 }
 
 /// Where [`Graph::find`] found a hop, or where it would stand.
@@ -305,63 +265,6 @@ impl Graph {
         };
         let [_, _, _, tests] = judge(number, answer)?;
         Ok(figure(tests))
-    }
-
-    /// The short graph, in which each class of states joined by the hops that the sense marks is one state, with the map to it.
-    ///
-    /// ```
-    /// use zundrafipo::{Graph, Sense};
-    ///
-    /// let reduction = Graph::new(3, 1, 2, vec![0, 0, 1, 0, 0, 2, 1, 0, 2]).reduce(Sense::R1)?;
-    /// assert_eq!(reduction.map, [0, 0, 0]);
-    /// assert_eq!(reduction.graph, Graph::new(1, 1, 0, vec![]));
-    ///
-    /// let graph = Graph::new(3, 2, 0, vec![0, 0, 1, 0, 1, 0, 1, 0, 2, 2, 1, 1]);
-    /// assert_eq!(graph.reduce(Sense::default())?.map, [0, 1, 1]);
-    /// assert_eq!(graph.reduce(Sense::R3)?.map, [0, 0, 0]);
-    /// # Ok::<(), zundrafipo::Refusal>(())
-    /// ```
-    pub fn reduce(&self, sense: Sense) -> Result<Reduction, Refusal> {
-        let mut map = vec![0; length(self.states.into()).min(MOST_STATES)];
-        let mut hops = vec![0; self.flat_hops.len().min(3 * MOST_HOPS)];
-        let figures = self.reduce_into(sense, &mut map, &mut hops)?;
-        hops.truncate(3 * length(figures.hops.into()));
-        Ok(Reduction { graph: Graph::new(figures.states, figures.labels, figures.initial, hops), map })
-    }
-
-    /// Writes the map to the front of `map` and the short hops to that of `short_hops`; nothing past them, and nothing at all with a refusal. `short_hops` must have
-    /// room for as many numbers as this graph's list.
-    ///
-    /// ```
-    /// use zundrafipo::{Graph, Sense};
-    ///
-    /// let (mut map, mut short) = ([9; 3], [9; 9]);
-    /// let figures = Graph::new(2, 2, 0, vec![0, 0, 1, 0, 1, 0, 1, 1, 1]).reduce_into(Sense::R1, &mut map, &mut short)?;
-    /// assert_eq!((map, figures.hops), ([0, 0, 9], 1));
-    /// assert_eq!(short, [0, 1, 0, 9, 9, 9, 9, 9, 9]);
-    /// # Ok::<(), zundrafipo::Refusal>(())
-    /// ```
-    pub fn reduce_into(&self, sense: Sense, map: &mut [u16], short_hops: &mut [u16]) -> Result<ShortFigures, Refusal> {
-        let mut answer = [0; 7];
-        // SAFETY: each pointer stands with the length of the slice it is of; outputs and answer are borrowed alone.
-        let number = unsafe {
-            ffi::zf_reduce(
-                self.states,
-                self.labels,
-                self.initial,
-                self.flat_hops.as_ptr(),
-                self.flat_hops.len(),
-                sense.number(),
-                map.as_mut_ptr(),
-                map.len(),
-                short_hops.as_mut_ptr(),
-                short_hops.len(),
-                answer.as_mut_ptr(),
-                answer.len(),
-            )
-        };
-        let [_, _, _, states, labels, hops, initial] = judge(number, answer)?;
-        Ok(ShortFigures { states: figure(states), labels: figure(labels), hops: figure(hops), initial: figure(initial) })
     }
 
     /// Counts the faults of `map` as a map from this graph, graph 1, to `other`, graph 2, and names the first. Rings are allowed in both.

@@ -15,7 +15,8 @@
 //! # Ok::<(), zundrafipo::Refusal>(())
 //! ```
 //!
-//! Which silent hops count as confluent is said by a [`Sense`]: [`Sense::R1`] is strong confluence, and the weaker ones mark more hops.
+//! Which silent hops count as confluent is said by a [`Sense`]: [`Sense::R1`] is strong confluence, and the weaker ones mark more hops. What one reduction leaves may
+//! be reduced again: [`Graph::shrink`] goes on until no hop is marked, with one map for all of it.
 //!
 //! A graph's hops are one flat list, three numbers a hop; [`Hop`] and [`Graph::hops`] are a typed view of it, and [`Graph::from_hops`] makes one of hops.
 //! [`Graph::find`] says where in the list a hop stands. Where an audit counts faults it names the first of them, and a [`Fault`] says itself in words.
@@ -34,14 +35,16 @@ mod hop;
 mod names;
 mod refusal;
 mod sense;
+mod short;
 
 pub use fault::{Audit, Fault};
 pub use file::{read, read_into, Figures, File};
-pub use graph::{hops_of, FastMarking, Found, Graph, Reduction, ShortFigures};
+pub use graph::{hops_of, FastMarking, Found, Graph};
 pub use hop::{Hop, Hops};
 pub use names::{NameBlock, Names};
 pub use refusal::Refusal;
 pub use sense::Sense;
+pub use short::{Reduction, ShortFigures, Shrinking, ShrunkFigures};
 
 /// The most states a graph can have.
 pub const MOST_STATES: usize = 1024;

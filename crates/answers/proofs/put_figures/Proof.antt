@@ -5,7 +5,7 @@ use native.Mathlib.Omega.{arith}
 use borrow.Author.Needs.{needs}
 use lib.ListN.{length, take, length-set}
 use Rattle.outputs.specs.Output.{onFront}
-use Rattle.answers.proofs.Told.{figures-more, figures-done}
+use Rattle.outputs.proofs.Front.{numbers-more, numbers-done}
 use Rattle.answers.proofs.put_figures.Statement.{statement}
 use Rattle.answers.proofs.put_figures.Tie as tie
 
@@ -39,7 +39,7 @@ loop-less c = omega arith
 loop-again : tie.Need-loop-again Inv-loop μ-loop
 loop-again c =
     let s = c .before .before .before .args in (
-      figures-more (s .out .now) (s .figures .now) (c .before .before .loop .inv .0) (omega arith) (c .before .before .loop .inv .3),
+      numbers-more (s .out .now) (s .figures .now) (c .before .before .loop .inv .0) (omega arith) (c .before .before .loop .inv .3),
       simp length-set (omega arith),
       omega arith,
       omega arith,
@@ -49,7 +49,7 @@ same-length : tie.Need-same-length Inv-loop μ-loop
 same-length c = omega arith
 
 returns : tie.Need-returns Inv-loop μ-loop
-returns c = figures-done (c .before .before .args .out .now) (c .before .before .args .figures .now) {i = c .before .loop .i} (c .before .loop .inv .0) (omega arith)
+returns c = numbers-done (c .before .before .args .out .now) (c .before .before .args .figures .now) {i = c .before .loop .i} (c .before .loop .inv .0) (omega arith)
 
 pub put-figures-spec : {M : Type 1} → statement M
 put-figures-spec =

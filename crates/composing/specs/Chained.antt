@@ -1,0 +1,18 @@
+-- Maps put one after the other (document 02, wish 13). A map is a list, one entry a state. Assumes nothing: these are definitions.
+use Prim.Native.Nat.{ℕ, _<_}
+use mathlib.Core.List.{List}
+use lib.ListN.{length}
+use Rattle.below.specs.Tests.{listed}
+use Rattle.graph.specs.Map.{mapped}
+
+-- "one after the other": m leads from graph 1 to graph 2, n from graph 2 to graph 3, and this from graph 1 to graph 3
+unfoldable pub chained : List ℕ → List ℕ → List ℕ
+chained m n = listed (length m) (λ (s : ℕ). mapped n (mapped m s))
+
+-- each state's own number: the map from a graph to itself
+unfoldable pub ownMap : ℕ → List ℕ
+ownMap n = listed n (λ (s : ℕ). s)
+
+-- each entry of m is below n
+abbrev pub Into : List ℕ → ℕ → Type 0
+Into m n = (s : ℕ) → s < length m → mapped m s < n

@@ -1,0 +1,1 @@
+pub mod Shrink  -- what `shrink` returns and leaves

@@ -1,0 +1,3 @@
+pub mod Stages  -- what every stage keeps: it can be reduced, and its map has no fault
+pub mod Last  -- the last stage: the repetition ends there, its map has no fault, and fewer reductions than states
+pub mod Once  -- under R8 at most one reduction marks something

@@ -1,0 +1,1 @@
+pub mod Reached  -- the stage that the code holds
