@@ -1,7 +1,9 @@
 /* Silent-hop reduction for mode graphs: the proved library's entries for C and C++, x86-64 Linux, System V calling convention.
  *
- * A graph goes in as its state count, label count, initial state and one flat list of hops, three numbers a hop (from, label, to), strictly
- * ascending; label 0 is silent.
+ * A graph goes in as its state count, label count, initial state and one flat list of hops, four numbers a hop (from, label, to, line), strictly
+ * ascending by the first three; label 0 is silent. The line is the one of the source that the hop comes from, 0 for none. It may be any number, and hops are ordered,
+ * compared, found, marked and audited without it: two that differ in the line alone are the same hop. A short hop has the smallest line, 0 apart, of the hops that it comes
+ * from, which are those of its class's representative, and 0 where none of them has one. Before version 0.5.0 hops had three numbers.
  *
  * Slices. A pointer and a length that counts elements. A null pointer is taken beside a length of 0, as an empty std::vector gives it: the entries
  * read and write nothing there. Any other pointer is aligned for its type and has that many elements behind it. No output overlaps anything
@@ -24,7 +26,7 @@
 #include <stdint.h>
 
 #define ZF_VERSION_MAJOR 0
-#define ZF_VERSION_MINOR 4
+#define ZF_VERSION_MINOR 5
 #define ZF_VERSION_PATCH 0
 
 /* The limits. State and label counts are 1 at least. */
@@ -33,14 +35,17 @@
 #define ZF_MOST_HOPS 4096
 #define ZF_MOST_ROUNDS 4
 #define ZF_LONGEST_NAME 32
-#define ZF_LONGEST_FILE 58344
+#define ZF_LONGEST_FILE 66536
+
+/* How many numbers of a list a hop takes: from, label, to and line. */
+#define ZF_NUMBERS_A_HOP 4
 
 /* The numbers. A place counts from 0, that of a hop in hops; it is 0 where none is named. */
 #define ZF_ACCEPTED 0
-#define ZF_COUNTS 1 /* a count outside its limits, or a list length that is no multiple of three */
+#define ZF_COUNTS 1 /* a count outside its limits, or a list length that is no multiple of four */
 #define ZF_INITIAL 2 /* initial state not below the state count */
 #define ZF_HOP 3 /* a hop's state or label not below its count (place: the first such hop) */
-#define ZF_ORDER 4 /* a hop not above the one before (place: the first such hop) */
+#define ZF_ORDER 4 /* a hop not above the one before, its line apart (place: the first such hop) */
 #define ZF_RING 5 /* a ring of silent hops (place: the lowest state on one) */
 #define ZF_ROOM 6 /* an output too short, the answer among them */
 #define ZF_LABELS 7 /* the label counts of two graphs differ */
@@ -48,7 +53,7 @@
 #define ZF_NO_SILENT_HOP 9 /* no silent hop at the asked place */
 #define ZF_ROUNDS 10 /* more than ZF_MOST_ROUNDS rounds */
 #define ZF_FILE_ENDS 11 /* the file ends before its contents (place: the file's length) */
-#define ZF_BIT_MAP 12 /* a bit of byte 0 that must not stand */
+#define ZF_BIT_MAP 12 /* a bit of byte 0 that must not stand: one of bits 4 to 7, or one over a field that holds what its absence means, as lines that are all 0 */
 #define ZF_FILE_LONG 13 /* a file of more than ZF_LONGEST_FILE bytes (place: ZF_LONGEST_FILE), or bytes left over (place: the first of them) */
 #define ZF_NAME 14 /* a name of length 0 or over ZF_LONGEST_NAME, or one equal to an earlier one (place: the length byte of the first such name; for writing,
                       counted from the block's start); for writing, before any fault in a name, a block that ends early (place: its length) or has bytes
@@ -112,15 +117,16 @@ uint32_t zf_mark(uint32_t states, uint32_t labels, uint32_t initial, const uint1
 uint32_t zf_mark_fast(uint32_t states, uint32_t labels, uint32_t initial, const uint16_t *hops, size_t hops_len, uint8_t *marks, size_t marks_len,
                       uint64_t *answer, size_t answer_len);
 
-/* Reduces a graph in a sense (ZF_SENSE_..). Outputs: `map`, one number a state; `short_hops`, for which room is asked as for the input, hops_len numbers, and of which three
+/* Reduces a graph in a sense (ZF_SENSE_..). Outputs: `map`, one number a state; `short_hops`, for which room is asked as for the input, hops_len numbers, and of which four
  * are written for each hop of the short graph. Figures: the short graph's state count, label count, hop count and initial state. */
 uint32_t zf_reduce(uint32_t states, uint32_t labels, uint32_t initial, const uint16_t *hops, size_t hops_len, uint32_t sense,
                    uint16_t *map, size_t map_len, uint16_t *short_hops, size_t short_len, uint64_t *answer, size_t answer_len);
 
 /* Reduces in a sense (ZF_SENSE_..) again and again until no hop is marked, with the refusals of zf_reduce and room as it asks for. Outputs: `map`, one number a state of
- * the graph that goes in, from first states to those of the last graph; `short_hops`, three numbers for each hop of the last graph. Figures: the last graph's state count,
- * label count, hop count and initial state; the number of reductions that marked something, which is below the state count, and at most 1 under R8. With 0 the last graph is
- * the first one, and each state is mapped to itself. */
+ * the graph that goes in, from first states to those of the last graph; `short_hops`, four numbers for each hop of the last graph, whose line is the smallest, 0 apart, of
+ * the first graph's hops that it comes from through all reductions. Figures: the last graph's state count, label count, hop count and initial state; the number of
+ * reductions that marked something, which is below the state count, and at most 1 under R8. With 0 the last graph is the first one, its lines too, and each state is mapped
+ * to itself. */
 uint32_t zf_shrink(uint32_t states, uint32_t labels, uint32_t initial, const uint16_t *hops, size_t hops_len, uint32_t sense,
                    uint16_t *map, size_t map_len, uint16_t *short_hops, size_t short_len, uint64_t *answer, size_t answer_len);
 
@@ -136,24 +142,24 @@ uint32_t zf_audit(uint32_t states1, uint32_t labels1, uint32_t initial1, const u
 uint32_t zf_round(uint32_t states, uint32_t labels, uint32_t initial, const uint16_t *hops, size_t hops_len, uint64_t place, uint32_t rounds,
                   uint64_t *answer, size_t answer_len);
 
-/* Looks a hop up in a graph that is checked for 1 to 4. Figures: 1 where the graph has it, else 0; its place, or how many hops come before it, 0 to the
- * hop count. Any numbers may be asked for: a hop with one that is out of range is not there. */
+/* Looks a hop up in a graph that is checked for 1 to 4, by its first three numbers. Figures: 1 where the graph has it, else 0; its place, or how many hops come
+ * before it, 0 to the hop count. Any numbers may be asked for: a hop with one that is out of range is not there. */
 uint32_t zf_find(uint32_t states, uint32_t labels, uint32_t initial, const uint16_t *hops, size_t hops_len, uint32_t from, uint32_t label, uint32_t to,
                  uint64_t *answer, size_t answer_len);
 
-/* The outgoing hops of a state of graph 1 or 2 (the side). The answer is start and length in numbers of that graph's list, and has no number, table and
- * place; 0 and 0 where there are no hops, for another side, an absent state, or if either graph is refused with 1 to 4. Returns ZF_ACCEPTED, or
+/* The outgoing hops of a state of graph 1 or 2 (the side). The answer is start and length in numbers of that graph's list, four a hop, and has no number, table
+ * and place; 0 and 0 where there are no hops, for another side, an absent state, or if either graph is refused with 1 to 4. Returns ZF_ACCEPTED, or
  * ZF_ROOM for an answer too short. */
 uint32_t zf_hops_of(uint32_t side, uint32_t state, uint32_t states1, uint32_t labels1, uint32_t initial1, const uint16_t *hops1, size_t hops1_len,
                     uint32_t states2, uint32_t labels2, uint32_t initial2, const uint16_t *hops2, size_t hops2_len,
                     uint64_t *answer, size_t answer_len);
 
-/* Reads a graph file. Output: `hops`, three numbers a hop of the file; 3 * ZF_MOST_HOPS take those of any file that is accepted. Figures: state count,
- * label count, initial state, hop count, place and length of the name block. */
+/* Reads a graph file. Output: `hops`, four numbers a hop of the file; ZF_NUMBERS_A_HOP * ZF_MOST_HOPS take those of any file that is accepted. Figures: state
+ * count, label count, initial state, hop count, place and length of the name block. The block ends where the lines begin, or with the file where it has none. */
 uint32_t zf_read(const uint8_t *file, size_t file_len, uint16_t *hops, size_t hops_len, uint64_t *answer, size_t answer_len);
 
-/* Writes a graph file from a graph and a name block (empty: no names). Output: `out`, the file; ZF_LONGEST_FILE bytes take any. Figure: the file's
- * length. */
+/* Writes a graph file from a graph and a name block (empty: no names), with its lines where some hop has one. Output: `out`, the file; ZF_LONGEST_FILE bytes take any.
+ * Figure: the file's length. */
 uint32_t zf_write(uint32_t states, uint32_t labels, uint32_t initial, const uint16_t *hops, size_t hops_len, const uint8_t *names, size_t names_len,
                   uint8_t *out, size_t out_len, uint64_t *answer, size_t answer_len);
 

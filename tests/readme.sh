@@ -99,10 +99,13 @@ same "the bytes of P1" crates/zundrafipo/stdin "$work/p1.zf"
 block docs/REFERENCE.md '```' '07                 initial state' | bytes >"$work/named.zf"
 [ "$(wc -c <"$work/named.zf")" -eq 38 ]
 same "the bytes of P1 with an initial state and a name" tests/program/p1_reference.in "$work/named.zf"
+block docs/REFERENCE.md '```' '0a                 hops and lines follow' | bytes >"$work/lined.zf"
+[ "$(wc -c <"$work/lined.zf")" -eq 39 ]
+same "the bytes of P1 with lines" tests/program/p1_lines.in "$work/lined.zf"
 block docs/REFERENCE.md '```' 'two.zf' | sed -n 's/^printf/printf/p' >"$work/two.sh"
 (cd "$work" && bash two.sh)
 target/bin/zundrafipo <"$work/two.zf" >"$work/printed"
-printf 'in 2 1\nmap 0 0\nmap 1 1\nout 2 1 0\nhop 0 1 1\n' >"$work/expected"
+printf 'in 2 1\nmap 0 0\nmap 1 1\nout 2 1 0\nhop 0 1 1 0\n' >"$work/expected"
 same "the file written by hand" "$work/expected" "$work/printed"
 
 echo "readme: $passed passed, $failed failed"

@@ -1,6 +1,6 @@
 /* Measures the stack that each entry of the library takes. Each call runs at full size in a thread of 256 KiB whose stack was painted before; what is
- * no longer paint was used. Every answer is checked, and every use is held to the header's promise. Given a file name, the longest legal file
- * is written there. */
+ * no longer paint was used. Every answer is checked, and every use is held to the header's promise. Given a file name, the longest file that the program takes is
+ * written there, which is shorter than the longest legal one. */
 #define _DEFAULT_SOURCE
 #include <inttypes.h>
 #include <pthread.h>
@@ -12,23 +12,29 @@
 
 #define THREAD 262144
 #define PAINT 0xa5
-#define NUMBERS (3 * ZF_MOST_HOPS)
+#define NUMBERS (ZF_NUMBERS_A_HOP * ZF_MOST_HOPS)
+#define LINES (2 * ZF_MOST_HOPS) /* bytes, at the end of the file */
 #define NAMES (ZF_MOST_LABELS - 1)
 #define BLOCK (NAMES * (ZF_LONGEST_NAME + 1))
+#define FOR_PROGRAM 65536
 
-static uint16_t tiles[NUMBERS], unordered[NUMBERS], ring[NUMBERS], falling[NUMBERS], turned[NUMBERS], again[NUMBERS], knot[NUMBERS], small[NUMBERS];
+static uint16_t tiles[NUMBERS], unordered[NUMBERS], ring[NUMBERS], falling[NUMBERS], turned[NUMBERS], again[NUMBERS], joined[NUMBERS];
+static uint16_t knot[NUMBERS], small[NUMBERS];
 static uint16_t read_hops[NUMBERS], written_hops[NUMBERS];
 static uint16_t map[ZF_MOST_STATES], wrong_map[ZF_MOST_STATES], one_class[ZF_MOST_STATES], written_map[ZF_MOST_STATES];
-static const uint16_t loops[12] = {0, 1, 0, 0, 2, 0, 0, 3, 0, 0, 4, 0}; /* all but the last are the ring's */
-static uint8_t names[BLOCK], repeated[BLOCK], marks[ZF_MOST_HOPS], out[ZF_LONGEST_FILE], file[ZF_LONGEST_FILE + 1], repeated_file[ZF_LONGEST_FILE];
+static const uint16_t loops[16] = {0, 1, 0, 1, 0, 2, 0, 2, 0, 3, 0, 3, 0, 4, 0, 4}; /* all but the last are the ring's */
+static uint8_t names[BLOCK], repeated[BLOCK], shorter[BLOCK], marks[ZF_MOST_HOPS], out[ZF_LONGEST_FILE];
+static uint8_t file[ZF_LONGEST_FILE + 1], repeated_file[ZF_LONGEST_FILE], idle_file[ZF_LONGEST_FILE];
 static uint64_t answer[16];
 static size_t small_len;
 
+/* With a line that is some number or 0. */
 static uint16_t *put_hop(uint16_t *at, unsigned from, unsigned label, unsigned to) {
     at[0] = (uint16_t)from;
     at[1] = (uint16_t)label;
     at[2] = (uint16_t)to;
-    return at + 3;
+    at[3] = (uint16_t)((from * 40503u + to) % 7u == 0 ? 0 : 65535u - from - to);
+    return at + ZF_NUMBERS_A_HOP;
 }
 
 /* 256 times P1 with seven labels: each four states become two. */
@@ -41,7 +47,8 @@ static void fill_tiles(void) {
         at = put_hop(at, s + 2, 0, s + 3);
     }
     memcpy(unordered, tiles, sizeof tiles);
-    memcpy(unordered + NUMBERS - 3, unordered + NUMBERS - 6, 3 * sizeof *unordered);
+    /* the line stays */
+    memcpy(unordered + NUMBERS - ZF_NUMBERS_A_HOP, unordered + NUMBERS - 2 * ZF_NUMBERS_A_HOP, 3 * sizeof *unordered);
 }
 
 /* All states on one silent ring, with three hops from each to itself. */
@@ -83,6 +90,15 @@ static void fill_again(void) {
     put_hop(at, ZF_MOST_STATES - 1, 4, 0);
 }
 
+/* State 0 has hops by eight labels to 448 states, whose silent hops lead to one: eight short hops are left of 3,584, each with one line of 448. */
+static void fill_joined(void) {
+    uint16_t *at = joined;
+    for (unsigned l = 1; l <= 8; l++)
+        for (unsigned i = 0; i < 448; i++) at = put_hop(at, 0, l, 1 + i);
+    for (unsigned i = 0; i < 448; i++) at = put_hop(at, 1 + i, 0, ZF_MOST_STATES - 1);
+    for (unsigned l = 1; at < joined + NUMBERS; l++) at = put_hop(at, ZF_MOST_STATES - 2, l, 0);
+}
+
 /* 64 states, a silent hop from each to each. */
 static void fill_knot(void) {
     uint16_t *at = knot;
@@ -100,6 +116,18 @@ static void fill_names(void) {
     }
     memcpy(repeated, names, BLOCK);
     memcpy(repeated + BLOCK - ZF_LONGEST_NAME, repeated + 1, ZF_LONGEST_NAME);
+}
+
+/* The names with so many of them a byte shorter; the block's length. */
+static size_t shorten_names(size_t by) {
+    uint8_t *at = shorter;
+    for (size_t n = 0; n < NAMES; n++) {
+        uint8_t length = (uint8_t)(ZF_LONGEST_NAME - (n < by));
+        memcpy(at, names + n * (ZF_LONGEST_NAME + 1), length + 1u);
+        *at = length;
+        at += length + 1;
+    }
+    return (size_t)(at - shorter);
 }
 
 #define FULL ZF_MOST_STATES, ZF_MOST_LABELS, ZF_MOST_STATES - 1
@@ -143,6 +171,8 @@ static uint32_t reduce_turned(void) { return reduce_in(ZF_SENSE_R1, turned, ZF_A
 static uint32_t reduce_turned_r2(void) { return reduce_in(ZF_SENSE_R2, turned, ZF_ANSWER_REDUCE); }
 static uint32_t reduce_turned_r3(void) { return reduce_in(ZF_SENSE_R3, turned, ZF_ANSWER_REDUCE); }
 static uint32_t reduce_turned_r8(void) { return reduce_in(ZF_SENSE_R8, turned, ZF_ANSWER_REDUCE); }
+static uint32_t reduce_joined(void) { return reduce_in(ZF_SENSE_R1, joined, ZF_ANSWER_REDUCE); }
+static uint32_t reduce_joined_r8(void) { return reduce_in(ZF_SENSE_R8, joined, ZF_ANSWER_REDUCE); }
 static uint32_t reduce_sense(void) { return reduce_in(4, tiles, ZF_ANSWER_REDUCE); }
 static uint32_t reduce_ring(void) { return reduce_in(ZF_SENSE_R8, ring, ZF_ANSWER_REDUCE); }
 static uint32_t reduce_short(void) { return reduce_in(ZF_SENSE_R1, tiles, ZF_ANSWER_REDUCE - 1); }
@@ -167,6 +197,8 @@ static uint32_t shrink_turned(void) { return shrink_in(ZF_SENSE_R1, turned, ZF_A
 static uint32_t shrink_turned_r2(void) { return shrink_in(ZF_SENSE_R2, turned, ZF_ANSWER_SHRINK); }
 static uint32_t shrink_turned_r3(void) { return shrink_in(ZF_SENSE_R3, turned, ZF_ANSWER_SHRINK); }
 static uint32_t shrink_turned_r8(void) { return shrink_in(ZF_SENSE_R8, turned, ZF_ANSWER_SHRINK); }
+static uint32_t shrink_joined(void) { return shrink_in(ZF_SENSE_R1, joined, ZF_ANSWER_SHRINK); }
+static uint32_t shrink_joined_r8(void) { return shrink_in(ZF_SENSE_R8, joined, ZF_ANSWER_SHRINK); }
 static uint32_t shrink_sense(void) { return shrink_in(4, tiles, ZF_ANSWER_SHRINK); }
 static uint32_t shrink_ring(void) { return shrink_in(ZF_SENSE_R8, ring, ZF_ANSWER_SHRINK); }
 static uint32_t shrink_short(void) { return shrink_in(ZF_SENSE_R1, again, ZF_ANSWER_SHRINK - 1); }
@@ -181,9 +213,9 @@ static uint32_t audit_apart(void) { return audit_with(one_class); }
 static uint32_t audit_ring_with(size_t loops_len, size_t answer_len) {
     return zf_audit(FULL, LIST(ring), 1, ZF_MOST_LABELS, 0, loops, loops_len, one_class, ZF_MOST_STATES, answer, answer_len);
 }
-static uint32_t audit_ring(void) { return audit_ring_with(9, ZF_ANSWER_AUDIT); }
-static uint32_t audit_made_up(void) { return audit_ring_with(12, ZF_ANSWER_AUDIT); }
-static uint32_t audit_short(void) { return audit_ring_with(12, ZF_ANSWER_AUDIT - 1); }
+static uint32_t audit_ring(void) { return audit_ring_with(12, ZF_ANSWER_AUDIT); }
+static uint32_t audit_made_up(void) { return audit_ring_with(16, ZF_ANSWER_AUDIT); }
+static uint32_t audit_short(void) { return audit_ring_with(16, ZF_ANSWER_AUDIT - 1); }
 
 static uint32_t round_knot(void) { return zf_round(64, ZF_MOST_LABELS, 63, LIST(knot), ZF_MOST_HOPS - 1, ZF_MOST_ROUNDS, answer, ZF_ANSWER_ROUND); }
 static uint32_t round_tiles(void) { return zf_round(FULL, LIST(tiles), ZF_MOST_HOPS - 1, ZF_MOST_ROUNDS, answer, ZF_ANSWER_ROUND); }
@@ -202,6 +234,7 @@ static uint32_t hops_of_refused(void) { return zf_hops_of(2, ZF_MOST_STATES - 2,
 
 static uint32_t read_longest(void) { return zf_read(file, ZF_LONGEST_FILE, LIST(read_hops), answer, ZF_ANSWER_READ); }
 static uint32_t read_repeated(void) { return zf_read(repeated_file, ZF_LONGEST_FILE, LIST(read_hops), answer, ZF_ANSWER_READ); }
+static uint32_t read_idle(void) { return zf_read(idle_file, ZF_LONGEST_FILE, LIST(read_hops), answer, ZF_ANSWER_READ); }
 static uint32_t read_longer(void) { return zf_read(file, ZF_LONGEST_FILE + 1, LIST(read_hops), answer, ZF_ANSWER_READ); }
 static uint32_t read_short(void) { return zf_read(file, ZF_LONGEST_FILE, LIST(read_hops), answer, ZF_ANSWER_READ - 1); }
 
@@ -252,6 +285,8 @@ static const struct call calls[] = {
     {"zf_reduce", "R2, the images", reduce_turned_r2, ZF_ACCEPTED, 5, 3585, ZF_STACK_REDUCE},
     {"zf_reduce", "R3, the images", reduce_turned_r3, ZF_ACCEPTED, 5, 3585, ZF_STACK_REDUCE},
     {"zf_reduce", "R8, the images", reduce_turned_r8, ZF_ACCEPTED, 5, 3585, ZF_STACK_REDUCE},
+    {"zf_reduce", "R1, 448 lines for each of eight hops", reduce_joined, ZF_ACCEPTED, 5, 72, ZF_STACK_REDUCE},
+    {"zf_reduce", "R8, these lines", reduce_joined_r8, ZF_ACCEPTED, 5, 72, ZF_STACK_REDUCE},
     {"zf_reduce", "a sense that is none", reduce_sense, ZF_SENSE, 5, 0, ZF_STACK_REDUCE},
     {"zf_reduce", "a ring of 1,024 states", reduce_ring, ZF_RING, 5, 0, ZF_STACK_REDUCE},
     {"zf_reduce", "R1, answer too short", reduce_short, ZF_ROOM, 0, 0, ZF_STACK_REDUCE},
@@ -272,6 +307,8 @@ static const struct call calls[] = {
     {"zf_shrink", "R2, the images", shrink_turned_r2, ZF_ACCEPTED, 5, 3585, ZF_STACK_SHRINK},
     {"zf_shrink", "R3, the images", shrink_turned_r3, ZF_ACCEPTED, 5, 3585, ZF_STACK_SHRINK},
     {"zf_shrink", "R8, the images", shrink_turned_r8, ZF_ACCEPTED, 5, 3585, ZF_STACK_SHRINK},
+    {"zf_shrink", "R1, 448 lines for each of eight hops", shrink_joined, ZF_ACCEPTED, 5, 72, ZF_STACK_SHRINK},
+    {"zf_shrink", "R8, these lines", shrink_joined_r8, ZF_ACCEPTED, 5, 72, ZF_STACK_SHRINK},
     {"zf_shrink", "a sense that is none", shrink_sense, ZF_SENSE, 7, 0, ZF_STACK_SHRINK},
     {"zf_shrink", "a ring of 1,024 states", shrink_ring, ZF_RING, 7, 0, ZF_STACK_SHRINK},
     {"zf_shrink", "R1, answer too short", shrink_short, ZF_ROOM, 0, 0, ZF_STACK_SHRINK},
@@ -289,10 +326,11 @@ static const struct call calls[] = {
     {"zf_find", "a number out of range, behind all hops", find_far, ZF_ACCEPTED, 4, ZF_MOST_HOPS, ZF_STACK_FIND},
     {"zf_find", "the last hop not above the one before", find_order, ZF_ORDER, 4, 0, ZF_STACK_FIND},
     {"zf_find", "answer too short", find_short, ZF_ROOM, 0, 0, ZF_STACK_FIND},
-    {"zf_hops_of", "side 2", hops_of, ZF_ACCEPTED, 0, NUMBERS - 3, ZF_STACK_HOPS_OF},
+    {"zf_hops_of", "side 2", hops_of, ZF_ACCEPTED, 0, NUMBERS - ZF_NUMBERS_A_HOP, ZF_STACK_HOPS_OF},
     {"zf_hops_of", "graph 1 refused", hops_of_refused, ZF_ACCEPTED, 0, 0, ZF_STACK_HOPS_OF},
     {"zf_read", "the longest legal file", read_longest, ZF_ACCEPTED, 8, BLOCK, ZF_STACK_READ},
-    {"zf_read", "the last name equal to the first", read_repeated, ZF_NAME, 2, ZF_LONGEST_FILE - 33, ZF_STACK_READ},
+    {"zf_read", "the last name equal to the first", read_repeated, ZF_NAME, 2, ZF_LONGEST_FILE - LINES - 33, ZF_STACK_READ},
+    {"zf_read", "lines all 0", read_idle, ZF_BIT_MAP, 2, 0, ZF_STACK_READ},
     {"zf_read", "a byte more", read_longer, ZF_FILE_LONG, 2, ZF_LONGEST_FILE, ZF_STACK_READ},
     {"zf_read", "answer too short", read_short, ZF_ROOM, 0, 0, ZF_STACK_READ},
     {"zf_write", "the longest legal file", write_longest, ZF_ACCEPTED, 3, ZF_LONGEST_FILE, ZF_STACK_WRITE},
@@ -342,19 +380,23 @@ static int prepare(const char *path) {
     fill_falling();
     fill_turned();
     fill_again();
+    fill_joined();
     fill_knot();
     fill_names();
     if (zf_write(FULL, LIST(tiles), names, BLOCK, file, sizeof file, answer, ZF_ANSWER_WRITE) != ZF_ACCEPTED || answer[3] != ZF_LONGEST_FILE) return 0;
     memcpy(repeated_file, file, ZF_LONGEST_FILE);
-    memcpy(repeated_file + ZF_LONGEST_FILE - BLOCK, repeated, BLOCK);
+    memcpy(repeated_file + ZF_LONGEST_FILE - LINES - BLOCK, repeated, BLOCK);
+    memcpy(idle_file, file, ZF_LONGEST_FILE - LINES);
     if (zf_reduce(FULL, LIST(tiles), ZF_SENSE_R1, map, ZF_MOST_STATES, LIST(small), answer, ZF_ANSWER_REDUCE) != ZF_ACCEPTED || answer[3] != 512) return 0;
-    small_len = 3 * (size_t)answer[5];
+    small_len = ZF_NUMBERS_A_HOP * (size_t)answer[5];
     memcpy(wrong_map, map, sizeof map);
     wrong_map[ZF_MOST_STATES - 1] = ZF_MOST_STATES / 2;
     if (path != NULL) {
+        size_t block = shorten_names(ZF_LONGEST_FILE - FOR_PROGRAM);
         FILE *to = fopen(path, "wb");
         if (to == NULL) return 0;
-        if (fwrite(file, 1, ZF_LONGEST_FILE, to) != ZF_LONGEST_FILE) return fclose(to), 0;
+        if (zf_write(FULL, LIST(tiles), shorter, block, out, sizeof out, answer, ZF_ANSWER_WRITE) != ZF_ACCEPTED || answer[3] != FOR_PROGRAM) return fclose(to), 0;
+        if (fwrite(out, 1, FOR_PROGRAM, to) != FOR_PROGRAM) return fclose(to), 0;
         if (fclose(to) != 0) return 0;
     }
     return 1;
@@ -363,7 +405,7 @@ static int prepare(const char *path) {
 int main(int argc, char **argv) {
     unsigned failed = 0;
     if (!prepare(argc > 1 ? argv[1] : NULL)) {
-        fprintf(stderr, "stack: the longest legal file or its graph's reduction could not be made\n");
+        fprintf(stderr, "stack: the longest files or their graph's reduction could not be made\n");
         return 1;
     }
     for (size_t i = 0; i < sizeof calls / sizeof *calls; i++) {

@@ -27,7 +27,7 @@ for name in $needs; do
     [ "$name" = memcpy ] || [ "$name" = memset ] || { echo "archive: needs $name" >&2; exit 1; }
 done
 
-# fits KIB: whether the program prints the whole report of the longest legal file with a stack of so many KiB
+# fits KIB: whether the program prints the whole report of the longest file that it takes with a stack of so many KiB
 fits() {
     { (ulimit -s "$1" && exec env -i "$program" <"$work/longest.in" >"$work/printed"); } 2>/dev/null || true
     [ "$(head -n 1 "$work/printed")" = "in 1024 4096" ] && [ "$(wc -l <"$work/printed")" -eq 3330 ]
@@ -42,4 +42,4 @@ while [ $((high - low)) -gt 4 ]; do
     middle=$(((low + high) / 2))
     if fits "$middle"; then high=$middle; else low=$middle; fi
 done
-echo "program: runs with $high KiB of stack on the longest legal file, $promised are promised"
+echo "program: runs with $high KiB of stack on the longest file that it takes, $promised are promised"

@@ -1,4 +1,4 @@
-// A program for tests: the two round trips of a file, `copy_file` and `graph_back`, over P1, names and bad input. What they answer is printed and held
+// A program for tests: the two round trips of a file, `copy_file` and `graph_back`, over P1, names, lines and bad input. What they answer is printed and held
 // to the file stdout. An element of an output that was not written is 7. Stands on file (the entries) and show (how it is printed).
 use file::round_trip::copy_file;
 use file::round_trip::graph_back;
@@ -77,10 +77,10 @@ fn back_front(
     ));
 }
 
-// What is answered, and 38 bytes and 14 numbers, of which the first `room` and the first `hop_room` were lent.
+// What is answered, and 46 bytes and 18 numbers, of which the first `room` and the first `hop_room` were lent.
 fn back(name: &[u8], shape1: Shape, hops: &[u16], names: &[u8], room: usize, hop_room: usize) {
-    let mut file = [7u8; 38];
-    let mut again = [7u16; 14];
+    let mut file = [7u8; 46];
+    let mut again = [7u16; 18];
     text(name);
     back_front(shape1, hops, names, &mut file, room, &mut again, hop_room);
     bytes(&file);
@@ -118,37 +118,66 @@ fn other_copies() {
     );
 }
 
+// A hop with a line, which stands behind the names, and the same cut; and lines all 0, which no file has.
+fn lined_copies() {
+    copied(
+        b"a hop with a line behind the names",
+        b"\x0e\x02\x00\x02\x00\x01\x00\x00\x00\x01\x00\x01\x00\x01a\x09\x01",
+        33,
+    );
+    copied(
+        b"the line cut",
+        b"\x0e\x02\x00\x02\x00\x01\x00\x00\x00\x01\x00\x01\x00\x01a\x09",
+        33,
+    );
+    copied(
+        b"bit 3 over a line of 0",
+        b"\x0a\x02\x00\x02\x00\x01\x00\x00\x00\x01\x00\x01\x00\x00\x00",
+        33,
+    );
+    copied(b"bit 3 over no hops", b"\x08\x01\x00\x01\x00", 33);
+}
+
+// P1 with lines, a name and so much room.
+fn lined_back(name: &[u8], room: usize) {
+    let hops = [0u16, 0, 1, 3, 0, 1, 2, 4, 1, 1, 3, 5, 2, 0, 3, 2];
+    back(name, shape_of(4, 2, 0), &hops, b"\x04open", room, 18);
+}
+
 // P1 with an initial state and a block of names.
 fn p1_back(name: &[u8], initial: u32, names: &[u8], room: usize, hop_room: usize) {
-    let hops = [0u16, 0, 1, 0, 1, 2, 1, 1, 3, 2, 0, 3];
+    let hops = [0u16, 0, 1, 0, 0, 1, 2, 0, 1, 1, 3, 0, 2, 0, 3, 0];
     back(name, shape_of(4, 2, initial), &hops, names, room, hop_room);
 }
 
 fn backs() {
-    p1_back(b"P1 with a name", 0, b"\x04open", 38, 14);
-    p1_back(b"P1 with no names", 0, b"", 38, 14);
-    p1_back(b"an initial state", 3, b"\x04open", 38, 14);
-    p1_back(b"just room", 0, b"\x04open", 36, 12);
+    p1_back(b"P1 with a name", 0, b"\x04open", 46, 18);
+    p1_back(b"P1 with no names", 0, b"", 46, 18);
+    p1_back(b"an initial state", 3, b"\x04open", 46, 18);
+    p1_back(b"just room", 0, b"\x04open", 36, 16);
+    lined_back(b"P1 with lines", 46);
+    lined_back(b"P1 with lines, too short", 43);
 }
 
 fn bad_backs() {
-    let falling = [0u16, 0, 1, 0, 1, 2, 2, 0, 3, 1, 1, 3];
-    p1_back(b"the file too short", 0, b"\x04open", 35, 14);
-    p1_back(b"the hops too short", 0, b"\x04open", 38, 11);
-    p1_back(b"a name too many", 0, b"\x01a\x01b", 38, 14);
+    let falling = [0u16, 0, 1, 0, 0, 1, 2, 0, 2, 0, 3, 0, 1, 1, 3, 0];
+    p1_back(b"the file too short", 0, b"\x04open", 35, 18);
+    p1_back(b"the hops too short", 0, b"\x04open", 46, 15);
+    p1_back(b"a name too many", 0, b"\x01a\x01b", 46, 18);
     back(
         b"a hop below the one before",
         shape_of(4, 2, 0),
         &falling,
         b"\x04open",
-        38,
-        14,
+        46,
+        18,
     );
 }
 
 fn main() {
     copies();
     other_copies();
+    lined_copies();
     backs();
     bad_backs();
 }

@@ -1,4 +1,4 @@
-// A program for tests: hops of a state as a part of its table, `hops_of`, of P1 as graph 1 and its short graph as graph 2. The numbers of each part are
+// A program for tests: hops of a state as a part of its table, `hops_of`, of P1 with lines as graph 1 and its short graph as graph 2. The numbers of each part are
 // printed and held to the file stdout. Stands on outgoing (the entry) and show (how it is printed).
 use graph::Shape;
 use outgoing::hops_of;
@@ -29,8 +29,8 @@ fn print_part<'a>(
 
 // Both tables as they should be.
 fn good(side: u32, state: u32) {
-    let p1 = [0u16, 0, 1, 0, 1, 2, 1, 1, 3, 2, 0, 3];
-    let short = [0u16, 1, 1];
+    let p1 = [0u16, 0, 1, 3, 0, 1, 2, 4, 1, 1, 3, 5, 2, 0, 3, 2];
+    let short = [0u16, 1, 1, 5];
     print_part(
         b"",
         side,
@@ -43,8 +43,8 @@ fn good(side: u32, state: u32) {
 }
 
 fn bad_table_1(side: u32) {
-    let falling = [0u16, 0, 1, 0, 1, 2, 2, 0, 3, 1, 1, 3];
-    let short = [0u16, 1, 1];
+    let falling = [0u16, 0, 1, 3, 0, 1, 2, 4, 2, 0, 3, 2, 1, 1, 3, 5];
+    let short = [0u16, 1, 1, 5];
     print_part(
         b"table 1 bad, ",
         side,
@@ -57,8 +57,8 @@ fn bad_table_1(side: u32) {
 }
 
 fn bad_table_2(side: u32) {
-    let p1 = [0u16, 0, 1, 0, 1, 2, 1, 1, 3, 2, 0, 3];
-    let short = [0u16, 1, 1];
+    let p1 = [0u16, 0, 1, 3, 0, 1, 2, 4, 1, 1, 3, 5, 2, 0, 3, 2];
+    let short = [0u16, 1, 1, 5];
     print_part(
         b"table 2 bad, ",
         side,

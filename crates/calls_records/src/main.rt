@@ -8,7 +8,9 @@ use graph::NUMBERS_A_HOP;
 use graph::Shape;
 use graph::hops::hop_at;
 use graph::hops::hop_count;
+use graph::hops::lined_hop;
 use graph::hops::part;
+use graph::hops::put_hop;
 use records::check_records;
 use records::mark_records;
 use show::answer;
@@ -50,6 +52,7 @@ fn records_of(nums: &[u16]) -> [Hop; RECORDS]
         from: 0,
         label: 0,
         to: 0,
+        line: 0,
     }; RECORDS];
     let n = hop_count(nums);
     let mut i = 0;
@@ -94,34 +97,24 @@ fn ones(marks: &[u8]) -> usize {
 }
 
 // A list at the limit of 4,096 hops, five a state: the silent one leads to the next state, the others to the state itself. So each silent hop is
-// marked but that of state 818, since 4,096 hops end with the silent hop of state 819, which has no other to answer with.
+// marked but that of state 818, since 4,096 hops end with the silent hop of state 819, which has no other to answer with. Each has its place for a line.
 fn stair(i: usize) -> Hop
     requires { ⌜ i < most-hops + 1 ⌝ }
 {
     let from = (i / 5) as u16;
     let label = (i % 5) as u16;
+    let line = i as u16;
     if label == 0 {
-        return Hop {
-            from,
-            label,
-            to: from + 1,
-        };
+        return lined_hop(from, label, from + 1, line);
     }
-    Hop {
-        from,
-        label,
-        to: from,
-    }
+    lined_hop(from, label, from, line)
 }
 
 fn stairs() -> [u16; NUMBERS_A_HOP * RECORDS] {
     let mut nums = [0u16; NUMBERS_A_HOP * RECORDS];
     let mut i = 0;
     while i < RECORDS {
-        let h = stair(i);
-        nums[NUMBERS_A_HOP * i] = h.from;
-        nums[NUMBERS_A_HOP * i + 1] = h.label;
-        nums[NUMBERS_A_HOP * i + 2] = h.to;
+        put_hop(&mut nums, i, stair(i));
         i += 1;
     }
     nums
@@ -150,7 +143,7 @@ fn many(name: &[u8], n: usize, room: usize) {
 }
 
 fn p1(name: &[u8], shape: Shape, room: usize) {
-    let hops = [0u16, 0, 1, 0, 1, 2, 1, 1, 3, 2, 0, 3];
+    let hops = [0u16, 0, 1, 3, 0, 1, 2, 4, 1, 1, 3, 5, 2, 0, 3, 2];
     few(name, shape, &hops, 1, room);
 }
 
@@ -165,10 +158,18 @@ fn small() {
 
 fn others() {
     let none = [0u16; 0];
-    let p8 = [0u16, 0, 1, 1, 0, 2, 2, 0, 1];
-    let falling = [0u16, 0, 1, 1, 1, 3, 0, 1, 2];
+    let p8 = [0u16, 0, 1, 0, 1, 0, 2, 6, 2, 0, 1, 0];
+    let falling = [0u16, 0, 1, 1, 1, 1, 3, 2, 0, 1, 2, 3];
+    let twice = [0u16, 0, 1, 0, 0, 0, 1, 9];
     few(b"no records", shape_of(1, 1, 0), &none, 1, 6);
     few(b"P8", shape_of(3, 1, 0), &p8, 1, 6);
+    few(
+        b"two hops that differ in the line",
+        shape_of(4, 2, 0),
+        &twice,
+        1,
+        6,
+    );
     few(
         b"a hop below the one before",
         shape_of(4, 2, 0),
@@ -180,13 +181,34 @@ fn others() {
 
 // The case of the text, in which 0 to 1 is marked by R8 alone, and P8, whose ring speaks behind a sense that is none.
 fn in_sense(name: &[u8], sense: u32, room: usize) {
-    let hops = [0u16, 0, 1, 0, 1, 2, 1, 1, 3, 2, 0, 4, 4, 0, 3];
+    let hops = [
+        0u16,
+        0,
+        1,
+        0,
+        0,
+        1,
+        2,
+        65535,
+        1,
+        1,
+        3,
+        0,
+        2,
+        0,
+        4,
+        7,
+        4,
+        0,
+        3,
+        7,
+    ];
     few(name, shape_of(5, 2, 0), &hops, sense, room);
 }
 
 fn senses() {
-    let p8 = [0u16, 0, 1, 1, 0, 2, 2, 0, 1];
-    let falling = [0u16, 0, 1, 1, 1, 3, 0, 1, 2];
+    let p8 = [0u16, 0, 1, 0, 1, 0, 2, 6, 2, 0, 1, 0];
+    let falling = [0u16, 0, 1, 1, 1, 1, 3, 2, 0, 1, 2, 3];
     in_sense(b"sense 1", 1, 6);
     in_sense(b"sense 2", 2, 6);
     in_sense(b"sense 3", 3, 6);

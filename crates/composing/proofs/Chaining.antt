@@ -11,7 +11,7 @@ use Rattle.composing.specs.Chained.{chained, ownMap}
 
 pub chained-length : (m n : List ℕ) → length (chained m n) ≡ length m
 unfolding chained
-chained-length m n = length-listed (λ (s : ℕ). mapped n (mapped m s)) (length m)
+chained-length m n = length-listed _ _
 
 pub chained-at : (m n : List ℕ) {s : ℕ} → s < length m → mapped (chained m n) s ≡ mapped n (mapped m s)
 unfolding chained
@@ -19,7 +19,7 @@ chained-at m n l = getD-listed (λ (s : ℕ). mapped n (mapped m s)) (length m) 
 
 pub own-length : (n : ℕ) → length (ownMap n) ≡ n
 unfolding ownMap
-own-length n = length-listed (λ (s : ℕ). s) n
+own-length n = length-listed _ n
 
 pub own-at : (n : ℕ) {s : ℕ} → s < n → mapped (ownMap n) s ≡ s
 unfolding ownMap

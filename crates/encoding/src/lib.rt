@@ -8,6 +8,9 @@ use graph::Shape;
 use graph::hops::hop_count;
 use hopfield::hops::field_length;
 use hopfield::hops::put_field;
+use linefield::has_line;
+use linefield::lines_length;
+use linefield::put_lines;
 use numbers::put_number;
 use outputs::put_bytes;
 ghost use mathlib.Core.Path.{_≡_};
@@ -19,7 +22,8 @@ ghost use Rattle.graph.specs.Hops.{count};
 ghost use Rattle.outputs.specs.Output.{onFront, overAt};
 ghost use Rattle.numbers.specs.Numbers.{most-number};
 ghost use Rattle.fields.specs.Format.{initial-place};
-ghost use Rattle.encoding.specs.Encode.{bitsOf, initialBytes, hopsBytes, headBytes, encode, Writable};
+ghost use Rattle.linefield.specs.LineField.{anyLine};
+ghost use Rattle.encoding.specs.Encode.{bitsOf, initialBytes, hopsBytes, linesBytes, headBytes, encode, Writable};
 
 // How many bytes the initial state takes.
 fn initial_length(shape: Shape) -> usize
@@ -43,6 +47,17 @@ fn hops_length(hops: &[u16]) -> usize
     field_length(n as u16)
 }
 
+// How many bytes the lines take.
+fn lines_bytes(hops: &[u16]) -> usize
+    requires { ⌜ count (now hops) ≤ most-hops ⌝ }
+    ensures { λ r. ⌜ r ≡ length (linesBytes (now (hops .entry))) ⌝ }
+{
+    if has_line(hops) {
+        return lines_length(hop_count(hops) as u16);
+    }
+    0
+}
+
 // A bit over a field that is there.
 fn bit_of(absent: bool, value: u8) -> u8
     ensures { λ r. ⌜ (r ≡ cond absent 0 value) × (r ≤ value) ⌝ }
@@ -53,14 +68,16 @@ fn bit_of(absent: bool, value: u8) -> u8
     value
 }
 
-fn bits_of(shape: Shape, hops: &[u16], names: &[u8]) -> u8
+fn bits_of(shape: Shape, hops: &[u16], names: &[u8], lined: bool) -> u8
+    requires { ⌜ lined ≡ anyLine (now hops) ⌝ }
     ensures { λ r. ⌜ r ≡ bitsOf shape (now (hops .entry)) (now (names .entry)) ⌝ }
 {
     let count = hop_count(hops);
     let initial_bit = bit_of(shape.initial == 0, 1);
     let hops_bit = bit_of(count == 0, 2);
     let names_bit = bit_of(names.len() == 0, 4);
-    initial_bit + hops_bit + names_bit
+    let lines_bit = bit_of(!lined, 8);
+    initial_bit + hops_bit + names_bit + lines_bit
 }
 
 fn put_initial(out: &mut [u8], at: usize, shape: Shape)
@@ -83,6 +100,16 @@ fn put_hops(out: &mut [u8], at: usize, hops: &[u16])
     }
 }
 
+fn put_lines_of(out: &mut [u8], at: usize, hops: &[u16], lined: bool)
+    requires lined { ⌜ lined ≡ anyLine (now hops) ⌝ }
+    requires room { ⌜ at + length (linesBytes (now hops)) ≤ length (now out) ⌝ }
+    ensures { λ _. ⌜ now (out .exit) ≡ overAt at (linesBytes (now (hops .entry))) (now (out .entry)) ⌝ }
+{
+    if lined {
+        put_lines(out, at, hops);
+    }
+}
+
 // Byte 0, the state count and the label count.
 fn put_head(shape: Shape, bits: u8, out: &mut [u8])
     requires states { ⌜ shape .states ≤ most-number ⌝ }
@@ -95,24 +122,29 @@ fn put_head(shape: Shape, bits: u8, out: &mut [u8])
     put_number(out, LABELS_PLACE, shape.labels as u16);
 }
 
-// The whole file, to the front of the output.
-pub fn put_file(shape: Shape, hops: &[u16], names: &[u8], out: &mut [u8])
-    requires { ⌜ Writable shape (now hops) (now names) (length (now out)) ⌝ }
-    ensures { λ _. ⌜ now (out .exit) ≡ onFront (encode shape (now (hops .entry)) (now (names .entry))) (now (out .entry)) ⌝ }
-{
-    let bits = bits_of(shape, hops, names);
-    let hops_at = INITIAL_PLACE + initial_length(shape);
-    let names_at = hops_at + hops_length(hops);
-    put_head(shape, bits, out);
-    put_initial(out, INITIAL_PLACE, shape);
-    put_hops(out, hops_at, hops);
-    put_bytes(out, names_at, names);
-}
-
 // How many bytes the whole file takes.
 pub fn encoded_length(shape: Shape, hops: &[u16], names: &[u8]) -> usize
     requires { ⌜ count (now hops) ≤ most-hops ⌝ }
     ensures { λ r. ⌜ r ≡ length (encode shape (now (hops .entry)) (now (names .entry))) ⌝ }
 {
-    INITIAL_PLACE + (initial_length(shape) + (hops_length(hops) + names.len()))
+    INITIAL_PLACE
+        + (initial_length(shape) + (hops_length(hops) + (names.len() + lines_bytes(hops))))
+}
+
+// The whole file, to the front of the output. Its length tells whether there are lines, so that they are not looked for again.
+pub fn put_file(shape: Shape, hops: &[u16], names: &[u8], size: usize, out: &mut [u8])
+    requires writable { ⌜ Writable shape (now hops) (now names) (length (now out)) ⌝ }
+    requires size { ⌜ size ≡ length (encode shape (now hops) (now names)) ⌝ }
+    ensures { λ _. ⌜ now (out .exit) ≡ onFront (encode shape (now (hops .entry)) (now (names .entry))) (now (out .entry)) ⌝ }
+{
+    let hops_at = INITIAL_PLACE + initial_length(shape);
+    let names_at = hops_at + hops_length(hops);
+    let lines_at = names_at + names.len();
+    let lined = lines_at < size;
+    let bits = bits_of(shape, hops, names, lined);
+    put_head(shape, bits, out);
+    put_initial(out, INITIAL_PLACE, shape);
+    put_hops(out, hops_at, hops);
+    put_bytes(out, names_at, names);
+    put_lines_of(out, lines_at, hops, lined);
 }

@@ -1,15 +1,23 @@
 -- Laws of the fields of a file. Assumes nothing.
 use Prim.Native.Nat.{ℕ, _+_, _-_, _*_, _≤_}
-use mathlib.Core.Path.{_≡_}
+use mathlib.Core.Path.{_≡_, ap, _∙_}
 use mathlib.Core.Bool.{Bool, true, false, cond}
 use mathlib.Core.List.{List}
+use native.Mathlib.Nat.{le-refl}
 use native.Mathlib.Omega.{arith}
-use lib.ListN.{length}
-use Rattle.numbers.specs.Numbers.{numberAt}
-use Rattle.hopfield.specs.Field.{fieldLength, hopsInField}
+use lib.ListN.{length, take, drop, length-drop}
+use lib.Seq.{take-all, getD-drop}
+use Rattle.numbers.specs.Numbers.{most-number, numberAt}
+use Rattle.numbers.proofs.TwoBytes.{Bytes}
+use Rattle.names.specs.Block.{nameAt}
+use Rattle.names.proofs.Blocks.{name-most}
+use Rattle.linefield.specs.LineField.{linesLength, LinesLie}
+use Rattle.linefield.specs.declared.Lines.{Lines}
+use Rattle.hopfield.specs.Field.{fieldLength}
 use Rattle.hopfield.proofs.Field.{length-in-field, count-in-field}
 use Rattle.graph.specs.Hops.{numberPlace, count}
-use Rattle.fields.specs.Format.{hopListIn, initial-place, hasInitial, hasHops, hasNames, labelsIn, initialIn, hopsPlace, hopsIn, namesPlace, namesIn, blockPlace, blockLength}
+use Rattle.fields.specs.Format.{hopListIn, initial-place, hasInitial, hasHops, hasNames, hasLines, labelsIn, initialIn, hopsPlace, hopsIn, namesPlace, namesIn, restOf, linesPlace}
+use Rattle.fields.specs.Format.{lineBytesIn, linesIn, need, blockPlace, blockLength}
 
 module _ (b : List ℕ) where
   pub hops-place-most : hopsPlace b ≤ initial-place + 2
@@ -45,7 +53,7 @@ module _ (b : List ℕ) where
   unfolding hopsIn namesPlace
   hops-off e = (rw e, rw e (omega arith))
 
-  pub names-on : hasNames b ≡ true → (namesIn b ≡ labelsIn b - 1) × (blockPlace b ≡ namesPlace b) × (blockLength b ≡ length b - namesPlace b)
+  pub names-on : hasNames b ≡ true → (namesIn b ≡ labelsIn b - 1) × (blockPlace b ≡ namesPlace b) × (blockLength b ≡ linesPlace b - namesPlace b)
   unfolding namesIn blockPlace blockLength
   names-on e = (rw e, rw e, rw e)
 
@@ -53,14 +61,50 @@ module _ (b : List ℕ) where
   unfolding namesIn blockPlace blockLength
   names-off e = (rw e, rw e, rw e)
 
+  pub lines-on : hasLines b ≡ true → lineBytesIn b ≡ linesLength (hopsIn b)
+  unfolding lineBytesIn
+  lines-on e = rw e
+
+  pub lines-off : hasLines b ≡ false → lineBytesIn b ≡ 0
+  unfolding lineBytesIn
+  lines-off e = rw e
+
+  -- they are few, for the hops are
+  hops-most : Bytes b → hopsIn b ≤ most-number
+  unfolding hopsIn
+  hops-most small = go (hasHops b) where
+    go : (t : Bool) → cond t (numberAt b (hopsPlace b)) 0 ≤ most-number
+    go true = omega (arith, small (hopsPlace b), small (hopsPlace b + 1))
+    go false = omega arith
+
+  pub line-bytes-most : Bytes b → lineBytesIn b ≤ linesLength most-number
+  unfolding lineBytesIn
+  line-bytes-most small = go (hasLines b) where
+    go : (t : Bool) → cond t (linesLength (hopsIn b)) 0 ≤ linesLength most-number
+    go true = omega (arith, hops-most small)
+    go false = omega arith
+
+  -- where there is a list of lines, it lies before the file's end
+  pub lines-lie : need b ≤ length b → {ls : Lines} {n : ℕ} → ls ≡ linesIn b → n ≡ hopsIn b → LinesLie b ls n
+  unfolding need linesIn
+  lines-lie l {ls} {n} e d = rw (e, d) (λ t. omega (arith, lines-on t))
+
   -- the hop list is as long as the hop count says
   pub length-hop-list : length (hopListIn b) ≡ numberPlace (hopsIn b)
   unfolding hopListIn
-  length-hop-list = length-in-field b (hopsPlace b) (hopsIn b)
+  length-hop-list = length-in-field b (hopsPlace b) (linesIn b) (hopsIn b)
 
   pub count-hop-list : count (hopListIn b) ≡ hopsIn b
   unfolding hopListIn
-  count-hop-list = count-in-field b (hopsPlace b) (hopsIn b)
+  count-hop-list = count-in-field b (hopsPlace b) (linesIn b) (hopsIn b)
+
+  pub names-before-lines : namesPlace b ≤ linesPlace b
+  unfolding linesPlace
+  names-before-lines = omega arith
+
+  pub names-before-end : namesPlace b ≤ need b
+  unfolding need linesPlace
+  names-before-end = omega arith
 
   pub hops-before-names : hopsPlace b ≤ namesPlace b
   unfolding namesPlace
@@ -74,3 +118,20 @@ module _ (b : List ℕ) where
     pub place-without : f ≡ false → p ≡ namesPlace b
     unfolding namesPlace
     place-without t = rw (← d, t, ← e) (omega arith)
+
+-- the part of the file that the code lends
+pub rest-part : (b : List ℕ) {p : ℕ} → p ≡ namesPlace b → take (length b - p) (drop p b) ≡ restOf b
+unfolding restOf
+rest-part b {p} e = take-all (length b - p) (drop p b) (rw length-drop (le-refl _)) ∙ ap (λ (n : ℕ). drop n b) e
+
+-- where the walk over the names ends
+module _ (b : List ℕ) {p n : ℕ} (e : p ≡ namesPlace b) (d : n ≡ namesIn b) {r : ℕ} (h : r ≡ nameAt (take (length b - p) (drop p b)) n) where
+  pub walk-ends : p + r ≡ linesPlace b
+  unfolding linesPlace
+  walk-ends = rw (h, rest-part b e, d) (ap (λ (k : ℕ). k + nameAt (restOf b) (namesIn b)) e)
+
+  pub walk-most : Bytes b → r ≤ 256 * n
+  unfolding restOf
+  walk-most small = rw h (name-most (take (length b - p) (drop p b)) (rw (rest-part b e) rest-small) n) where
+    rest-small : Bytes (restOf b)
+    rest-small i = rw (getD-drop (namesPlace b) b i 0) (small (namesPlace b + i))

@@ -1,13 +1,21 @@
 // The fields of a file, where they lie and what they hold, as its own numbers say it: byte 0 with its bits, the state and label counts, the initial state, the
-// hop field and the block of names. `format` asks whether a file holds what its numbers say, `reader` gives what they hold. A missing byte reads 0, so
-// all of this can be asked of any bytes. It stands on numbers, hopfield and names.
+// hop field, the block of names and the list of lines. `format` asks whether a file holds what its numbers say, `reader` gives what they hold. A missing byte reads 0, so
+// all of this but what lies behind the hops can be asked of any bytes. It stands on numbers, linefield, hopfield and names.
 use graph::Shape;
 use hopfield::hops::field_length;
+use linefield::Lines;
+use linefield::are_zero;
+use linefield::lines_length;
+use names::end_of;
 use numbers::byte_at;
 use numbers::number_at;
 ghost use mathlib.Core.Path.{_≡_};
-ghost use Rattle.fields.specs.Format.{hasInitial, hasHops, hasNames, initialIn, hopsPlace, hopsIn, namesPlace, namesIn};
-ghost use Rattle.fields.specs.Format.{shapeIn, blockPlace, blockLength, idleBit};
+ghost use mathlib.Core.Bool.{_&&_};
+ghost use Prim.Native.Nat.{_≤_};
+ghost use lib.ListN.{length};
+ghost use Rattle.linefield.specs.LineField.{zeroLines};
+ghost use Rattle.fields.specs.Format.{hasInitial, hasHops, hasNames, hasLines, initialIn, hopsPlace, hopsIn, namesPlace, namesIn};
+ghost use Rattle.fields.specs.Format.{linesPlace, lineBytesIn, linesIn, need, shapeIn, blockPlace, blockLength, idleBit};
 
 // Where the numbers stand that are always there, and where the initial state would.
 pub const STATES_PLACE: usize = 1;
@@ -32,6 +40,12 @@ pub fn has_names(file: &[u8]) -> bool
     ensures { λ r. ⌜ r ≡ hasNames (now (file .entry)) ⌝ }
 {
     byte_at(file, 0) / 4 % 2 == 1
+}
+
+pub fn has_lines(file: &[u8]) -> bool
+    ensures { λ r. ⌜ r ≡ hasLines (now (file .entry)) ⌝ }
+{
+    byte_at(file, 0) / 8 % 2 == 1
 }
 
 pub fn initial_in(file: &[u8]) -> u16
@@ -85,6 +99,34 @@ pub fn names_in(file: &[u8]) -> u16
     0
 }
 
+// Where the lines begin, if there are any: where the names end.
+pub fn lines_place(file: &[u8]) -> usize
+    requires { ⌜ namesPlace (now file) ≤ length (now file) ⌝ }
+    ensures { λ r. ⌜ r ≡ linesPlace (now (file .entry)) ⌝ }
+{
+    let place = names_place(file);
+    place + end_of(&file[place..], names_in(file) as usize)
+}
+
+// How many bytes the lines take.
+pub fn line_bytes_in(file: &[u8]) -> usize
+    ensures { λ r. ⌜ r ≡ lineBytesIn (now (file .entry)) ⌝ }
+{
+    if has_lines(file) {
+        return lines_length(hops_in(file));
+    }
+    0
+}
+
+pub fn lines_in(file: &[u8]) -> Lines
+    requires { ⌜ namesPlace (now file) ≤ length (now file) ⌝ }
+    ensures { λ r. ⌜ r ≡ linesIn (now (file .entry)) ⌝ }
+{
+    let stand = has_lines(file);
+    let at = lines_place(file);
+    Lines { stand, at }
+}
+
 pub fn shape_in(file: &[u8]) -> Shape
     ensures { λ r. ⌜ r ≡ shapeIn (now (file .entry)) ⌝ }
 {
@@ -108,20 +150,33 @@ pub fn block_place(file: &[u8]) -> usize
     0
 }
 
+// It ends where the lines begin.
 pub fn block_length(file: &[u8]) -> usize
+    requires { ⌜ namesPlace (now file) ≤ length (now file) ⌝ }
     ensures { λ r. ⌜ r ≡ blockLength (now (file .entry)) ⌝ }
 {
-    let place = names_place(file);
     if has_names(file) {
-        if place <= file.len() {
-            return file.len() - place;
-        }
+        return lines_place(file) - names_place(file);
     }
     0
 }
 
-// Row 12: a bit over a field that holds what absence means.
-pub fn idle_bit(file: &[u8]) -> bool
+// Whether bit 3 stands over lines that are all 0, where the lines begin at `lines`.
+fn idle_lines(file: &[u8], lines: usize) -> bool
+    requires place { ⌜ lines ≡ linesPlace (now file) ⌝ }
+    requires within { ⌜ need (now file) ≤ length (now file) ⌝ }
+    ensures { λ r. ⌜ r ≡ (hasLines (now (file .entry)) && zeroLines (now (file .entry)) lines (hopsIn (now (file .entry)))) ⌝ }
+{
+    if has_lines(file) {
+        return are_zero(file, lines, hops_in(file) as usize);
+    }
+    false
+}
+
+// Row 12: a bit over a field that holds what absence means. The lines begin at `lines`.
+pub fn idle_bit(file: &[u8], lines: usize) -> bool
+    requires place { ⌜ lines ≡ linesPlace (now file) ⌝ }
+    requires within { ⌜ need (now file) ≤ length (now file) ⌝ }
     ensures { λ r. ⌜ r ≡ idleBit (now (file .entry)) ⌝ }
 {
     let initial = initial_in(file);
@@ -130,5 +185,7 @@ pub fn idle_bit(file: &[u8]) -> bool
     let initial_bit = has_initial(file);
     let hops_bit = has_hops(file);
     let names_bit = has_names(file);
-    (initial_bit & (initial == 0)) | ((hops_bit & (hops == 0)) | (names_bit & (labels <= 1)))
+    let lines_idle = idle_lines(file, lines);
+    (initial_bit & (initial == 0))
+        | ((hops_bit & (hops == 0)) | ((names_bit & (labels <= 1)) | lines_idle))
 }

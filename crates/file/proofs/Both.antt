@@ -7,32 +7,34 @@ use mathlib.Core.List.{List}
 use mathlib.Core.Logic.{_⊎_, ⊎-elim}
 use native.Mathlib.Omega.{arith}
 use borrow.Author.Tests.{eq-eqb, ne-eqb, eqb-true, eqb-false, le-leb, lt-leb, leb-true}
-use lib.ListN.{length, take, drop, length-drop}
+use lib.ListN.{length, getD, take, drop, List·getD-append}
 use lib.Seq.{take-at}
 use lib.Dec.{eqb, leb}
 use Rattle.graph.specs.Hops.{numberPlace}
-use Rattle.graph.specs.Answers.{accepted, refused, roomFor}
+use Rattle.graph.specs.Answers.{most-numbers, accepted, refused, roomFor}
 use Rattle.limits.specs.Check.{Admitted}
 use Rattle.graph.specs.declared.Shape.{Shape}
 use Rattle.graph.specs.declared.Answer.{Answer}
 use Rattle.below.proofs.Bools.{decided}
 use Rattle.limits.proofs.Checked.{check-admitted, admitted-check}
 use Rattle.graph.proofs.Accepts.{both-accept}
+use Rattle.names.specs.Block.{nameAt, firstBad}
 use Rattle.names.proofs.Blocks.{name-later}
+use Rattle.names.proofs.Fronts.{name-same, first-bad-same}
 use Rattle.outputs.specs.Output.{onFront}
-use Rattle.fields.specs.Format.{hasNames, labelsIn, hopsIn, namesPlace, namesIn, restOf, need, shapeIn, hopListIn, blockPlace, blockLength, blockIn}
+use Rattle.fields.specs.Format.{hasNames, labelsIn, hopsIn, namesIn, restOf, linesPlace, need, shapeIn, hopListIn, blockPlace, blockLength, blockIn}
 use Rattle.reader.specs.Read.{readAnswer, nothing, contentsOf, readOf, readHops}
 use Rattle.encoding.specs.Encode.{encode}
 use Rattle.writer.specs.Write.{blockAnswer, namesGiven, givenAnswer, writeAnswer, nothingWritten, writeOf, writeBytes}
-use Rattle.file.specs.RoundTrip.{most-numbers, copyAnswer, copyOf, copyBytes, backAnswer, backOf, backBytes, backHops}
+use Rattle.file.specs.RoundTrip.{copyAnswer, copyOf, copyBytes, backAnswer, backOf, backBytes, backHops}
 use Rattle.reader.specs.declared.Contents.{Contents}
 use Rattle.writer.specs.declared.Written.{Written}
-use Rattle.fields.proofs.Laws.{names-on, names-off}
+use Rattle.fields.proofs.Laws.{names-before-lines, names-on, names-off}
 use Rattle.reader.proofs.Entry.{hops-part, graph-accepts, hops-most, accepted-sound}
 use Rattle.writer.proofs.Given.{block-good}
-use Rattle.format.proofs.Sound.{Sound, names-within}
+use Rattle.format.proofs.Sound.{Sound}
 use Rattle.numbers.proofs.TwoBytes.{Bytes}
-use Rattle.file.proofs.Again.{block-again, block-some, block-none, decode-encode}
+use Rattle.file.proofs.Again.{block-again, block-ends, block-some, block-none, decode-encode}
 use Rattle.file.proofs.Back.{ReadBack, encode-decode}
 
 -- what the entries' results say of their answers
@@ -78,17 +80,24 @@ module _ (b : List ℕ) (room : ℕ) (small : Bytes b) (z : readAnswer b room .n
   hops-again-most = omega (arith, hops-most b room z)
 
   pub block-within : blockPlace b + blockLength b ≤ length b
+  unfolding need
   block-within =
-      ⊎-elim (λ e. let (n, p, l) = names-on b e in omega (arith, names-within b sound)) (λ e. let (n, p, l) = names-off b e in omega arith) (decided (hasNames b))
+      ⊎-elim (λ e. let (n, p, l) = names-on b e in omega (arith, names-before-lines b, sound .exact)) (λ e. let (n, p, l) = names-off b e in omega arith) (decided (hasNames b))
+
+  -- the block's names are those of the file, without the lines that follow
+  same-names : (i : ℕ) → i < length (blockIn b) → getD (restOf b) i 0 ≡ getD (blockIn b) i 0
+  same-names i l = rw (block-again b small sound) (List·getD-append (blockIn b) (drop (linesPlace b) b) 0 i l)
 
   block-accepted : hasNames b ≡ true → blockAnswer (blockIn b) (labelsIn b - 1) ≡ accepted
-  unfolding need restOf
   block-accepted e =
-      rw (← block-again b small sound, ← names-on b e .0)
-      (sym (block-good (restOf b) (namesIn b) refl (omega (arith, sized, sound .exact)) (omega (arith, sized, sound .exact)) refl
-      (omega (arith, name-later (restOf b) (sound .clean))))) where
-        sized : length (restOf b) + namesPlace b ≡ length b
-        sized = omega (arith, length-drop (namesPlace b) b, names-within b sound)
+      rw (← names-on b e .0)
+      (sym (block-good (blockIn b) (namesIn b) refl (omega (arith, ends)) (omega (arith, ends)) refl
+      (omega (arith, name-later (blockIn b) {j = namesIn b} {k = firstBad (blockIn b) (namesIn b)} (rw (← first-bad-same (restOf b) (blockIn b) same-names (namesIn b) within) (sound .clean)))))) where
+        within : nameAt (restOf b) (namesIn b) ≤ length (blockIn b)
+        within = omega (arith, block-ends b small sound)
+
+        ends : nameAt (blockIn b) (namesIn b) ≡ length (blockIn b)
+        ends = sym (name-same (restOf b) (blockIn b) same-names (namesIn b) within) ∙ block-ends b small sound
 
   names-accepted : namesGiven (shapeIn b) (blockIn b) ≡ accepted
   unfolding namesGiven shapeIn

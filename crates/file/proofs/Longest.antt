@@ -1,6 +1,6 @@
--- The longest legal file has 58,344 bytes and no fewer: 1,024 states and labels, initial state 1, hops i / 4, i % 4, 0 for i below 4,096, and for each
--- label from 1 upward a name of 32 bytes that begins with the label's number less 1. Assumes nothing.
-use Prim.Native.Nat.{ℕ, zero, suc, _+_, _-_, _*_, _/_, _%_, _<_, _≤_}
+-- The longest legal file has 66,536 bytes and no fewer: 1,024 states and labels, initial state 1, hops i / 4, i % 4, 0 of line i + 1 for i below 4,096, and
+-- for each label from 1 upward a name of 32 bytes that begins with the label's number less 1. Assumes nothing.
+use Prim.Native.Nat.{ℕ, zero, suc, _+_, _*_, _/_, _%_, _<_, _≤_}
 use mathlib.Core.Path.{_≡_, refl, sym, ap, _∙_}
 use mathlib.Core.Bool.{true, false, cond}
 use mathlib.Core.List.{List}
@@ -11,18 +11,21 @@ use borrow.Author.Tests.{eq-eqb, ne-eqb, eqb-true, lt-ltb}
 use lib.ListN.{length, getD}
 use lib.Dec.{eqb, ltb}
 use Rattle.below.specs.Tests.{listed}
-use Rattle.graph.specs.Hops.{numberPlace, from, label, to, hopOf, hopAt, flat}
+use Rattle.graph.specs.Hops.{numberPlace, count, from, label, to, lineAt, linedHop, hopAt, flat}
 use Rattle.graph.specs.Order.{before, Ascending}
 use Rattle.graph.specs.Answers.{most-states, most-labels, most-hops, accepted}
 use Rattle.graph.specs.declared.Hop.{Hop}
 use Rattle.limits.specs.Check.{Admitted}
 use Rattle.graph.specs.declared.Shape.{Shape}
-use Rattle.below.proofs.Bools.{and-right, or-right, lt-or-le, no-test}
-use Rattle.below.proofs.Tests.{length-listed, getD-listed, all-at, any-no, least-is}
+use Rattle.below.proofs.Bools.{not-no, and-right, or-right, lt-or-le, no-test}
+use Rattle.below.proofs.Tests.{length-listed, getD-listed, all-at, any-no, any-found, least-is}
+use Rattle.linefield.specs.LineField.{anyLine}
+use Rattle.linefield.proofs.Laws.{lined}
 use Rattle.hopfield.specs.Field.{hopsBy}
 use Rattle.hopfield.proofs.Lists.{length-flat-by, flat-by-at}
 use Rattle.limits.proofs.Checked.{admitted-check}
-use Rattle.names.specs.Block.{longest-name, most-name-bytes, nameAt, sameByte, sameName, repeated, lengthFits, bad, firstBad}
+use Rattle.names.specs.Block.{longest-name, most-name-bytes, nameAt, repeated, lengthFits, bad, firstBad}
+use Rattle.comparing.specs.Pair.{sameByte, sameName}
 use Rattle.encoding.specs.Encode.{encode}
 use Rattle.format.specs.Rows.{most-names, most-bytes}
 use Rattle.writer.specs.Write.{blockAnswer, namesGiven, givenAnswer}
@@ -30,7 +33,7 @@ use Rattle.writer.proofs.Given.{block-good}
 use Rattle.file.proofs.Back.{longest-at-limits}
 
 fullHop : ℕ → Hop
-fullHop i = hopOf (i / 4) (i % 4) 0
+fullHop i = linedHop (i / 4) (i % 4) 0 (i + 1)
 
 pub fullHops : List ℕ
 fullHops = flat (hopsBy most-hops fullHop)
@@ -43,7 +46,7 @@ unfolding fullHops
 hops-long = length-flat-by fullHop most-hops
 
 module _ (i : ℕ) (l : i < most-hops) where
-  hop-full : hopAt fullHops i ≡ hopOf (i / 4) (i % 4) 0
+  hop-full : hopAt fullHops i ≡ linedHop (i / 4) (i % 4) 0 (i + 1)
   unfolding fullHops fullHop
   hop-full = flat-by-at fullHop most-hops l
 
@@ -55,6 +58,9 @@ module _ (i : ℕ) (l : i < most-hops) where
 
   to-full : to fullHops i ≡ 0
   to-full = ap (λ (h : Hop). h .to) hop-full
+
+  line-full : lineAt fullHops i ≡ i + 1
+  line-full = ap (λ (h : Hop). h .line) hop-full
 
 full-ascends : Ascending fullHops
 unfolding Ascending before
@@ -76,7 +82,7 @@ full-admitted = record {
   labels-some = omega arith;
   labels-most = omega arith;
   hops-most = omega (arith, hops-long);
-  three-a-hop = omega (arith, hops-long);
+  whole-hops = omega (arith, hops-long);
   initial-in = omega arith;
   range = record {
     from-in = λ i l. omega (arith, hops-long, from-full i (omega (arith, hops-long)));
@@ -154,8 +160,12 @@ unfolding givenAnswer namesGiven fullShape
 full-accepted =
     rw (admitted-check fullShape fullHops full-admitted, ne-eqb (length fullNames) 0 (λ z. omega (arith, names-long))) names-accepted
 
+full-lined : anyLine fullHops ≡ true
+unfolding anyLine
+full-lined = any-found (lined fullHops) (count fullHops) {i = 0} (omega (arith, hops-long)) (not-no (ne-eqb (lineAt fullHops 0) 0 (λ z. omega (arith, line-full 0 (omega arith)))))
+
 pub full-longest : length (encode fullShape fullHops fullNames) ≡ most-bytes
 unfolding fullShape
-full-longest = longest-at-limits fullShape fullHops fullNames (λ z. some z) hops-long names-long where
+full-longest = longest-at-limits fullShape fullHops fullNames (λ z. some z) hops-long full-lined names-long where
   some : fullShape .initial ≡ 0 → ⊥
   some z = omega arith

@@ -1,25 +1,21 @@
 -- The two round trips of document 01. Assumes nothing: these are definitions.
-use Prim.Native.Nat.{ℕ, _-_}
+use Prim.Native.Nat.{ℕ, _+_, _-_}
 use mathlib.Core.Bool.{cond}
 use mathlib.Core.List.{List}
 use lib.ListN.{length}
 use lib.Dec.{eqb}
-use Rattle.graph.specs.Hops.{count, numberPlace}
-use Rattle.graph.specs.Answers.{most-hops, accepted, andThen, roomFor}
+use Rattle.graph.specs.Hops.{count}
+use Rattle.graph.specs.Answers.{most-numbers, accepted, andThen, roomFor}
 use Rattle.graph.specs.declared.Shape.{Shape}
 use Rattle.graph.specs.declared.Answer.{Answer}
 use Rattle.outputs.specs.Output.{written}
 use Rattle.reader.specs.Read.{readAnswer, nothing}
 use Rattle.reader.specs.declared.Contents.{Contents}
-use Rattle.encoding.specs.Encode.{encode}
+use Rattle.encoding.specs.Encode.{linesBytes, encode}
 use Rattle.writer.specs.Write.{givenAnswer, nothingWritten}
 use Rattle.writer.specs.declared.Written.{Written}
 
--- room for the hops of every graph
-abbrev pub most-numbers : ℕ
-most-numbers = numberPlace most-hops
-
--- "A file read and written again has the same bytes"
+-- "A file read and written again has the same bytes": it is read into room for the hops of every graph
 unfoldable pub copyAnswer : List ℕ → ℕ → Answer
 copyAnswer b room = andThen (readAnswer b most-numbers) (roomFor (length b) room)
 
@@ -29,9 +25,9 @@ copyOf b room = cond (eqb (copyAnswer b room .number) 0) (record { answer = acce
 unfoldable pub copyBytes : List ℕ → List ℕ → List ℕ
 copyBytes b old = written (copyAnswer b (length old) .number) b old
 
--- "a graph written and read again is the same graph with the same block": the block is the end of the file
+-- "a graph written and read again is the same graph with the same block": the same lines too; the block stands before the lines
 unfoldable pub blockStart : Shape → List ℕ → List ℕ → ℕ
-blockStart sh hs ns = cond (eqb (length ns) 0) 0 (length (encode sh hs ns) - length ns)
+blockStart sh hs ns = cond (eqb (length ns) 0) 0 (length (encode sh hs ns) - (length ns + length (linesBytes hs)))
 
 abbrev pub sameGraph : Shape → List ℕ → List ℕ → Contents
 sameGraph sh hs ns = record { answer = accepted; shape = sh; hops = count hs; «names_place» = blockStart sh hs ns; «names_len» = length ns }

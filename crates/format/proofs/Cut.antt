@@ -1,22 +1,22 @@
 -- "file ends before its contents": every proper front of an accepted file is refused with 11, at its own length. Assumes nothing.
-use Prim.Native.Nat.{ℕ, zero, suc, _+_, _-_, _<_, _≤_}
-use mathlib.Core.Path.{_≡_, refl, sym, ap, _∙_}
+use Prim.Native.Nat.{ℕ, _+_, _-_, _<_, _≤_}
+use mathlib.Core.Path.{_≡_, sym, ap, _∙_}
 use mathlib.Core.Bool.{true}
 use mathlib.Core.List.{List}
 use mathlib.Core.Logic.{_⊎_, ⊎-elim}
-use native.Mathlib.Nat.{le-refl}
 use native.Mathlib.Omega.{arith}
 use lib.ListN.{length, getD, take, List·getD-eq-default}
 use lib.Seq.{length-take-le, getD-take, getD-drop}
 use Rattle.graph.specs.Answers.{refused}
 use Rattle.below.proofs.Bools.{decided, lt-or-le}
 use Rattle.names.specs.Block.{nameAt}
-use Rattle.names.proofs.Blocks.{name-later}
+use Rattle.names.proofs.Fronts.{name-same}
 use Rattle.numbers.specs.Numbers.{numberAt}
-use Rattle.fields.specs.Format.{labels-place, bitMap, hasInitial, hasHops, hasNames, hopsPlace, hopsIn, namesPlace, namesIn, restOf, need}
+use Rattle.fields.specs.Format.{labels-place, bitMap, hasInitial, hasHops, hasNames, hasLines, hopsPlace, hopsIn, namesPlace, namesIn, restOf, linesPlace}
+use Rattle.fields.specs.Format.{lineBytesIn, need}
 use Rattle.format.specs.Rows.{formatAnswer}
 use Rattle.format.proofs.Answers.{ends-early}
-use Rattle.fields.proofs.Laws.{names-place-least, hops-on, hops-off}
+use Rattle.fields.proofs.Laws.{names-place-least, names-before-end, hops-on, hops-off}
 use Rattle.format.proofs.Sound.{Sound}
 
 module _ (b : List ℕ) (k : ℕ) (shorter : k < length b) where
@@ -35,8 +35,7 @@ module _ (b : List ℕ) (k : ℕ) (shorter : k < length b) where
   -- where the front holds all that its own numbers ask, it asks as much as the whole file
   module _ (enough : need front ≤ k) where
     names-in-front : namesPlace front ≤ k
-    unfolding need
-    names-in-front = omega (arith, enough)
+    names-in-front = omega (arith, enough, names-before-end front)
 
     bits-same : bitMap front ≡ bitMap b
     bits-same = same-at 0 (omega (arith, names-in-front, names-place-least front))
@@ -70,21 +69,19 @@ module _ (b : List ℕ) (k : ℕ) (shorter : k < length b) where
     byte-same i l =
         getD-drop (namesPlace front) front i 0 ∙ same-at (namesPlace front + i) l ∙ ap (λ (n : ℕ). getD b (n + i) 0) names-same ∙ sym (getD-drop (namesPlace b) b i 0)
 
-    walk-same : (j : ℕ) → j ≤ namesIn front → nameAt (restOf front) j ≡ nameAt (restOf b) j
-    unfolding nameAt need
-    walk-same zero l = refl
-    walk-same (suc j) l =
-        rw (← walk-same j (omega arith), ← byte-same (nameAt (restOf front) j) (omega (arith, enough, name-later (restOf front) {j = j} {k = namesIn front} (omega arith))))
+    walk-same : nameAt (restOf front) (namesIn front) ≡ nameAt (restOf b) (namesIn front)
+    unfolding need linesPlace
+    walk-same = name-same (restOf front) (restOf b) {m = k - namesPlace front} (λ i l. byte-same i (omega arith)) (namesIn front) (omega (arith, enough))
 
     need-same : need b ≡ need front
-    unfolding need
-    need-same = rw (← names-same, ← count-same, ← walk-same (namesIn front) (le-refl _))
+    unfolding need linesPlace lineBytesIn hasLines
+    need-same = rw (← names-same, ← count-same, ← walk-same, ← bits-same, ← hops-same)
 
   module _ (s : Sound b) where
     early : k < need front
     early = ⊎-elim (λ l. l) (λ l. absurd (omega (arith, need-same l, s .exact))) (lt-or-le k (need front))
 
-    low-front : bitMap front < 8
+    low-front : bitMap front < 16
     low-front = ⊎-elim (λ l. omega (arith, same-at 0 l, s .low)) (λ l. omega (arith, List·getD-eq-default front 0 {n = 0} (omega (arith, front-long)))) (lt-or-le 0 k)
 
     pub front-refused : refused 11 k ≡ formatAnswer front

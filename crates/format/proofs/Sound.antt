@@ -11,7 +11,9 @@ use lib.Dec.{eqb, leb, ltb}
 use Rattle.graph.specs.declared.Answer.{Answer}
 use Rattle.below.proofs.Bools.{clash}
 use Rattle.names.specs.Block.{firstBad}
-use Rattle.fields.specs.Format.{bitMap, hasInitial, hasHops, hasNames, labelsIn, initialIn, hopsIn, namesPlace, namesIn, restOf, need, idleBit}
+use Rattle.linefield.specs.LineField.{zeroLines}
+use Rattle.fields.specs.Format.{bitMap, hasInitial, hasHops, hasNames, hasLines, labelsIn, initialIn, hopsIn, namesPlace, namesIn, restOf, linesPlace, need, idleBit}
+use Rattle.fields.proofs.Laws.{names-before-end}
 use Rattle.format.specs.Rows.{most-bytes, namesAnswer, formatAnswer}
 
 -- a check that can only refuse did not speak
@@ -21,7 +23,7 @@ past false r x n e = (refl, e)
 
 pub record Sound (b : List ℕ) : Type 0 where
   pub short : length b ≤ most-bytes
-  pub low : bitMap b < 8
+  pub low : bitMap b < 16
   pub exact : need b ≡ length b
   pub busy : idleBit b ≡ false
   pub clean : namesIn b ≤ firstBad (restOf b) (namesIn b)
@@ -31,7 +33,7 @@ module _ (b : List ℕ) where
   unfolding formatAnswer namesAnswer
   format-sound e =
       let (p, e1) = past (ltb most-bytes (length b)) _ _ (λ z. absurd (omega arith)) e in
-      let (q, e2) = past (leb 8 (bitMap b)) _ _ (λ z. absurd (omega arith)) e1 in
+      let (q, e2) = past (leb 16 (bitMap b)) _ _ (λ z. absurd (omega arith)) e1 in
       let (r, e3) = past (ltb (length b) (need b)) _ _ (λ z. absurd (omega arith)) e2 in
       let (s, e4) = past (ltb (need b) (length b)) _ _ (λ z. absurd (omega arith)) e3 in
       let (t, e5) = past (idleBit b) _ _ (λ z. absurd (omega arith)) e4 in
@@ -46,28 +48,34 @@ module _ (b : List ℕ) where
 
   -- the names begin within the file
   pub names-within : Sound b → namesPlace b ≤ length b
-  unfolding need
-  names-within s = omega (arith, s .exact)
+  names-within s = omega (arith, s .exact, names-before-end b)
 
   -- each bit stands over something
   module _ (s : idleBit b ≡ false) where
-    apart : (x y z : Bool) → (x || (y || z)) ≡ false → (x ≡ false) × (y ≡ false) × (z ≡ false)
-    apart true y z e = clash refl e
-    apart false true z e = clash refl e
-    apart false false z e = (refl, refl, e)
+    apart : (x y z w : Bool) → (x || (y || (z || w))) ≡ false → (x ≡ false) × (y ≡ false) × (z ≡ false) × (w ≡ false)
+    apart true y z w e = clash refl e
+    apart false true z w e = clash refl e
+    apart false false true w e = clash refl e
+    apart false false false w e = (refl, refl, refl, e)
 
     left-on : {x y : Bool} → x ≡ true → (x && y) ≡ false → y ≡ false
     left-on {x = true} d e = e
     left-on {x = false} d e = clash d refl
 
-    pub initial-there : hasInitial b ≡ true → initialIn b ≡ 0 → ⊥
+    bits :
+        ((hasInitial b && eqb (initialIn b) 0) ≡ false) × ((hasHops b && eqb (hopsIn b) 0) ≡ false) × ((hasNames b && leb (labelsIn b) 1) ≡ false) ×
+        ((hasLines b && zeroLines b (linesPlace b) (hopsIn b)) ≡ false)
     unfolding idleBit
-    initial-there h = eqb-false _ _ (left-on h (apart (hasInitial b && eqb (initialIn b) 0) (hasHops b && eqb (hopsIn b) 0) (hasNames b && leb (labelsIn b) 1) s .0))
+    bits = apart (hasInitial b && eqb (initialIn b) 0) (hasHops b && eqb (hopsIn b) 0) (hasNames b && leb (labelsIn b) 1) (hasLines b && zeroLines b (linesPlace b) (hopsIn b)) s
+
+    pub initial-there : hasInitial b ≡ true → initialIn b ≡ 0 → ⊥
+    initial-there h = eqb-false _ _ (left-on h (bits .0))
 
     pub hops-there : hasHops b ≡ true → hopsIn b ≡ 0 → ⊥
-    unfolding idleBit
-    hops-there h = eqb-false _ _ (left-on h (apart (hasInitial b && eqb (initialIn b) 0) (hasHops b && eqb (hopsIn b) 0) (hasNames b && leb (labelsIn b) 1) s .1))
+    hops-there h = eqb-false _ _ (left-on h (bits .1))
 
     pub names-there : hasNames b ≡ true → 1 < labelsIn b
-    unfolding idleBit
-    names-there h = leb-false _ _ (left-on h (apart (hasInitial b && eqb (initialIn b) 0) (hasHops b && eqb (hopsIn b) 0) (hasNames b && leb (labelsIn b) 1) s .2))
+    names-there h = leb-false _ _ (left-on h (bits .2))
+
+    pub lines-there : hasLines b ≡ true → zeroLines b (linesPlace b) (hopsIn b) ≡ false
+    lines-there h = left-on h (bits .3)

@@ -2,6 +2,7 @@
 // asked of the graph. The answer is the first of `reader`'s, and of what prints a file. It stands on the fields of a file and on the search for a bad name.
 use fields::INITIAL_PLACE;
 use fields::idle_bit;
+use fields::line_bytes_in;
 use fields::names_in;
 use fields::names_place;
 use graph::Answer;
@@ -9,22 +10,25 @@ use graph::MOST_LABELS;
 use graph::answers::accept;
 use graph::answers::refuse;
 use hopfield::hops::MOST_FIELD_BYTES;
+use linefield::MOST_LINE_BYTES;
 use names::LEAST_NAME_BYTES;
 use names::MOST_NAME_BYTES;
+use names::MOST_PLACE;
 use names::end_of;
 use names::first_bad;
 use numbers::byte_at;
 ghost use mathlib.Core.Path.{_≡_};
 ghost use Rattle.format.specs.Rows.{RestAt, formatAnswer};
 
-// The longest legal file, 58,344 bytes: the head with an initial state, 4,096 hops, and 1,023 names of 32 bytes.
+// The longest legal file, 66,536 bytes: the head with an initial state, 4,096 hops, 1,023 names of 32 bytes, and 4,096 lines.
 const MOST_BYTES: usize = INITIAL_PLACE
     + 2
     + MOST_FIELD_BYTES
-    + MOST_NAME_BYTES * (MOST_LABELS - 1);
+    + MOST_NAME_BYTES * (MOST_LABELS - 1)
+    + MOST_LINE_BYTES;
 
-// 14 speaks before 1, so the table of places is not for 1,023 names but for the file's length: a name that passes takes two bytes at least.
-const PLACES: usize = (MOST_BYTES - INITIAL_PLACE + 1) / LEAST_NAME_BYTES;
+// 14 speaks before 1, so the table of places is not for 1,023 names but for all that go into one: a name that passes takes two bytes at least.
+const PLACES: usize = (MOST_PLACE + 1) / LEAST_NAME_BYTES;
 
 // From row 11 on, where the rest of the file begins at `place`.
 fn rest_answer(file: &[u8], rest: &[u8], place: usize) -> Answer
@@ -32,19 +36,20 @@ fn rest_answer(file: &[u8], rest: &[u8], place: usize) -> Answer
     ensures { λ r. ⌜ r ≡ formatAnswer (now (file .entry)) ⌝ }
 {
     let n = names_in(file) as usize;
-    let end = end_of(rest, n);
+    let names_end = end_of(rest, n);
+    let end = names_end + line_bytes_in(file);
     if rest.len() < end {
         return refuse(11, file.len());
     }
     if end < rest.len() {
         return refuse(13, place + end);
     }
-    if idle_bit(file) {
+    if idle_bit(file, place + names_end) {
         return refuse(12, 0);
     }
     let mut places = [0u16; PLACES];
     let bad = first_bad(rest, n, &mut places);
-    if bad < end {
+    if bad < names_end {
         return refuse(14, place + bad);
     }
     accept()
@@ -57,7 +62,7 @@ pub fn format_answer(file: &[u8]) -> Answer
     if MOST_BYTES < file.len() {
         return refuse(13, MOST_BYTES);
     }
-    if 8 <= byte_at(file, 0) {
+    if 16 <= byte_at(file, 0) {
         return refuse(12, 0);
     }
     let place = names_place(file);

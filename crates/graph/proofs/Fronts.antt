@@ -9,17 +9,17 @@ use native.Mathlib.Numerals.{add-one}
 use native.Mathlib.Omega.{arith}
 use lib.ListN.{length, getD, set, drop, length-append, length-drop, length-set, List·getD-append}
 use lib.Seq.{drop-cons, drop-drop, drop-append-add, getD-at, getD-set-same, getD-set-other, take-at, ext-getD}
-use Rattle.graph.specs.Hops.{count, from, label, to, hopOf, hopAt, noHop, Alike, flat, put, front, over, between, numberPlace}
+use Rattle.graph.specs.Hops.{count, from, label, to, lineAt, linedHop, hopAt, noHop, Alike, flat, put, front, over, between, numberPlace}
 use Rattle.graph.specs.declared.Hop.{Hop}
 use Rattle.graph.proofs.Places.{length-flat, count-flat, flat-at}
 
--- a place of a list with three numbers more in front
-module _ (a b c : ℕ) (l : List ℕ) (j : ℕ) {i : ℕ} (e : i ≡ suc (suc (suc j))) where
-  getD-later : getD (a ∷ b ∷ c ∷ l) i 0 ≡ getD l j 0
-  getD-later = ap (λ (k : ℕ). getD (a ∷ b ∷ c ∷ l) k 0) e
+-- a place of a list with the numbers of a hop in front
+module _ (x : Hop) (l : List ℕ) (j : ℕ) {i : ℕ} (e : i ≡ suc (suc (suc (suc j)))) where
+  getD-later : getD (x .from ∷ x .label ∷ x .to ∷ x .line ∷ l) i 0 ≡ getD l j 0
+  getD-later = ap (λ (k : ℕ). getD (x .from ∷ x .label ∷ x .to ∷ x .line ∷ l) k 0) e
 
-  set-later : (v : ℕ) → set (a ∷ b ∷ c ∷ l) i v ≡ a ∷ b ∷ c ∷ set l j v
-  set-later v = ap (λ (k : ℕ). set (a ∷ b ∷ c ∷ l) k v) e
+  set-later : (v : ℕ) → set (x .from ∷ x .label ∷ x .to ∷ x .line ∷ l) i v ≡ x .from ∷ x .label ∷ x .to ∷ x .line ∷ set l j v
+  set-later v = ap (λ (k : ℕ). set (x .from ∷ x .label ∷ x .to ∷ x .line ∷ l) k v) e
 
 module _ (rest : List ℕ) where
   pub hop-flat : (xs : List Hop) {i : ℕ} → i < length xs → hopAt (flat xs ++ rest) i ≡ getD xs i noHop
@@ -28,20 +28,24 @@ module _ (rest : List ℕ) where
   hop-flat (x ∷ xs) {i = zero} l = refl
   hop-flat (x ∷ xs) {i = suc i} l = same ∙ hop-flat xs (le-of-suc-le-suc l) where
     same : hopAt (flat (x ∷ xs) ++ rest) (suc i) ≡ hopAt (flat xs ++ rest) i
-    same = λ d. hopOf
-        (getD-later (x .from) (x .label) (x .to) (flat xs ++ rest) (numberPlace i) {i = numberPlace (suc i)} (omega arith) d)
-        (getD-later (x .from) (x .label) (x .to) (flat xs ++ rest) (numberPlace i + 1) {i = numberPlace (suc i) + 1} (omega arith) d)
-        (getD-later (x .from) (x .label) (x .to) (flat xs ++ rest) (numberPlace i + 2) {i = numberPlace (suc i) + 2} (omega arith) d)
+    same = λ d. linedHop
+        (getD-later x (flat xs ++ rest) (numberPlace i) {i = numberPlace (suc i)} (omega arith) d)
+        (getD-later x (flat xs ++ rest) (numberPlace i + 1) {i = numberPlace (suc i) + 1} (omega arith) d)
+        (getD-later x (flat xs ++ rest) (numberPlace i + 2) {i = numberPlace (suc i) + 2} (omega arith) d)
+        (getD-later x (flat xs ++ rest) (numberPlace i + 3) {i = numberPlace (suc i) + 3} (omega arith) d)
 
   pub put-flat : (h : Hop) (xs : List Hop) {i : ℕ} → i < length xs → put (flat xs ++ rest) i h ≡ flat (set xs i h) ++ rest
   unfolding flat
   put-flat h [] l = absurd (not-suc-le-zero l)
   put-flat h (x ∷ xs) {i = zero} l = refl
   put-flat h (x ∷ xs) {i = suc i} l =
-      ap (λ (m : List ℕ). set (set m (numberPlace (suc i) + 1) (h .label)) (numberPlace (suc i) + 2) (h .to)) (set-later (x .from) (x .label) (x .to) _ (numberPlace i) {i = numberPlace (suc i)} (omega arith) (h .from)) ∙
-      ap (λ (m : List ℕ). set m (numberPlace (suc i) + 2) (h .to)) (set-later (x .from) (x .label) (x .to) _ (numberPlace i + 1) {i = numberPlace (suc i) + 1} (omega arith) (h .label)) ∙
-      set-later (x .from) (x .label) (x .to) _ (numberPlace i + 2) {i = numberPlace (suc i) + 2} (omega arith) (h .to) ∙
-      ap (λ (m : List ℕ). x .from ∷ x .label ∷ x .to ∷ m) (put-flat h xs (le-of-suc-le-suc l))
+      ap (λ (m : List ℕ). set (set (set m (at + 1) (h .label)) (at + 2) (h .to)) (at + 3) (h .line)) (set-later x _ (numberPlace i) {i = at} (omega arith) (h .from)) ∙
+      ap (λ (m : List ℕ). set (set m (at + 2) (h .to)) (at + 3) (h .line)) (set-later x _ (numberPlace i + 1) {i = at + 1} (omega arith) (h .label)) ∙
+      ap (λ (m : List ℕ). set m (at + 3) (h .line)) (set-later x _ (numberPlace i + 2) {i = at + 2} (omega arith) (h .to)) ∙
+      set-later x _ (numberPlace i + 3) {i = at + 3} (omega arith) (h .line) ∙
+      ap (λ (m : List ℕ). x .from ∷ x .label ∷ x .to ∷ x .line ∷ m) (put-flat h xs (le-of-suc-le-suc l)) where
+        at : ℕ
+        at = numberPlace (suc i)
 
 -- the front of a list over which hops were written, as a part of it
 pub flat-front : (xs : List Hop) (rest : List ℕ) {n : ℕ} → n ≡ length xs → between (flat xs ++ rest) 0 n ≡ flat xs
@@ -50,7 +54,7 @@ flat-front xs rest {n} e = take-at (flat xs) rest (numberPlace n - numberPlace 0
 flat-append : (xs ys : List Hop) → flat (xs ++ ys) ≡ flat xs ++ flat ys
 unfolding flat
 flat-append [] ys = refl
-flat-append (x ∷ xs) ys = ap (λ (m : List ℕ). x .from ∷ x .label ∷ x .to ∷ m) (flat-append xs ys)
+flat-append (x ∷ xs) ys = ap (λ (m : List ℕ). x .from ∷ x .label ∷ x .to ∷ x .line ∷ m) (flat-append xs ys)
 
 -- the first hops of a list
 module _ (hs : List ℕ) where
@@ -76,17 +80,21 @@ module _ (hs : List ℕ) where
   pub over-front : (n : ℕ) → n ≤ count hs → over (front n hs) hs ≡ hs
   unfolding front flat
   over-front n l = over-is (front n hs) ∙ rw (length-front hs n) (go n l) where
-    whole-hop : (n : ℕ) → n < count hs → drop (numberPlace n) hs ≡ from hs n ∷ label hs n ∷ to hs n ∷ drop (numberPlace (suc n)) hs
+    whole-hop : (n : ℕ) → n < count hs → drop (numberPlace n) hs ≡ from hs n ∷ label hs n ∷ to hs n ∷ lineAt hs n ∷ drop (numberPlace (suc n)) hs
     whole-hop n l =
         drop-cons hs (numberPlace n) 0 (omega arith) ∙
         ap (λ (m : List ℕ). from hs n ∷ m) (ap (λ (k : ℕ). drop k hs) (sym (add-one (numberPlace n))) ∙ drop-cons hs (numberPlace n + 1) 0 (omega arith)) ∙
         ap (λ (m : List ℕ). from hs n ∷ label hs n ∷ m) (ap (λ (k : ℕ). drop k hs) two ∙ drop-cons hs (numberPlace n + 2) 0 (omega arith)) ∙
-        ap (λ (k : ℕ). from hs n ∷ label hs n ∷ to hs n ∷ drop k hs) three where
+        ap (λ (m : List ℕ). from hs n ∷ label hs n ∷ to hs n ∷ m) (ap (λ (k : ℕ). drop k hs) three ∙ drop-cons hs (numberPlace n + 3) 0 (omega arith)) ∙
+        ap (λ (k : ℕ). from hs n ∷ label hs n ∷ to hs n ∷ lineAt hs n ∷ drop k hs) four where
           two : suc (numberPlace n + 1) ≡ numberPlace n + 2
           two = omega arith
 
-          three : suc (numberPlace n + 2) ≡ numberPlace (suc n)
+          three : suc (numberPlace n + 2) ≡ numberPlace n + 3
           three = omega arith
+
+          four : suc (numberPlace n + 3) ≡ numberPlace (suc n)
+          four = omega arith
 
     go : (n : ℕ) → n ≤ count hs → flat (front n hs) ++ drop (numberPlace n) hs ≡ hs
     go zero l = refl
@@ -159,10 +167,10 @@ module _ (hs : List ℕ) (h : Hop) {n : ℕ} (l : n < count hs) where
   pub put-other : {i : ℕ} → i < count hs → (i ≡ n → ⊥) → hopAt (put hs n h) i ≡ hopAt hs i
   put-other {i} k q = reads k ∙ getD-set-other (front (count hs) hs) n i h noHop q ∙ getD-front hs (count hs) k
 
--- lists whose first hops are alike, and whose other hops have one flat list, have one flat list
-pub flat-alike : {x y : Hop} (xs ys : List Hop) → Alike x y → flat xs ≡ flat ys → flat (x ∷ xs) ≡ flat (y ∷ ys)
+-- lists whose first hops are alike and of one line, and whose other hops have one flat list, have one flat list
+pub flat-alike : {x y : Hop} (xs ys : List Hop) → Alike x y → x .line ≡ y .line → flat xs ≡ flat ys → flat (x ∷ xs) ≡ flat (y ∷ ys)
 unfolding flat
-flat-alike xs ys e r = rw (e .same-from, e .same-label, e .same-to, r)
+flat-alike xs ys e k r = rw (e .same-from, e .same-label, e .same-to, k, r)
 
 -- lists of hops that have one flat list are as long, and leave the same where they are written
 module _ (xs ys : List Hop) (e : flat xs ≡ flat ys) where

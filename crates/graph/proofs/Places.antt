@@ -1,15 +1,14 @@
 -- Laws of the flat hop list: what a place holds, and that the graph has a hop exactly when some place holds it. Assumes nothing.
 use Prim.Native.Nat.{ℕ, zero, suc, _+_, _<_}
-use mathlib.Core.Path.{_≡_, refl, ap, _∙_}
+use mathlib.Core.Path.{_≡_, refl, _∙_}
 use mathlib.Core.Bool.{true}
 use mathlib.Core.List.{List, [], _∷_}
-use native.Mathlib.Numerals.{add-one, add-two}
+use native.Mathlib.Numerals.{add-one, add-two, add-three}
 use native.Mathlib.Omega.{arith}
 use borrow.Author.Tests.{eq-eqb, eqb-true}
 use lib.ListN.{length, getD}
 use lib.Dec.{eqb}
-use Rattle.below.specs.Tests.{any}
-use Rattle.graph.specs.Hops.{count, from, label, to, hopOf, hopAt, noHop, Alike, same, numberPlace, flat, is, labelled, has}
+use Rattle.graph.specs.Hops.{count, from, label, to, linedHop, hopOf, hopAt, noHop, Alike, same, numberPlace, flat, is, labelled, has}
 use Rattle.graph.specs.declared.Hop.{Hop}
 use Rattle.below.proofs.Bools.{and-yes, and-left, and-right}
 use Rattle.below.proofs.Tests.{any-found, any-at}
@@ -97,9 +96,10 @@ unfolding flat
 flat-at [] i = refl
 flat-at (x ∷ xs) zero = refl
 flat-at (x ∷ xs) (suc i) = shift (numberPlace (suc i)) (numberPlace i) (omega arith) ∙ flat-at xs i where
-  three : List ℕ
-  three = x .from ∷ x .label ∷ x .to ∷ flat xs
+  more : List ℕ
+  more = x .from ∷ x .label ∷ x .to ∷ x .line ∷ flat xs
 
-  shift : (m n : ℕ) → m ≡ suc (suc (suc n)) →
-      hopOf (getD three m 0) (getD three (m + 1) 0) (getD three (m + 2) 0) ≡ hopOf (getD (flat xs) n 0) (getD (flat xs) (n + 1) 0) (getD (flat xs) (n + 2) 0)
-  shift m n e = rw (e, add-one, add-two, add-one, add-two)
+  shift : (m n : ℕ) → m ≡ suc (suc (suc (suc n))) →
+      linedHop (getD more m 0) (getD more (m + 1) 0) (getD more (m + 2) 0) (getD more (m + 3) 0) ≡
+      linedHop (getD (flat xs) n 0) (getD (flat xs) (n + 1) 0) (getD (flat xs) (n + 2) 0) (getD (flat xs) (n + 3) 0)
+  shift m n e = rw (e, add-one, add-two, add-three, add-one, add-two, add-three)

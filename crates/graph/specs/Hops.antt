@@ -1,6 +1,6 @@
--- The hop list of document 01: "one flat list of numbers, three a hop", seen by places that count hops from 0.
--- Hops are looked at through this file, the accessors and their laws; elsewhere three stands only where document 01 says it: in the room that an output has and in
--- the length of a file. Assumes nothing: these are definitions.
+-- The hop list of documents 01 and 02: "Flat lists .. now hold four numbers a hop", seen by places that count hops from 0.
+-- Hops are looked at through this file, the accessors and their laws; elsewhere four stands only where the documents say it: in the room that an output has.
+-- Assumes nothing: these are definitions.
 use Prim.Native.Nat.{ℕ, zero, suc, _+_, _-_, _*_, _/_, _%_}
 use mathlib.Core.Path.{_≡_}
 use mathlib.Core.Bool.{Bool, _&&_}
@@ -11,11 +11,11 @@ use denote.Ref.{RefT, ptr}
 use Rattle.below.specs.Tests.{any}
 use Rattle.graph.specs.declared.Hop.{Hop}
 
--- "three a hop"
+-- "four numbers a hop"
 abbrev pub numbers-a-hop : ℕ
-numbers-a-hop = 3
+numbers-a-hop = 4
 
--- how many hops a list holds; a list whose length is no multiple of three is not whole, and refused
+-- how many hops a list holds; a list whose length is no multiple of four is not whole, and refused
 abbrev pub count : List ℕ → ℕ
 count hs = length hs / numbers-a-hop
 
@@ -26,7 +26,7 @@ whole hs = eqb (length hs % numbers-a-hop) 0
 abbrev pub numberPlace : ℕ → ℕ
 numberPlace i = numbers-a-hop * i
 
--- the three numbers of the hop at a place
+-- the numbers of the hop at a place: from, label, to, and "a fourth number, its source line, 0 for none"
 abbrev pub from : List ℕ → ℕ → ℕ
 from hs i = getD hs (numberPlace i) 0
 
@@ -36,19 +36,26 @@ label hs i = getD hs (numberPlace i + 1) 0
 abbrev pub to : List ℕ → ℕ → ℕ
 to hs i = getD hs (numberPlace i + 2) 0
 
--- the hop s, a, t
+abbrev pub lineAt : List ℕ → ℕ → ℕ
+lineAt hs i = getD hs (numberPlace i + 3) 0
+
+-- the hop s, a, t of source line l
+abbrev pub linedHop : ℕ → ℕ → ℕ → ℕ → Hop
+linedHop s a t l = record { from = s; label = a; to = t; line = l }
+
+-- the hop s, a, t of no line, as it is sought
 abbrev pub hopOf : ℕ → ℕ → ℕ → Hop
-hopOf s a t = record { from = s; label = a; to = t }
+hopOf s a t = linedHop s a t 0
 
 -- the hop at a place
 abbrev pub hopAt : List ℕ → ℕ → Hop
-hopAt hs i = hopOf (from hs i) (label hs i) (to hs i)
+hopAt hs i = linedHop (from hs i) (label hs i) (to hs i) (lineAt hs i)
 
 -- what stands past the end of a list of hops
 abbrev pub noHop : Hop
 noHop = hopOf 0 0 0
 
--- two hops are alike: the same from, label and to. Order, search and meaning look at no more of a hop
+-- "Order and equality go by the first three": two hops are alike that have the same from, label and to. Order, search and meaning look at no more of a hop
 pub record Alike (a b : Hop) : Type 0 where
   pub same-from : a .from ≡ b .from
   pub same-label : a .label ≡ b .label
@@ -61,11 +68,12 @@ same a b = eqb (a .from) (b .from) && (eqb (a .label) (b .label) && eqb (a .to) 
 -- the flat list of a list of hops
 unfoldable pub flat : List Hop → List ℕ
 flat [] = []
-flat (h ∷ hs) = h .from ∷ h .label ∷ h .to ∷ flat hs
+flat (h ∷ hs) = h .from ∷ h .label ∷ h .to ∷ h .line ∷ flat hs
 
 -- the list with h for the hop at place i
 abbrev pub put : List ℕ → ℕ → Hop → List ℕ
-put hs i h = set (set (set hs (numberPlace i) (h .from)) (numberPlace i + 1) (h .label)) (numberPlace i + 2) (h .to)
+put hs i h =
+    set (set (set (set hs (numberPlace i) (h .from)) (numberPlace i + 1) (h .label)) (numberPlace i + 2) (h .to)) (numberPlace i + 3) (h .line)
 
 -- the first n hops of a list
 unfoldable pub front : ℕ → List ℕ → List Hop

@@ -8,7 +8,7 @@ use super::order::is_same;
 ghost use mathlib.Core.Path.{_≡_};
 ghost use Prim.Native.Nat.{_<_, _≤_};
 ghost use denote.Ref.{ptr};
-ghost use Rattle.graph.specs.Hops.{count, whole, from, label, to, hopOf, hopAt, put, is, between, standsAt, numberPlace};
+ghost use Rattle.graph.specs.Hops.{count, whole, from, label, to, lineAt, linedHop, hopOf, hopAt, put, is, between, standsAt, numberPlace};
 ghost use Rattle.graph.specs.Answers.{most-hops};
 
 // How many hops the list holds.
@@ -69,11 +69,31 @@ pub fn new_to_at(hops: &[u16], i: usize) -> NewState
     NewState(hops[NUMBERS_A_HOP * i + 2])
 }
 
-// The hop of three numbers: hops are made here and in hop_at, and nowhere else.
+// The source line of a hop, 0 for none.
+pub fn line_at(hops: &[u16], i: usize) -> u16
+    requires { ⌜ i < count (now hops) ⌝ }
+    ensures { λ r. ⌜ r ≡ lineAt (now (hops .entry)) i ⌝ }
+{
+    hops[NUMBERS_A_HOP * i + 3]
+}
+
+// The hop of four numbers: hops are made here and in hop_at, and nowhere else.
+pub fn lined_hop(from: u16, label: u16, to: u16, line: u16) -> Hop
+    ensures { λ r. ⌜ r ≡ linedHop from label to line ⌝ }
+{
+    Hop {
+        from,
+        label,
+        to,
+        line,
+    }
+}
+
+// The hop of three numbers and no line: what is sought.
 pub fn hop_of(from: u16, label: u16, to: u16) -> Hop
     ensures { λ r. ⌜ r ≡ hopOf from label to ⌝ }
 {
-    Hop { from, label, to }
+    lined_hop(from, label, to, 0)
 }
 
 // The whole hop, by bare numbers: of either graph.
@@ -85,6 +105,7 @@ pub fn hop_at(hops: &[u16], i: usize) -> Hop
         from: hops[NUMBERS_A_HOP * i],
         label: hops[NUMBERS_A_HOP * i + 1],
         to: hops[NUMBERS_A_HOP * i + 2],
+        line: hops[NUMBERS_A_HOP * i + 3],
     }
 }
 
@@ -104,6 +125,7 @@ pub fn put_hop(hops: &mut [u16], i: usize, h: Hop)
     hops[NUMBERS_A_HOP * i] = h.from;
     hops[NUMBERS_A_HOP * i + 1] = h.label;
     hops[NUMBERS_A_HOP * i + 2] = h.to;
+    hops[NUMBERS_A_HOP * i + 3] = h.line;
 }
 
 // The hops from one place up to another, as a part of the list itself.

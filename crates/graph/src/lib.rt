@@ -14,16 +14,18 @@ pub const MOST_LABELS: usize = 1024;
 
 pub const MOST_HOPS: usize = 4096;
 
-// "three a hop", and how many numbers a graph's list has at most.
-pub const NUMBERS_A_HOP: usize = 3;
+// "four numbers a hop", and how many numbers a graph's list has at most.
+pub const NUMBERS_A_HOP: usize = 4;
 
 pub const MOST_NUMBERS: usize = NUMBERS_A_HOP * MOST_HOPS;
 
-// A hop: from one state, by a label, to another. Label 0 is silent.
+// A hop: from one state, by a label, to another. Label 0 is silent. Its source line, 0 for none, is carried along: order, search and meaning do not look
+// at it.
 pub struct Hop {
     pub from: u16,
     pub label: u16,
     pub to: u16,
+    pub line: u16,
 }
 
 // What a graph has besides its hops. Any 32-bit number passes through unchanged, and is refused as it is.

@@ -7,7 +7,7 @@ use mathlib.Core.Logic.{⊎-elim}
 use native.Mathlib.Nat.{eq-or-lt-of-le, le-of-suc-le-suc, not-suc-le-zero}
 use native.Mathlib.Numerals.{add-one}
 use native.Mathlib.Omega.{arith}
-use lib.ListN.{length, getD, set, drop, length-append, List·getD-append}
+use lib.ListN.{length, getD, drop, length-append, List·getD-append}
 use lib.Seq.{drop-length, getD-at, set-at, ext-getD}
 use Rattle.graph.specs.Hops.{numbers-a-hop, numberPlace, count, hopAt, noHop, flat, front, over, put}
 use Rattle.graph.specs.declared.Hop.{Hop}
@@ -38,13 +38,6 @@ module _ (f : ℕ → Hop) where
 
   pub flat-by-at : (n : ℕ) {i : ℕ} → i < n → hopAt (flat (hopsBy n f)) i ≡ f i
   flat-by-at n {i} l = flat-at (hopsBy n f) i ∙ getD-by n l
-
--- the hops of a flat list are those that it was made of
-pub front-flat : (xs : List Hop) → front (count (flat xs)) (flat xs) ≡ xs
-front-flat xs =
-    ap (λ (n : ℕ). front n (flat xs)) (count-flat xs) ∙
-    ext-getD noHop (front (length xs) (flat xs)) xs (length-front (flat xs) (length xs))
-    (λ i l. getD-front (flat xs) (length xs) (omega (arith, length-front (flat xs) (length xs))) ∙ flat-at xs i)
 
 -- a whole list is the flat list of its hops
 pub flat-front : (hs : List ℕ) → length hs % numbers-a-hop ≡ 0 → flat (front (count hs) hs) ≡ hs

@@ -1,11 +1,14 @@
 -- The hop field of document 01: "the hop count with six bytes a hop". The field begins at a place `at` of the bytes, with its count; its hops are counted from
--- 0. Assumes nothing: these are definitions.
+-- 0. A hop's line does not stand here but in the list of lines. Assumes nothing: these are definitions.
 use Prim.Native.Nat.{ℕ, zero, suc, _+_, _*_, _<_, _≤_}
 use mathlib.Core.List.{List, [], _∷_, _++_}
 use lib.ListN.{length}
-use Rattle.graph.specs.Hops.{count, hopOf, hopAt, flat, front}
+use Rattle.graph.specs.Hops.{count, linedHop, hopAt, flat}
 use Rattle.graph.specs.declared.Hop.{Hop}
 use Rattle.numbers.specs.Numbers.{numberAt, number}
+use Rattle.numbers.specs.Parts.{parts}
+use Rattle.linefield.specs.LineField.{lineIn}
+use Rattle.linefield.specs.declared.Lines.{Lines}
 
 -- "six bytes a hop": its from, its label and its to
 abbrev pub bytes-a-hop : ℕ
@@ -23,13 +26,13 @@ hopPlace at i = at + 2 + bytes-a-hop * i
 abbrev pub HopsLie : List ℕ → ℕ → ℕ → Type 0
 HopsLie b at n = (i : ℕ) → i < n → hopPlace at (i + 1) ≤ length b
 
--- the hop whose bytes begin at a place of the file
-unfoldable pub hopFrom : List ℕ → ℕ → Hop
-hopFrom b p = hopOf (numberAt b p) (numberAt b (p + 2)) (numberAt b (p + 4))
+-- the hop whose bytes begin at a place of the file, and whose line is l
+unfoldable pub hopFrom : List ℕ → ℕ → ℕ → Hop
+hopFrom b p l = linedHop (numberAt b p) (numberAt b (p + 2)) (numberAt b (p + 4)) l
 
--- the hop at a place of the field
-abbrev pub hopIn : List ℕ → ℕ → ℕ → Hop
-hopIn b at i = hopFrom b (hopPlace at i)
+-- the hop at a place of the field, with its line
+abbrev pub hopIn : List ℕ → ℕ → Lines → ℕ → Hop
+hopIn b at ls i = hopFrom b (hopPlace at i) (lineIn b ls i)
 
 -- the hops that a function gives for 0, 1, .. below n
 unfoldable pub hopsBy : ℕ → (ℕ → Hop) → List Hop
@@ -37,16 +40,15 @@ hopsBy zero f = []
 hopsBy (suc n) f = hopsBy n f ++ (f n ∷ [])
 
 -- the hop list of the field's first n hops
-unfoldable pub hopsInField : List ℕ → ℕ → ℕ → List ℕ
-hopsInField b at n = flat (hopsBy n (hopIn b at))
+unfoldable pub hopsInField : List ℕ → ℕ → Lines → ℕ → List ℕ
+hopsInField b at ls n = flat (hopsBy n (hopIn b at ls))
 
--- the bytes of one hop, of several, and of the field of a hop list
+-- the bytes of one hop, of each hop of a list, and of the field of a hop list
 unfoldable pub hopBytes : Hop → List ℕ
 hopBytes h = number (h .from) ++ (number (h .label) ++ number (h .to))
 
-unfoldable pub bytesOf : List Hop → List ℕ
-bytesOf [] = []
-bytesOf (h ∷ hs) = hopBytes h ++ bytesOf hs
+abbrev pub eachHop : List ℕ → List ℕ
+eachHop hs = parts (count hs) (λ (i : ℕ). hopBytes (hopAt hs i))
 
 unfoldable pub fieldBytes : List ℕ → List ℕ
-fieldBytes hs = number (count hs) ++ bytesOf (front (count hs) hs)
+fieldBytes hs = number (count hs) ++ eachHop hs

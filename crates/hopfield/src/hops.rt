@@ -3,19 +3,22 @@ use graph::Hop;
 use graph::MOST_HOPS;
 use graph::hops::hop_at;
 use graph::hops::hop_count;
-use graph::hops::hop_of;
+use graph::hops::lined_hop;
 use graph::hops::put_hop;
+use linefield::Lines;
+use linefield::line_in;
 use numbers::number_in;
 use numbers::put_number;
 ghost use mathlib.Core.Path.{_≡_};
 ghost use Prim.Native.Nat.{_+_, _*_, _≤_};
 ghost use lib.ListN.{length};
-ghost use Rattle.graph.specs.Hops.{count, front};
+ghost use Rattle.graph.specs.Hops.{count};
 ghost use Rattle.outputs.specs.Output.{onFront, overAt};
 ghost use Rattle.numbers.specs.Numbers.{most-number};
-ghost use Rattle.hopfield.specs.Field.{bytes-a-hop, hopPlace, fieldLength, HopsLie, hopIn, hopsInField, hopBytes, bytesOf, fieldBytes};
+ghost use Rattle.linefield.specs.LineField.{LinesLie};
+ghost use Rattle.hopfield.specs.Field.{bytes-a-hop, hopPlace, fieldLength, HopsLie, hopIn, hopsInField, hopBytes, eachHop, fieldBytes};
 
-// The hop count is one number; a hop is three of them, from, label and to.
+// The hop count is one number; a hop is three of them, from, label and to. Its line stands elsewhere.
 const COUNT_BYTES: usize = 2;
 
 const BYTES_A_HOP: usize = 6;
@@ -30,32 +33,34 @@ pub fn field_length(n: u16) -> usize
     COUNT_BYTES + BYTES_A_HOP * (n as usize)
 }
 
-// The hop at place i of the field that begins at `at`.
-fn hop_in(file: &[u8], at: usize, i: usize) -> Hop
-    requires { ⌜ hopPlace at (i + 1) ≤ length (now file) ⌝ }
-    ensures { λ r. ⌜ r ≡ hopIn (now (file .entry)) at i ⌝ }
+// The hop at place i of the field that begins at `at`, with its line.
+fn hop_in(file: &[u8], at: usize, lines: Lines, i: usize) -> Hop
+    requires lies { ⌜ hopPlace at (i + 1) ≤ length (now file) ⌝ }
+    requires lined { ⌜ LinesLie (now file) lines (i + 1) ⌝ }
+    ensures { λ r. ⌜ r ≡ hopIn (now (file .entry)) at lines i ⌝ }
 {
     let p = at + COUNT_BYTES + BYTES_A_HOP * i;
     let from = number_in(file, p);
     let label = number_in(file, p + 2);
     let to = number_in(file, p + 4);
-    hop_of(from, label, to)
+    lined_hop(from, label, to, line_in(file, lines, i))
 }
 
-// The first n hops of the field, to the front of a hop list.
-pub fn take_hops(file: &[u8], at: usize, n: usize, hops: &mut [u16])
+// The first n hops of the field with their lines, to the front of a hop list.
+pub fn take_hops(file: &[u8], at: usize, lines: Lines, n: usize, hops: &mut [u16])
     requires lie { ⌜ HopsLie (now file) at n ⌝ }
+    requires lined { ⌜ LinesLie (now file) lines n ⌝ }
     requires room { ⌜ n ≤ count (now hops) ⌝ }
-    ensures { λ _. ⌜ now (hops .exit) ≡ onFront (hopsInField (now (file .entry)) at n) (now (hops .entry)) ⌝ }
+    ensures { λ _. ⌜ now (hops .exit) ≡ onFront (hopsInField (now (file .entry)) at lines n) (now (hops .entry)) ⌝ }
 {
     let mut i: usize = 0;
     while i < n {
-        put_hop(hops, i, hop_in(file, at, i));
+        put_hop(hops, i, hop_in(file, at, lines, i));
         i += 1;
     }
 }
 
-// The bytes of a hop at a place of the output.
+// The bytes of a hop at a place of the output, without its line.
 fn put_hop_bytes(out: &mut [u8], at: usize, h: Hop)
     requires { ⌜ at + bytes-a-hop ≤ length (now out) ⌝ }
     ensures { λ _. ⌜ now (out .exit) ≡ overAt at (hopBytes h) (now (out .entry)) ⌝ }
@@ -68,7 +73,7 @@ fn put_hop_bytes(out: &mut [u8], at: usize, h: Hop)
 // All hops of a list, from a place of the output on.
 fn put_each_hop(out: &mut [u8], at: usize, hops: &[u16])
     requires { ⌜ at + bytes-a-hop * count (now hops) ≤ length (now out) ⌝ }
-    ensures { λ _. ⌜ now (out .exit) ≡ overAt at (bytesOf (front (count (now (hops .entry))) (now (hops .entry)))) (now (out .entry)) ⌝ }
+    ensures { λ _. ⌜ now (out .exit) ≡ overAt at (eachHop (now (hops .entry))) (now (out .entry)) ⌝ }
 {
     let n = hop_count(hops);
     let mut i: usize = 0;

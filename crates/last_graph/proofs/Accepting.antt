@@ -23,7 +23,7 @@ use Rattle.last_graph.specs.declared.Shrinking.{Shrinking}
 -- the hops of an admitted graph at the front of a list are the front
 pub front-hops : {sh : Shape} {hs : List ℕ} → Admitted sh hs → (old : List ℕ) {new : List ℕ} {n : ℕ} → n ≡ count hs → new ≡ onFront hs old → between new 0 n ≡ hs
 front-hops {hs = hs} adm old {n = n} c e =
-    ap (λ (x : List ℕ). between x 0 n) e ∙ take-at hs (drop (length hs) old) (numberPlace n - numberPlace 0) (omega (arith, adm .three-a-hop))
+    ap (λ (x : List ℕ). between x 0 n) e ∙ take-at hs (drop (length hs) old) (numberPlace n - numberPlace 0) (omega (arith, adm .whole-hops))
 
 -- the loop stands at the last stage: what is returned, and what is written over what the outputs held
 module _

@@ -110,7 +110,7 @@ module _ (sh : Shape) (hs : List ℕ) where
     pub labels-some : 1 ≤ sh .labels
     pub labels-most : sh .labels ≤ most-labels
     pub hops-most : count hs ≤ most-hops
-    pub three-a-hop : length hs % numbers-a-hop ≡ 0
+    pub whole-hops : length hs % numbers-a-hop ≡ 0
 
   counts-limits : countsFit sh hs ≡ true → Limits
   unfolding countsFit
@@ -125,13 +125,13 @@ module _ (sh : Shape) (hs : List ℕ) where
         labels-some = leb-true _ _ (and-right (leb 1 (sh .states) && leb (sh .states) most-states) _ p3);
         labels-most = leb-true _ _ (and-right (leb 1 (sh .states) && leb (sh .states) most-states && leb 1 (sh .labels)) _ p4);
         hops-most = leb-true _ _ (and-right (leb 1 (sh .states) && leb (sh .states) most-states && leb 1 (sh .labels) && leb (sh .labels) most-labels) _ p5);
-        three-a-hop = eqb-true _ _ (and-right (leb 1 (sh .states) && leb (sh .states) most-states && leb 1 (sh .labels) && leb (sh .labels) most-labels && leb (count hs) most-hops) _ e);
+        whole-hops = eqb-true _ _ (and-right (leb 1 (sh .states) && leb (sh .states) most-states && leb 1 (sh .labels) && leb (sh .labels) most-labels && leb (count hs) most-hops) _ e);
       }
 
   limits-counts : Limits → countsFit sh hs ≡ true
   unfolding countsFit
   limits-counts p =
-      rw (le-leb _ _ (p .states-some), le-leb _ _ (p .states-most), le-leb _ _ (p .labels-some), le-leb _ _ (p .labels-most), le-leb _ _ (p .hops-most), eq-eqb _ _ (p .three-a-hop))
+      rw (le-leb _ _ (p .states-some), le-leb _ _ (p .states-most), le-leb _ _ (p .labels-some), le-leb _ _ (p .labels-most), le-leb _ _ (p .hops-most), eq-eqb _ _ (p .whole-hops))
 
   -- what each answer says
   pub record Means (a : Answer) : Type 0 where
@@ -162,7 +162,7 @@ module _ (sh : Shape) (hs : List ℕ) where
       labels-some = l .labels-some;
       labels-most = l .labels-most;
       hops-most = l .hops-most;
-      three-a-hop = l .three-a-hop;
+      whole-hops = l .whole-hops;
       initial-in = leb-false _ _ q;
       range = inside-range (none-failing (count hs) (inside sh hs) (ltb-false _ _ r));
       ascending = rising-ascends (none-failing (count hs) (rises hs) (ltb-false _ _ t));
@@ -191,7 +191,7 @@ module _ (sh : Shape) (hs : List ℕ) where
         labels-some = a .labels-some;
         labels-most = a .labels-most;
         hops-most = a .hops-most;
-        three-a-hop = a .three-a-hop;
+        whole-hops = a .whole-hops;
       }
 
       outside : count hs ≤ firstOutside sh hs

@@ -12,7 +12,7 @@ use Rattle.graph.specs.Answers.{most-states, most-labels, most-hops, accepted, 
 use Rattle.graph.specs.declared.Shape.{Shape}
 use Rattle.graph.specs.declared.Answer.{Answer}
 
--- row 1: "state, label or hop count outside its limits, or flat list length not a multiple of three"
+-- row 1: "state, label or hop count outside its limits, or flat list length not a multiple of three"; by wish 2 "1 speaks of multiples of four"
 unfoldable pub countsFit : Shape → List ℕ → Bool
 countsFit sh hs =
     leb 1 (sh .states) && leb (sh .states) most-states && leb 1 (sh .labels) && leb (sh .labels) most-labels &&
@@ -53,7 +53,7 @@ pub record Admitted (sh : Shape) (hs : List ℕ) : Type 0 where
   pub labels-some : 1 ≤ sh .labels
   pub labels-most : sh .labels ≤ most-labels
   pub hops-most : count hs ≤ most-hops
-  pub three-a-hop : length hs % numbers-a-hop ≡ 0
+  pub whole-hops : length hs % numbers-a-hop ≡ 0
   pub initial-in : sh .initial < sh .states
   pub range : InRange sh hs
   pub ascending : Ascending hs

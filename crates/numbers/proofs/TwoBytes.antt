@@ -1,5 +1,5 @@
 -- Laws of 16-bit numbers among bytes. Assumes nothing.
-use Prim.Native.Nat.{ℕ, suc, _+_, _/_, _%_, _<_, _≤_}
+use Prim.Native.Nat.{ℕ, suc, _+_, _*_, _/_, _%_, _<_, _≤_}
 use mathlib.Core.Path.{_≡_, ap, _∙_}
 use mathlib.Core.List.{List, [], _∷_, _++_}
 use native.Mathlib.Numerals.{add-one}
@@ -13,6 +13,10 @@ use Rattle.numbers.specs.Numbers.{numberAt, number}
 -- bytes are below 256
 abbrev pub Bytes : List ℕ → Type 0
 Bytes b = (i : ℕ) → getD b i 0 < 256
+
+-- a number is read from the two bytes that it was written as
+pub number-whole : (n : ℕ) → n % 256 + 256 * (n / 256) ≡ n
+number-whole n = omega arith
 
 -- a number from the middle
 pub number-drop : (b : List ℕ) (n i : ℕ) → numberAt b (n + i) ≡ numberAt (drop n b) i

@@ -33,8 +33,8 @@ markedHops sh hs k = shortHops sh hs (markedBy k sh hs)
 abbrev pub markedShape : Shape → List ℕ → ℕ → Shape
 markedShape sh hs k = shortShape sh hs (markedBy k sh hs)
 
--- rows 1 to 4, then "19 for another sense, after 4 and before 5", 5, then 6: "map, one a state; short hops, three a hop of the input", which is as many
--- as the input has
+-- rows 1 to 4, then "19 for another sense, after 4 and before 5", 5, then 6: "map, one a state; short hops, three a hop of the input", four by wish 2, which
+-- is as many as the input has
 unfoldable pub reduceAnswer : Shape → List ℕ → ℕ → ℕ → ℕ → Answer
 reduceAnswer sh hs k map-room short-room =
     andThen (checkOf sh hs)

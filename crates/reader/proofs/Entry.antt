@@ -1,5 +1,5 @@
 -- The ways out of the entry `read`: the format speaks, then the graph, then the room; else all that the file holds is given. Assumes nothing.
-use Prim.Native.Nat.{ℕ, _+_, _-_, _*_, _<_, _≤_}
+use Prim.Native.Nat.{ℕ, _-_, _<_, _≤_}
 use mathlib.Core.Path.{_≡_, refl, sym, ap, _∙_}
 use mathlib.Core.Bool.{true, false, _&&_}
 use mathlib.Core.List.{List}
@@ -17,8 +17,9 @@ use Rattle.graph.specs.declared.Answer.{Answer}
 use Rattle.below.proofs.Bools.{and-no-left, and-no-right, not-no, decided}
 use Rattle.limits.proofs.Checked.{check-counts, check-admitted}
 use Rattle.graph.proofs.Accepts.{both-accept, second-accepts, room-accepts}
+use Rattle.linefield.specs.declared.Lines.{Lines}
 use Rattle.hopfield.specs.Field.{HopsLie, hopsInField}
-use Rattle.fields.specs.Format.{hasHops, hopsPlace, hopsIn, namesPlace, shapeIn, hopListIn}
+use Rattle.fields.specs.Format.{hasHops, hopsPlace, hopsIn, namesPlace, linesIn, shapeIn, hopListIn}
 use Rattle.fields.proofs.Laws.{hops-on, hops-off, length-hop-list, count-hop-list}
 use Rattle.format.specs.Rows.{formatAnswer}
 use Rattle.format.proofs.Sound.{Sound, format-sound}
@@ -59,10 +60,10 @@ module _ (b : List ℕ) where
     off t i m = absurd (omega (arith, hops-off b t .0))
 
   -- the hops as they were taken from the field
-  module _ {p n : ℕ} (e : p ≡ hopsPlace b) (d : n ≡ hopsIn b) (copy old : List ℕ) (h : copy ≡ onFront (hopsInField b p n) old) where
+  module _ {p n : ℕ} {ls : Lines} (e : p ≡ hopsPlace b) (q : ls ≡ linesIn b) (d : n ≡ hopsIn b) (copy old : List ℕ) (h : copy ≡ onFront (hopsInField b p ls n) old) where
     pub hops-taken : copy ≡ onFront (hopListIn b) old
     unfolding hopListIn
-    hops-taken = h ∙ rw (e, d)
+    hops-taken = h ∙ rw (e, q, d)
 
     pub graph-copied : {sh : Shape} {m : ℕ} → sh ≡ shapeIn b → m ≡ numberPlace n → checkOf sh (take (m - 0) (drop 0 copy)) ≡ checkOf (shapeIn b) (hopListIn b)
     graph-copied s k = rw s (ap (checkOf (shapeIn b)) (hops-part copy old hops-taken (k ∙ ap numberPlace d)))

@@ -13,7 +13,7 @@ use Rattle.format.specs.Rows.{formatAnswer}
 use Rattle.outputs.specs.Output.{written}
 use Rattle.reader.specs.declared.Contents.{Contents}
 
--- "then 1 to 4, then 6": the output takes three numbers a hop
+-- "then 1 to 4, then 6": the output takes four numbers a hop
 unfoldable pub readAnswer : List ℕ → ℕ → Answer
 readAnswer b room = andThen (formatAnswer b) (andThen (checkOf (shapeIn b) (hopListIn b)) (roomFor (numberPlace (hopsIn b)) room))
 

@@ -4,6 +4,7 @@ use fields::block_length;
 use fields::block_place;
 use fields::hops_in;
 use fields::hops_place;
+use fields::lines_in;
 use fields::shape_in;
 use format::format_answer;
 use graph::Answer;
@@ -19,12 +20,12 @@ ghost use mathlib.Core.Path.{_≡_};
 ghost use Prim.Native.Nat.{_≤_};
 ghost use lib.ListN.{length};
 ghost use Rattle.limits.specs.Check.{checkOf};
-ghost use Rattle.fields.specs.Format.{namesPlace, shapeIn, hopListIn};
+ghost use Rattle.fields.specs.Format.{namesPlace, need, shapeIn, hopListIn};
 ghost use Rattle.reader.specs.Read.{readAnswer, readOf, readHops, nothing, contentsOf};
 
 // 1 to 4, asked of a copy of the hops: a refusal must not have written any.
 fn hops_answer(file: &[u8]) -> Answer
-    requires { ⌜ namesPlace (now file) ≤ length (now file) ⌝ }
+    requires { ⌜ need (now file) ≤ length (now file) ⌝ }
     ensures { λ r. ⌜ r ≡ checkOf (shapeIn (now (file .entry))) (hopListIn (now (file .entry))) ⌝ }
 {
     let count = hops_in(file) as usize;
@@ -32,7 +33,7 @@ fn hops_answer(file: &[u8]) -> Answer
         return refuse(1, 0);
     }
     let mut copy = [0u16; MOST_NUMBERS];
-    take_hops(file, hops_place(file), count, &mut copy);
+    take_hops(file, hops_place(file), lines_in(file), count, &mut copy);
     let end = number_place(count);
     check(shape_in(file), &copy[0..end])
 }
@@ -73,6 +74,7 @@ pub fn refusal(answer: Answer) -> Contents
 }
 
 fn contents(file: &[u8]) -> Contents
+    requires { ⌜ namesPlace (now file) ≤ length (now file) ⌝ }
     ensures { λ r. ⌜ r ≡ contentsOf (now (file .entry)) ⌝ }
 {
     let answer = accept();
@@ -99,6 +101,6 @@ pub fn read(file: &[u8], hops: &mut [u16]) -> Contents
         return refusal(answer);
     }
     let count = hops_in(file) as usize;
-    take_hops(file, hops_place(file), count, hops);
+    take_hops(file, hops_place(file), lines_in(file), count, hops);
     contents(file)
 }

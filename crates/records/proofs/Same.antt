@@ -19,7 +19,7 @@ use Rattle.records.specs.Records.{Holds}
 -- the flat list of the records holds them
 pub flat-holds : (ys : List Hop) → Holds (flat ys) ys
 flat-holds ys = record {
-  three-a-hop = eq-eqb (length (flat ys) % numbers-a-hop) 0 (omega (arith, length-flat ys));
+  whole-hops = eq-eqb (length (flat ys) % numbers-a-hop) 0 (omega (arith, length-flat ys));
   as-many = count-flat ys;
   at-each = λ i l. flat-at ys i;
 }
@@ -29,7 +29,7 @@ pub holds-flat : (hs : List ℕ) (ys : List Hop) → Holds hs ys → flat ys ≡
 unfolding over
 holds-flat hs ys h = sym (append-nil (flat ys)) ∙ ap (λ (l : List ℕ). flat ys ++ l) (sym nothing-past) ∙ written where
   as-long : length (flat ys) ≡ length hs
-  as-long = omega (arith, length-flat ys, h .as-many, eqb-true (length hs % numbers-a-hop) 0 (h .three-a-hop))
+  as-long = omega (arith, length-flat ys, h .as-many, eqb-true (length hs % numbers-a-hop) 0 (h .whole-hops))
 
   nothing-past : drop (length (flat ys)) hs ≡ []
   nothing-past = rw as-long (drop-length hs)

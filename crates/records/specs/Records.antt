@@ -13,8 +13,9 @@ use Rattle.graph.specs.declared.Hop.{Hop}
 abbrev pub unlessOver : {A : Type 0} → ℕ → A → A → A
 unlessOver n z m = cond (ltb most-hops n) z m
 
--- "lends hops as a list of records of three numbers": a flat list holds the records ys, whole hops only, as many, and at each place the same
+-- "lends hops as a list of records", now of four numbers: a flat list holds the records ys, whole hops only, as many, and at each place the same, its line
+-- too
 pub record Holds (hs : List ℕ) (ys : List Hop) : Type 0 where
-  pub three-a-hop : whole hs ≡ true
+  pub whole-hops : whole hs ≡ true
   pub as-many : count hs ≡ length ys
   pub at-each : (i : ℕ) → i < length ys → hopAt hs i ≡ getD ys i noHop

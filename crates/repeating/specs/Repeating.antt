@@ -1,13 +1,16 @@
 -- "Repeat, under a chosen sense, until no hop is marked, and return the last graph, one map from first states to last, and the number of reductions that
 -- marked something." (document 02, wish 13) k is the sense's number. Assumes nothing: these are definitions.
 use Prim.Native.Nat.{ℕ, zero, suc}
-use mathlib.Core.Bool.{Bool, cond}
+use mathlib.Core.Bool.{Bool, cond, _&&_}
 use mathlib.Core.List.{List}
 use Rattle.below.specs.Tests.{any}
-use Rattle.graph.specs.Hops.{count, flat}
+use Rattle.graph.specs.Hops.{count, same, flat}
+use Rattle.graph.specs.declared.Hop.{Hop}
 use Rattle.graph.specs.declared.Shape.{Shape}
 use Rattle.shrinking.specs.Pairs.{Pairs, In}
 use Rattle.senses.specs.Senses.{setAt, markedBy}
+use Rattle.representatives.specs.Representative.{resting}
+use Rattle.short.specs.Short.{becomes}
 use Rattle.quotient.specs.Reduce.{markedMap, markedHops, markedShape}
 use Rattle.composing.specs.Chained.{chained, ownMap}
 
@@ -54,6 +57,14 @@ lastOf k g = repeated k (g .shape .states) g
 -- the last stage of a graph
 abbrev pub lastStage : ℕ → Shape → List ℕ → Stage
 lastStage k sh hs = lastOf k (firstStage sh hs)
+
+-- the hop x of a stage's graph is one that the hop h of the last graph comes from, through at most n reductions: at each it leaves a representative, and
+-- what it has become by all of them is like h
+unfoldable pub comesThrough : ℕ → ℕ → Stage → Hop → Hop → Bool
+comesThrough k zero g h x = same x h
+comesThrough k (suc n) g h x =
+    cond (marksSome k g) (resting (g .hops) (markedAt k g) (x .from) && comesThrough k n (nextStage k g) h (becomes (g .shape) (g .hops) (markedAt k g) x))
+    (same x h)
 
 -- what "until no hop is marked" means, with no bound: h is where the repetition from g ends
 pub data Ends (k : ℕ) : Stage → Stage → Type 0 where

@@ -4,7 +4,7 @@ use mathlib.Core.Path.{_≡_, refl, sym, ap, _∙_}
 use mathlib.Core.Bool.{Bool, true, false, cond}
 use mathlib.Core.List.{List, []}
 use native.Mathlib.Omega.{arith}
-use borrow.Author.Tests.{eq-eqb, ne-eqb, eqb-true, le-leb, lt-leb}
+use borrow.Author.Tests.{eq-eqb, ne-eqb, eqb-true, le-leb, lt-leb, lt-ltb, le-ltb}
 use lib.ListN.{length, getD, drop, length-append, List·getD-append}
 use lib.Seq.{take-at}
 use lib.Dec.{eqb}
@@ -12,7 +12,7 @@ use Rattle.below.specs.Tests.{listed}
 use Rattle.below.proofs.Tests.{length-listed, getD-listed}
 use Rattle.outputs.specs.Output.{onFront}
 use Rattle.graph.specs.Hops.{numberPlace, count, flat, between}
-use Rattle.graph.specs.Answers.{most-hops, most-numbers, andThen, roomFor}
+use Rattle.graph.specs.Answers.{most-hops, most-numbers, andThen, roomFor, refused}
 use Rattle.graph.specs.declared.Shape.{Shape}
 use Rattle.graph.specs.declared.Answer.{Answer}
 use Rattle.graph.proofs.Accepts.{both-accept}
@@ -40,7 +40,7 @@ use Rattle.reader.specs.declared.Contents.{Contents}
 use Rattle.text.specs.Text.{Room, Put}
 use Rattle.rows.specs.Rows.{linesOf, refusalOf}
 use Rattle.rows.proofs.Parts.{report-same}
-use Rattle.report.specs.Report.{reportOf, unlessRefused, printedGraph, printedOf, most-text, shownIn}
+use Rattle.report.specs.Report.{reportOf, unlessRefused, printedGraph, printedFile, most-input, printedOf, most-text, shownIn}
 
 pub refused-text : (a : Answer) (t : List ℕ) → (a .number ≡ 0 → ⊥) → unlessRefused a t ≡ refusalOf a
 unfolding unlessRefused
@@ -147,8 +147,8 @@ module _ (b : List ℕ) where
       go true d = absurd (n (ap (λ (y : Contents). y .answer .number) d))
       go false d = ap (λ (y : Contents). y .answer) d
 
-    pub file-refused : (x .answer .number ≡ 0 → ⊥) → refusalOf (x .answer) ≡ printedOf b
-    unfolding printedOf printedGraph
+    pub file-refused : (x .answer .number ≡ 0 → ⊥) → refusalOf (x .answer) ≡ printedFile b
+    unfolding printedFile printedGraph
     file-refused n =
         ap refusalOf q ∙ sym (refused-text (readAnswer b (length old)) rest (rw q at n)) ∙ read-text old rest l where
           q : x .answer ≡ readAnswer b (length old)
@@ -192,9 +192,19 @@ module _ (b : List ℕ) where
         pub file-admitted : Admitted (x .shape) part
         file-admitted = rw (shape-read, hops-read) (check-admitted (shapeIn b) (hopListIn b) checked)
 
-        pub file-printed : printedGraph (x .shape) part ≡ printedOf b
-        unfolding printedOf
+        pub file-printed : printedGraph (x .shape) part ≡ printedFile b
+        unfolding printedFile
         file-printed = rw (shape-read, hops-read) (sym (accepted-text (formatAnswer b) (printedGraph (shapeIn b) (hopListIn b)) (both .0)))
+
+-- an input that is too long, and one that is not
+module _ (b : List ℕ) where
+  pub input-refused : most-input < length b → refusalOf (refused 13 most-input) ≡ printedOf b
+  unfolding printedOf
+  input-refused l = rw (lt-ltb most-input (length b) l)
+
+  pub input-taken : length b ≤ most-input → printedFile b ≡ printedOf b
+  unfolding printedOf
+  input-taken l = rw (le-ltb most-input (length b) l)
 
 -- a buffer that is too short, and one that is not
 module _ (room : ℕ) (t : List ℕ) where

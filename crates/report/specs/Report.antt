@@ -1,9 +1,11 @@
 -- What the program prints (document 01, after "Graphs worked by hand"). Assumes nothing: these are definitions.
-use Prim.Native.Nat.{ℕ}
+use Prim.Native.Nat.{ℕ, _+_, _*_}
 use mathlib.Core.Bool.{cond}
 use mathlib.Core.List.{List, []}
-use lib.Dec.{eqb, leb}
+use lib.ListN.{length}
+use lib.Dec.{eqb, leb, ltb}
 use Rattle.graph.specs.Hops.{flat}
+use Rattle.graph.specs.Answers.{most-states, most-hops, refused}
 use Rattle.limits.specs.Check.{checkOf}
 use Rattle.graph.specs.declared.Shape.{Shape}
 use Rattle.graph.specs.declared.Answer.{Answer}
@@ -28,13 +30,22 @@ unlessRefused a text = cond (eqb (a .number) 0) text (refusalOf a)
 unfoldable pub printedGraph : Shape → List ℕ → List ℕ
 printedGraph sh hs = unlessRefused (checkOf sh hs) (unlessRefused (ringless sh hs) (reportOf sh hs))
 
--- "The program reads a file from standard input, reduces and prints."
-unfoldable pub printedOf : List ℕ → List ℕ
-printedOf b = unlessRefused (formatAnswer b) (printedGraph (shapeIn b) (hopListIn b))
+-- of a file: its format, then its graph
+unfoldable pub printedFile : List ℕ → List ℕ
+printedFile b = unlessRefused (formatAnswer b) (printedGraph (shapeIn b) (hopListIn b))
 
--- a buffer of this many bytes holds whatever is printed; a shorter one is given nothing
+-- "the program stops at 65,536"
+abbrev pub most-input : ℕ
+most-input = 65536
+
+-- "The program reads a file from standard input, reduces and prints"; it "prints `no 13 65536` for more"
+unfoldable pub printedOf : List ℕ → List ℕ
+printedOf b = cond (ltb most-input (length b)) (refusalOf (refused 13 most-input)) (printedFile b)
+
+-- a buffer of this many bytes holds whatever is printed; a shorter one is given nothing. `in` takes 13 bytes at most, a state's `map` 14, `out` 19; a hop is
+-- either marked and printed with 17, or becomes a short hop with 25, alone or with others, or is not printed
 abbrev pub most-text : ℕ
-most-text = 196608
+most-text = 13 + 14 * most-states + 19 + 25 * most-hops
 
 unfoldable pub shownIn : ℕ → List ℕ → List ℕ
 shownIn room text = cond (leb most-text room) text []

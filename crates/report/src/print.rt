@@ -4,6 +4,7 @@ use graph::MOST_HOPS;
 use graph::MOST_NUMBERS;
 use graph::MOST_STATES;
 use graph::Shape;
+use graph::answers::refuse;
 use graph::hops::part;
 use reader::reading::read;
 use reducing::reduce_marked;
@@ -20,10 +21,13 @@ ghost use Rattle.starts.specs.Starts.{Table};
 ghost use Rattle.representatives.specs.Tables.{Reducible};
 ghost use Rattle.outputs.specs.Output.{onFront};
 ghost use Rattle.text.specs.Text.{Put};
-ghost use Rattle.report.specs.Report.{most-text, reportOf, printedGraph, printedOf, shownIn};
+ghost use Rattle.report.specs.Report.{most-text, reportOf, printedGraph, printedFile, printedOf, shownIn};
 
-// 45 bytes for `in`, 19 a hop, 16 a state, 67 for `out` and 22 a short hop are 184,432 for the largest graph; 48 for each of its hops hold them.
-pub const MOST_TEXT: usize = 48 * MOST_HOPS;
+// The longest input that is looked at.
+pub const MOST_INPUT: usize = 65536;
+
+// 13 bytes for `in`, 14 a state, 19 for `out`, and 25 a hop, which is either marked or becomes a short hop: 116,768 for the largest graph.
+pub const MOST_TEXT: usize = 13 + 14 * MOST_STATES + 19 + 25 * MOST_HOPS;
 
 // The report of a graph that every row lets pass: it is marked once, and reduced along the marks.
 fn print_reduced(shape: Shape, hops: &[u16], starts: &[u16; STARTS], out: &mut [u8]) -> usize
@@ -59,7 +63,7 @@ fn print_graph(shape: Shape, hops: &[u16], out: &mut [u8]) -> usize
 // The same of a file. Reading has checked the graph, so that nothing is checked, searched for rings or marked twice.
 fn print_contents(file: &[u8], out: &mut [u8]) -> usize
     requires { ⌜ most-text ≤ length (now out) ⌝ }
-    ensures { λ r. ⌜ Put (now (out .entry)) 0 (printedOf (now (file .entry))) r (now (out .exit)) ⌝ }
+    ensures { λ r. ⌜ Put (now (out .entry)) 0 (printedFile (now (file .entry))) r (now (out .exit)) ⌝ }
 {
     let mut hops = [0u16; MOST_NUMBERS];
     let contents = read(file, &mut hops);
@@ -72,6 +76,17 @@ fn print_contents(file: &[u8], out: &mut [u8]) -> usize
     print_graph(shape, part(&hops, 0, n), out)
 }
 
+// The same of whatever was read from standard input, which may be too long to be looked at.
+fn print_input(file: &[u8], out: &mut [u8]) -> usize
+    requires { ⌜ most-text ≤ length (now out) ⌝ }
+    ensures { λ r. ⌜ Put (now (out .entry)) 0 (printedOf (now (file .entry))) r (now (out .exit)) ⌝ }
+{
+    if MOST_INPUT < file.len() {
+        return put_refusal(out, 0, refuse(13, MOST_INPUT));
+    }
+    print_contents(file, out)
+}
+
 // The entry. What is printed stands in the buffer's front, and how long it is is returned; a buffer too short for the longest report gets nothing.
 pub fn print_file(file: &[u8], out: &mut [u8]) -> usize
     ensures counts { λ r. ⌜ r ≡ length (shownIn (length (now (out .entry))) (printedOf (now (file .entry)))) ⌝ }
@@ -81,5 +96,5 @@ pub fn print_file(file: &[u8], out: &mut [u8]) -> usize
     if out.len() < MOST_TEXT {
         return 0;
     }
-    print_contents(file, out)
+    print_input(file, out)
 }

@@ -4,7 +4,7 @@ use mathlib.Core.Path.{_≡_, refl, sym}
 use mathlib.Core.List.{List, [], _∷_, _++_}
 use native.Mathlib.Omega.{arith}
 use borrow.Author.Tests.{eq-eqb, ne-eqb}
-use Rattle.graph.specs.Hops.{count, from, label, to}
+use Rattle.graph.specs.Hops.{count, from, label, to, lineAt}
 use Rattle.graph.specs.declared.Shape.{Shape}
 use Rattle.text.specs.Text.{line, lines, in-word, marked-word, map-word, out-word, hop-word, Room, Put}
 use Rattle.text.proofs.Puts.{put-same, put-then, room-same, room-first, room-rest}
@@ -23,9 +23,10 @@ pub map-parts : (map : ℕ → ℕ) (s : ℕ) {v : ℕ} → v ≡ map s → mapL
 unfolding mapLine
 map-parts map s e = rw e
 
-pub hop-parts : (hs : List ℕ) (i : ℕ) {f l t : ℕ} → f ≡ from hs i → l ≡ label hs i → t ≡ to hs i → hopLine hs i ≡ line hop-word (f ∷ l ∷ t ∷ [])
+pub hop-parts : (hs : List ℕ) (i : ℕ) {f l t s : ℕ} → f ≡ from hs i → l ≡ label hs i → t ≡ to hs i → s ≡ lineAt hs i →
+    hopLine hs i ≡ line hop-word (f ∷ l ∷ t ∷ s ∷ [])
 unfolding hopLine
-hop-parts hs i p q r = rw (p, q, r)
+hop-parts hs i p q r e = rw (p, q, r, e)
 
 pub report-parts : (sh : Shape) (hs : List ℕ) (mark map : ℕ → ℕ) (new : Shape) (short : List ℕ) {n m : ℕ} → n ≡ count hs → m ≡ count short →
     linesOf sh hs mark map new short ≡

@@ -4,7 +4,7 @@ use mathlib.Core.Bool.{cond}
 use mathlib.Core.List.{List, [], _∷_, _++_}
 use lib.ListN.{getD}
 use lib.Dec.{eqb}
-use Rattle.graph.specs.Hops.{count, from, label, to}
+use Rattle.graph.specs.Hops.{count, from, label, to, lineAt}
 use Rattle.graph.specs.declared.Shape.{Shape}
 use Rattle.graph.specs.declared.Answer.{Answer}
 use Rattle.text.specs.Text.{line, lines, in-word, marked-word, map-word, out-word, hop-word, no-word}
@@ -17,9 +17,9 @@ markedLine hs mark i = cond (eqb (mark i) 1) (line marked-word (from hs i ∷ to
 unfoldable pub mapLine : (ℕ → ℕ) → ℕ → List ℕ
 mapLine map s = line map-word (s ∷ map s ∷ [])
 
--- "`hop`: from, label, to"
+-- "`hop`: from, label, to", and "its source line, .. last in the printed `hop`"
 unfoldable pub hopLine : List ℕ → ℕ → List ℕ
-hopLine hs i = line hop-word (from hs i ∷ label hs i ∷ to hs i ∷ [])
+hopLine hs i = line hop-word (from hs i ∷ label hs i ∷ to hs i ∷ lineAt hs i ∷ [])
 
 -- a lent list, by place
 abbrev pub byPlace : List ℕ → ℕ → ℕ

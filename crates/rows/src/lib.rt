@@ -6,6 +6,7 @@ use graph::Shape;
 use graph::hops::from_at;
 use graph::hops::hop_count;
 use graph::hops::label_at;
+use graph::hops::line_at;
 use graph::hops::new_from_at;
 use graph::hops::new_to_at;
 use graph::hops::to_at;
@@ -77,7 +78,7 @@ fn put_map(out: &mut [u8], at: usize, map: &[u16], states: usize) -> usize
     next
 }
 
-// The line of a short hop, by new numbers.
+// The line of a short hop, by new numbers, its source line last.
 fn put_hop_line(out: &mut [u8], at: usize, short: &[u16], i: usize) -> usize
     requires there { ⌜ i < count (now short) ⌝ }
     requires room { ⌜ Room at (hopLine (now short) i) (now out) ⌝ }
@@ -86,7 +87,8 @@ fn put_hop_line(out: &mut [u8], at: usize, short: &[u16], i: usize) -> usize
     let from = new_from_at(short, i).0 as usize;
     let label = label_at(short, i).0 as usize;
     let to = new_to_at(short, i).0 as usize;
-    let numbers = [from, label, to];
+    let source = line_at(short, i) as usize;
+    let numbers = [from, label, to, source];
     put_line(out, at, b"hop", &numbers)
 }
 

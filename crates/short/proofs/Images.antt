@@ -5,13 +5,14 @@ use mathlib.Core.Bool.{true}
 use mathlib.Core.List.{List}
 use mathlib.Core.Logic.{_↔_}
 use lib.ListN.{length}
-use Rattle.graph.specs.Hops.{count, from, label, to, flat, has}
+use Rattle.below.specs.Tests.{tally}
+use Rattle.graph.specs.Hops.{count, from, to, flat, has}
 use Rattle.graph.specs.Order.{Ascending}
 use Rattle.graph.specs.declared.Shape.{Shape}
 use Rattle.graph.proofs.Places.{has-at, has-place}
 use Rattle.shrinking.specs.Pairs.{Pairs}
 use Rattle.insertion.proofs.Insertion.{rising-ascending}
-use Rattle.insertion.proofs.Collected.{collected-rising, collected-within, collected-iff}
+use Rattle.insertion.proofs.Collected.{collected-rising, collected-few, collected-within, collected-iff}
 use Rattle.representatives.specs.Representative.{resting, newOf, mapOf}
 use Rattle.short.specs.Short.{image, gathered, shortHops}
 
@@ -19,6 +20,11 @@ module _ (sh : Shape) (hs : List ℕ) (u : Pairs) where
   pub short-ascending : Ascending (flat (shortHops sh hs u))
   unfolding shortHops gathered
   short-ascending = rising-ascending _ (collected-rising (λ (i : ℕ). resting hs u (from hs i)) (image sh hs u) (count hs))
+
+  -- at most as many as leave a representative
+  pub short-few : length (shortHops sh hs u) ≤ tally (count hs) (λ (i : ℕ). resting hs u (from hs i))
+  unfolding shortHops gathered
+  short-few = collected-few (λ (i : ℕ). resting hs u (from hs i)) (image sh hs u) (count hs)
 
   pub short-within : length (shortHops sh hs u) ≤ count hs
   unfolding shortHops gathered

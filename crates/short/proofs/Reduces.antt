@@ -61,7 +61,7 @@ module _ {sh : Shape} {hs : List ℕ} {u : Pairs} (adm : Admitted sh hs) (sett :
     labels-some = adm .labels-some;
     labels-most = adm .labels-most;
     hops-most = omega (arith, count-flat (shortHops sh hs u), short-within sh hs u, adm .hops-most);
-    three-a-hop = omega (arith, length-flat (shortHops sh hs u));
+    whole-hops = omega (arith, length-flat (shortHops sh hs u));
     initial-in = map-in sett (adm .range) (sh .initial) (adm .initial-in);
     range = record { from-in = λ i l. at-in i l .0; label-in = λ i l. at-in i l .1; to-in = λ i l. at-in i l .2 };
     ascending = short-ascending sh hs u;

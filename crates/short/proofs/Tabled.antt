@@ -6,7 +6,7 @@ use mathlib.Core.List.{List}
 use native.Mathlib.Omega.{arith}
 use lib.ListN.{getD}
 use Rattle.below.specs.Tests.{listed}
-use Rattle.graph.specs.Hops.{count, from, label, to, hopOf}
+use Rattle.graph.specs.Hops.{count, from, label, to, lineAt, linedHop}
 use Rattle.limits.specs.Check.{Admitted}
 use Rattle.graph.specs.declared.Shape.{Shape}
 use Rattle.shrinking.specs.Pairs.{Pairs}
@@ -32,10 +32,11 @@ module _ {sh : Shape} {hs : List ℕ} {u : Pairs} (adm : Admitted sh hs) (sett :
 
   module _ (map : List ℕ) (mapped : (s : ℕ) → s < sh .states → getD map s 0 ≡ mapOf sh hs u s) where
     tabled-image : (i : ℕ) → i < count hs → resting hs u (from hs i) ≡ true → imaged hs map i ≡ image sh hs u i
-    tabled-image i l e = λ d. hopOf
+    tabled-image i l e = λ d. linedHop
         ((mapped (from hs i) (adm .range .from-in i l) ∙ map-own sh hs u (from hs i) e) d)
         (label hs i)
         (mapped (to hs i) (adm .range .to-in i l) d)
+        (lineAt hs i)
 
     pub tabled-short : (n : ℕ) → n ≤ count hs → shortBy hs next map n ≡ gathered sh hs u n
     unfolding shortBy gathered

@@ -4,7 +4,7 @@ use Prim.Native.Nat.{ℕ, suc}
 use mathlib.Core.List.{List, [], _∷_, _++_, map}
 use lib.ListN.{length}
 use Rattle.below.specs.Tests.{listed}
-use Rattle.graph.specs.Hops.{hopOf, flat}
+use Rattle.graph.specs.Hops.{linedHop, hopOf, flat}
 use Rattle.graph.specs.Answers.{accepted, refused}
 use Rattle.graph.specs.declared.Hop.{Hop}
 use Rattle.graph.specs.declared.Shape.{Shape}
@@ -17,6 +17,10 @@ use Rattle.last_graph.specs.declared.Shrinking.{Shrinking}
 -- a hop as document 01 writes it; a state count and a label count, with initial state 0
 abbrev pub hop : ℕ → ℕ → ℕ → Hop
 hop s a t = hopOf s a t
+
+-- the same with a line
+abbrev pub lined : ℕ → ℕ → ℕ → ℕ → Hop
+lined s a t l = linedHop s a t l
 
 abbrev pub shape : ℕ → ℕ → Shape
 shape n l = record { states = n; labels = l; initial = 0 }
@@ -86,7 +90,7 @@ tableOf t = record { shrunk = map shrunkOf (t .shrunk); refused = map refusedOf 
 -- W13.6 with three states: a silent chain in which state i has a hop labelled 1 to itself for odd i and to 0 for even i, and one labelled 2 the other way
 -- round
 abbrev chain : List Hop
-chain = hop 0 0 1 ∷ hop 0 1 0 ∷ hop 0 2 0 ∷ hop 1 0 2 ∷ hop 1 1 1 ∷ hop 1 2 0 ∷ hop 2 1 0 ∷ hop 2 2 2 ∷ []
+chain = lined 0 0 1 1 ∷ lined 0 1 0 2 ∷ hop 0 2 0 ∷ hop 1 0 2 ∷ lined 1 1 1 9 ∷ lined 1 2 0 8 ∷ lined 2 1 0 7 ∷ hop 2 2 2 ∷ []
 
 -- P1 and P2 of document 01
 abbrev p1 : List Hop
@@ -97,7 +101,7 @@ p2 = hop 0 0 1 ∷ hop 0 1 2 ∷ hop 1 1 3 ∷ []
 
 -- the second reduction of this one is R2's own: R1 marks nothing of what the first leaves
 abbrev twice : List Hop
-twice = hop 0 1 1 ∷ hop 1 0 2 ∷ hop 1 1 0 ∷ hop 2 0 0 ∷ []
+twice = lined 0 1 1 4 ∷ hop 1 0 2 ∷ lined 1 1 0 3 ∷ lined 2 0 0 5 ∷ []
 
 -- so many nines, which are no number of these graphs: what an output held before, and holds past what is written
 abbrev nines : ℕ → List ℕ
@@ -127,10 +131,10 @@ refuses sh hs k m n a = record { graph = sh; hops = hs; sense = k; entries = m; 
 
 -- what the reductions of the chain leave: states 0 and 1 become one first, and then that one and 2; under R8 all three at once
 abbrev shorter : List Hop
-shorter = hop 0 0 1 ∷ hop 0 1 0 ∷ hop 0 2 0 ∷ hop 1 1 0 ∷ hop 1 2 1 ∷ []
+shorter = hop 0 0 1 ∷ lined 0 1 0 9 ∷ lined 0 2 0 8 ∷ lined 1 1 0 7 ∷ hop 1 2 1 ∷ []
 
 abbrev shortest : List Hop
-shortest = hop 0 1 0 ∷ hop 0 2 0 ∷ []
+shortest = lined 0 1 0 7 ∷ hop 0 2 0 ∷ []
 
 abbrev one-by-one : List Turn
 one-by-one =
@@ -141,20 +145,20 @@ at-once = turn (1 ∷ 0 ∷ 0 ∷ 1 ∷ 0 ∷ 0 ∷ 0 ∷ 0 ∷ []) 1 3 shortest
 
 -- W13.6: the chain "takes n - 1 reductions (R8: one)": by R1, R2 and R3 one fewer than the first states, so that no smaller bound holds
 abbrev pub chain-r1 : Shrunk
-chain-r1 = leaves (shape 3 3) chain 1 one-by-one 1 shortest (0 ∷ 0 ∷ 0 ∷ []) 2 19
+chain-r1 = leaves (shape 3 3) chain 1 one-by-one 1 shortest (0 ∷ 0 ∷ 0 ∷ []) 2 25
 
 abbrev pub chain-r2 : Shrunk
-chain-r2 = leaves (shape 3 3) chain 2 one-by-one 1 shortest (0 ∷ 0 ∷ 0 ∷ []) 2 19
+chain-r2 = leaves (shape 3 3) chain 2 one-by-one 1 shortest (0 ∷ 0 ∷ 0 ∷ []) 2 25
 
 abbrev pub chain-r3 : Shrunk
-chain-r3 = leaves (shape 3 3) chain 3 one-by-one 1 shortest (0 ∷ 0 ∷ 0 ∷ []) 2 19
+chain-r3 = leaves (shape 3 3) chain 3 one-by-one 1 shortest (0 ∷ 0 ∷ 0 ∷ []) 2 25
 
 abbrev pub chain-r8 : Shrunk
-chain-r8 = leaves (shape 3 3) chain 8 at-once 1 shortest (0 ∷ 0 ∷ 0 ∷ []) 1 19
+chain-r8 = leaves (shape 3 3) chain 8 at-once 1 shortest (0 ∷ 0 ∷ 0 ∷ []) 1 25
 
 -- ours: P1, of which one reduction leaves nothing marked
 abbrev pub p1-r1 : Shrunk
-p1-r1 = leaves (shape 4 2) p1 1 (turn (1 ∷ 0 ∷ 0 ∷ 1 ∷ []) 2 2 (hop 0 1 1 ∷ []) (0 ∷ 0 ∷ 1 ∷ 1 ∷ []) 1 ∷ []) 2 (hop 0 1 1 ∷ []) (0 ∷ 0 ∷ 1 ∷ 1 ∷ []) 1 10
+p1-r1 = leaves (shape 4 2) p1 1 (turn (1 ∷ 0 ∷ 0 ∷ 1 ∷ []) 2 2 (hop 0 1 1 ∷ []) (0 ∷ 0 ∷ 1 ∷ 1 ∷ []) 1 ∷ []) 2 (hop 0 1 1 ∷ []) (0 ∷ 0 ∷ 1 ∷ 1 ∷ []) 1 13
 
 -- W13.1: "If nothing is marked at first: 0, the graph itself, .. and the identity": P2
 abbrev pub p2-r1 : Shrunk
@@ -164,17 +168,17 @@ p2-r1 = leaves (shape 4 2) p2 1 [] 4 p2 (0 ∷ 1 ∷ 2 ∷ 3 ∷ []) 0 1
 abbrev pub twice-r2 : Shrunk
 twice-r2 =
     leaves (shape 3 2) twice 2
-    (turn (0 ∷ 0 ∷ 0 ∷ 1 ∷ []) 2 2 (hop 0 1 1 ∷ hop 1 0 0 ∷ hop 1 1 0 ∷ []) (0 ∷ 1 ∷ 0 ∷ []) 1 ∷ turn (0 ∷ 1 ∷ 0 ∷ []) 1 2 (hop 0 1 0 ∷ []) (0 ∷ 0 ∷ 0 ∷ []) 2 ∷ [])
-    1 (hop 0 1 0 ∷ []) (0 ∷ 0 ∷ 0 ∷ []) 2 10
+    (turn (0 ∷ 0 ∷ 0 ∷ 1 ∷ []) 2 2 (lined 0 1 1 4 ∷ hop 1 0 0 ∷ lined 1 1 0 3 ∷ []) (0 ∷ 1 ∷ 0 ∷ []) 1 ∷ turn (0 ∷ 1 ∷ 0 ∷ []) 1 2 (lined 0 1 0 4 ∷ []) (0 ∷ 0 ∷ 0 ∷ []) 2 ∷ [])
+    1 (lined 0 1 0 4 ∷ []) (0 ∷ 0 ∷ 0 ∷ []) 2 13
 
 abbrev pub table : Table
 table = record {
   shrunk = chain-r1 ∷ chain-r2 ∷ chain-r3 ∷ chain-r8 ∷ p1-r1 ∷ p2-r1 ∷ twice-r2 ∷ [];
   refused =
       -- ours: "Outputs and refusals are as in reduce": 19 before 5, 5 before 6, and the rooms are those of the input
-      refuses (shape 2 1) (hop 0 0 1 ∷ hop 1 0 0 ∷ []) 4 2 6 (refused 19 0) ∷
+      refuses (shape 2 1) (hop 0 0 1 ∷ hop 1 0 0 ∷ []) 4 2 8 (refused 19 0) ∷
       refuses (shape 2 1) (hop 0 0 1 ∷ hop 1 0 0 ∷ []) 1 0 0 (refused 5 0) ∷
-      refuses (shape 3 3) chain 1 2 24 (refused 6 0) ∷
-      refuses (shape 3 3) chain 1 3 23 (refused 6 0) ∷
+      refuses (shape 3 3) chain 1 2 32 (refused 6 0) ∷
+      refuses (shape 3 3) chain 1 3 31 (refused 6 0) ∷
       [];
 }

@@ -1,11 +1,12 @@
 -- The ways out of writing, in the order of the checks. Assumes nothing.
 use Prim.Native.Nat.{ℕ, _-_, _<_, _≤_}
-use mathlib.Core.Path.{_≡_, sym, ap, _∙_}
+use mathlib.Core.Path.{_≡_, refl, sym, ap, _∙_}
 use mathlib.Core.List.{List}
-use mathlib.Core.Logic.{inl}
+use mathlib.Core.Logic.{inl, ⊎-elim}
 use native.Mathlib.Omega.{arith}
 use borrow.Author.Tests.{lt-ltb, le-ltb, lt-leb, le-leb, eq-eqb, ne-eqb}
 use lib.ListN.{length}
+use Rattle.below.proofs.Bools.{eq-or-not}
 use Rattle.graph.specs.Hops.{count}
 use Rattle.graph.specs.Answers.{most-labels, most-hops, accepted, refused, roomFor}
 use Rattle.limits.specs.Check.{checkOf, Admitted}
@@ -31,8 +32,8 @@ module _ (ns : List ℕ) (n : ℕ) {end : ℕ} (e : end ≡ nameAt ns n) where
     unfolding blockAnswer
     block-left m = rw (← e, le-ltb _ _ l, lt-ltb _ _ m)
 
-    pub block-searchable : n < most-labels → {places : ℕ} → n ≤ places → Searchable ns n places
-    block-searchable f g = record { whole = rw (← e) l; room = inl (g, omega arith) }
+    pub block-searchable : {places : ℕ} → n ≤ places → Searchable ns n places
+    block-searchable g = record { whole = rw (← e) l; room = inl g }
 
     module _ (m : length ns ≤ end) {bad : ℕ} (d : bad ≡ nameAt ns (firstBad ns n)) where
       pub block-bad : bad < end → refused 14 bad ≡ blockAnswer ns n
@@ -106,16 +107,40 @@ module _ (sh : Shape) (hs ns : List ℕ) where
       let (a, l) = room-accepts (length (encode sh hs ns)) room r in
       (second-accepts (givenAnswer sh hs ns) _ z ∙ a, g, l)
 
-  -- what a refusal and an acceptance give and write
-  module _ (old : List ℕ) where
-    pub refused-writes : {a : Answer} → a ≡ writeAnswer sh hs ns (length old) → (a .number ≡ 0 → ⊥) →
-        (nothingWritten a ≡ writeOf sh hs ns (length old)) × (old ≡ writeBytes sh hs ns old)
-    unfolding writeOf writeBytes
-    refused-writes e n = (rw (← e, ne-eqb _ _ n), rw (← e, ne-eqb _ _ n))
+  -- what a refusal and an acceptance give
+  module _ (room : ℕ) where
+    pub refused-gives : {a : Answer} → a ≡ writeAnswer sh hs ns room → (a .number ≡ 0 → ⊥) → nothingWritten a ≡ writeOf sh hs ns room
+    unfolding writeOf
+    refused-gives e n = rw (← e, ne-eqb _ _ n)
 
-    pub accepted-writes : {a : Answer} {n : ℕ} {out : List ℕ} → a ≡ writeAnswer sh hs ns (length old) → a .number ≡ 0 → n ≡ length (encode sh hs ns) → out ≡ onFront (encode sh hs ns) old →
-        (_≡_ {A = Written} (record { answer = a; length = n }) (writeOf sh hs ns (length old))) × (out ≡ writeBytes sh hs ns old)
-    unfolding writeOf writeBytes
-    accepted-writes {a = a} e z d f =
-        let y : accepted ≡ writeAnswer sh hs ns (length old) = sym (write-accepts (length old) (ap (λ (x : Answer). x .number) (sym e) ∙ z) .0) in
-        (rw (e ∙ sym y, d, ← y), f ∙ rw (← y))
+    pub accepted-gives : {a : Answer} {n : ℕ} → a ≡ accepted → accepted ≡ writeAnswer sh hs ns room → n ≡ length (encode sh hs ns) →
+        _≡_ {A = Written} (record { answer = a; length = n }) (writeOf sh hs ns room)
+    unfolding writeOf
+    accepted-gives e y d = rw (e, d, ← y)
+
+    pub gives-answer : writeOf sh hs ns room .answer ≡ writeAnswer sh hs ns room
+    unfolding writeOf
+    gives-answer =
+        ⊎-elim (λ z. rw (eq-eqb (writeAnswer sh hs ns room .number) 0 z) (sym (write-accepts room z .0)))
+        (λ n. rw (ne-eqb (writeAnswer sh hs ns room .number) 0 n)) (eq-or-not (writeAnswer sh hs ns room .number) 0)
+
+  -- what is then written
+  module _ (old : List ℕ) {w : Written} (e : w ≡ writeOf sh hs ns (length old)) where
+    same : w .answer .number ≡ writeAnswer sh hs ns (length old) .number
+    same = ap (λ (x : Written). x .answer .number) e ∙ ap (λ (x : Answer). x .number) (gives-answer (length old))
+
+    pub refused-writes : (w .answer .number ≡ 0 → ⊥) → old ≡ writeBytes sh hs ns old
+    unfolding writeBytes
+    refused-writes n = rw (← same, ne-eqb _ _ n)
+
+    module _ (z : w .answer .number ≡ 0) where
+      pub gives-length : w .length ≡ length (encode sh hs ns)
+      unfolding writeOf
+      gives-length = ap (λ (x : Written). x .length) e ∙ rw (eq-eqb _ _ (sym same ∙ z))
+
+      pub gives-writable : Writable sh hs ns (length old)
+      gives-writable = let (a, g, l) = write-accepts (length old) (sym same ∙ z) in writable (length old) refl g refl l
+
+      pub accepted-writes : {out : List ℕ} → out ≡ onFront (encode sh hs ns) old → out ≡ writeBytes sh hs ns old
+      unfolding writeBytes
+      accepted-writes f = f ∙ rw (← same, eq-eqb _ _ z)

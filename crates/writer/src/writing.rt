@@ -58,18 +58,27 @@ pub fn unwritten(answer: Answer) -> Written
     Written { answer, length: 0 }
 }
 
-// The answer, before anything is written: 1 to 4, then 14, then 6.
-pub fn write_answer(shape: Shape, hops: &[u16], names: &[u8], room: usize) -> Answer
-    ensures { λ r. ⌜ r ≡ writeAnswer shape (now (hops .entry)) (now (names .entry)) room ⌝ }
+// What writing is to give, before anything is written: 1 to 4, then 14, then 6, and the length of the file.
+fn foreseen(shape: Shape, hops: &[u16], names: &[u8], room: usize) -> Written
+    ensures { λ r. ⌜ r ≡ writeOf shape (now (hops .entry)) (now (names .entry)) room ⌝ }
 {
     let given = given_answer(shape, hops, names);
     if given.number != 0 {
-        return given;
+        return unwritten(given);
     }
-    if room < encoded_length(shape, hops, names) {
-        return refuse(6, 0);
+    let length = encoded_length(shape, hops, names);
+    if room < length {
+        return unwritten(refuse(6, 0));
     }
-    accept()
+    let answer = accept();
+    Written { answer, length }
+}
+
+// The answer alone.
+pub fn write_answer(shape: Shape, hops: &[u16], names: &[u8], room: usize) -> Answer
+    ensures { λ r. ⌜ r ≡ writeAnswer shape (now (hops .entry)) (now (names .entry)) room ⌝ }
+{
+    foreseen(shape, hops, names, room).answer
 }
 
 // The entry. Nothing is written before the last check, 6, has passed.
@@ -77,11 +86,10 @@ pub fn write(shape: Shape, hops: &[u16], names: &[u8], out: &mut [u8]) -> Writte
     ensures answers { λ r. ⌜ r ≡ writeOf shape (now (hops .entry)) (now (names .entry)) (length (now (out .entry))) ⌝ }
     ensures writes { λ _. ⌜ now (out .exit) ≡ writeBytes shape (now (hops .entry)) (now (names .entry)) (now (out .entry)) ⌝ }
 {
-    let answer = write_answer(shape, hops, names, out.len());
-    if answer.number != 0 {
-        return unwritten(answer);
+    let written = foreseen(shape, hops, names, out.len());
+    let answer = written.answer;
+    if answer.number == 0 {
+        put_file(shape, hops, names, written.length, out);
     }
-    put_file(shape, hops, names, out);
-    let length = encoded_length(shape, hops, names);
-    Written { answer, length }
+    written
 }

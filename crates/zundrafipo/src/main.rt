@@ -4,6 +4,7 @@
 use libc::STDERR_FILENO;
 use libc::STDIN_FILENO;
 use libc::STDOUT_FILENO;
+use report::print::MOST_INPUT;
 use report::print::MOST_TEXT;
 use report::print::print_file;
 ghost use Rattle.io.specs.Counts.{Counts};
@@ -41,8 +42,8 @@ fn read_input(fd: i32, buffer: &mut [u8]) -> Input
 }
 
 fn main() {
-    // one byte past the longest legal file, which is enough to know that a file is longer
-    let mut file = [0u8; 58345];
+    // one byte past the longest input that is looked at, which is enough to know that there is more
+    let mut file = [0u8; MOST_INPUT + 1];
     let input = read_input(STDIN_FILENO, &mut file);
     if input.failed {
         io::write_all(

@@ -6,7 +6,8 @@ use crate::folder::Folder;
 use crate::rows::{self, Row};
 use crate::show::{ratio, time};
 use crate::timing::{sample, Outputs, Timed};
-use differential::archive::Archive;
+use differential::archive::{without_lines, Archive, WithoutLines};
+use differential::entries::{Entries, NUMBERS};
 use std::cell::RefCell;
 use std::collections::BTreeMap;
 use std::ffi::{c_char, c_void, CString};
@@ -31,17 +32,28 @@ extern "C" {
 
 type Placed = [Archive; PLACES.len()];
 
-/// The rows that the words of the command line ask for, and what came out by entry. It is said whether mark and reduce of the old archive take a sense: those of
-/// versions before 0.3.0 do not, and then the rows are those of R1. Entries that one of the two has not, as shrink before 0.4.0, have no rows.
-pub fn table(old: &str, new: &str, old_takes_sense: bool) {
+/// The form of an archive's entries, which their names do not tell.
+#[derive(Clone, Copy, PartialEq)]
+pub enum Form {
+    /// Before version 0.3.0 mark and reduce take no sense: the rows are those of R1. Nor do hops have lines.
+    NoSense,
+    /// Before version 0.5.0 hops have no lines: lists are lent without them, and files with lines, or longer than those without can be, have no rows.
+    NoLines,
+    /// As they are now.
+    Now,
+}
+
+/// The rows that the words of the command line ask for, and what came out by entry. It is said in which form the entries of the old archive are. Entries that one of the
+/// two has not, as shrink before 0.4.0, have no rows.
+pub fn table(old: &str, new: &str, form: Form) {
     let folder = Folder::new();
-    let [old, new] = [("old", old, old_takes_sense), ("new", new, true)]
+    let [old, new] = [("old", old, form != Form::NoSense), ("new", new, true)]
         .map(|(name, archive, takes_sense)| PLACES.map(|place| loaded(&linked(&folder, name, Path::new(archive), place), takes_sense)));
     let ratios: RefCell<BTreeMap<String, Vec<f64>>> = RefCell::default();
     let take = |row: &Row| {
         let mut archives = old.iter().chain(&new);
-        if archives.all(|archive| has(archive, row)) && asked(row.entry, row.input) {
-            ratios.borrow_mut().entry(row.entry.to_string()).or_default().push(beside(row, &old, &new));
+        if archives.all(|archive| has(archive, row)) && (form == Form::Now || !row.new_file) && asked(row.entry, row.input) {
+            ratios.borrow_mut().entry(row.entry.to_string()).or_default().push(beside(row, &old, &new, form == Form::Now));
         }
     };
     println!("| entry | input | old | new | ratio |\n|---|---|---|---|---|");
@@ -65,13 +77,24 @@ fn has(archive: &Archive, row: &Row) -> bool {
     entry && (row.sense == 1 || archive.takes_sense())
 }
 
-/// A row's ratio, new to old.
-fn beside(row: &Row, old: &Placed, new: &Placed) -> f64 {
+/// A row's ratio, new to old, of which the old one has lines or not.
+fn beside(row: &Row, old: &Placed, new: &Placed, lines: bool) -> f64 {
+    let unlined = old.each_ref().map(WithoutLines::new);
     let mut ways: [Option<Timed>; 2 * PLACES.len()] = std::array::from_fn(|way| {
-        let archive = &[old, new][way % 2][way / 2];
+        let archive: &dyn Entries = match way % 2 {
+            0 if lines => &old[way / 2],
+            0 => &unlined[way / 2],
+            _ => &new[way / 2],
+        };
         Some(Timed::new(move |o| (row.call)(archive, o)))
     });
-    let mut left = ways.iter().flatten().map(|way| what_both_know(row, &way.outputs));
+    let mut left = ways.iter().flatten().enumerate().map(|(way, timed)| {
+        let mut known = what_both_know(row, &timed.outputs);
+        if !lines {
+            known.hops = three_a_hop(row, &timed.outputs, way % 2 == 1);
+        }
+        known
+    });
     let first = left.next();
     assert!(left.all(|other| Some(other) == first), "{} on {}: both must leave the same", row.entry, row.input);
     sample(&mut ways, MOST_SAMPLES, LONGEST);
@@ -88,6 +111,20 @@ fn what_both_know(row: &Row, outputs: &Outputs) -> Outputs {
         known.answer.truncate(AUDIT);
     }
     known
+}
+
+/// The hops that a call wrote without their lines, from three numbers a hop or from four.
+fn three_a_hop(row: &Row, outputs: &Outputs, four: bool) -> Vec<u16> {
+    let count = match row.entry.split(' ').next() {
+        Some("reduce" | "shrink") => outputs.answer[5] as usize,
+        Some("read") => outputs.answer[6] as usize,
+        _ => 0,
+    };
+    if four {
+        without_lines(&outputs.hops[..NUMBERS * count])
+    } else {
+        outputs.hops[..3 * count].to_vec()
+    }
 }
 
 /// A shared object of an archive, with so many bytes before its code.

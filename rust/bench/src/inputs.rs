@@ -1,6 +1,6 @@
 //! The graphs that are timed.
 
-use differential::entries::Graph;
+use differential::entries::{Graph, NUMBERS};
 use std::collections::BTreeSet;
 
 /// A graph with its name in the table.
@@ -17,10 +17,23 @@ pub struct Family {
 
 type Hops = BTreeSet<[u16; 3]>;
 
+/// Each hop has the line that it would have in a text with a head and a line a hop.
 fn graph_of(states: u16, labels: u16, hops: impl IntoIterator<Item = [u16; 3]>) -> Graph {
     let hops: Hops = hops.into_iter().collect();
     assert!(hops.len() <= 4096, "{} hops", hops.len());
-    Graph { states: states.into(), labels: labels.into(), initial: 0, hops: hops.into_iter().flatten().collect() }
+    let hops = hops.into_iter().zip(2..).flat_map(|([from, label, to], line)| [from, label, to, line]).collect();
+    Graph { states: states.into(), labels: labels.into(), initial: 0, hops }
+}
+
+/// Whether some hop has a line, and so its file lines.
+pub fn has_lines(graph: &Graph) -> bool {
+    graph.each_hop().any(|hop| hop[3] != 0)
+}
+
+/// The same graph without lines.
+pub fn without_lines(graph: &Graph) -> Graph {
+    let hops = graph.each_hop().flat_map(|[from, label, to, _]| [from, label, to, 0]).collect();
+    Graph { hops, ..*graph }
 }
 
 fn graph(name: &'static str, states: u16, labels: u16, hops: impl IntoIterator<Item = [u16; 3]>) -> Named {
@@ -75,6 +88,8 @@ pub fn graphs() -> Vec<Named> {
         graph("visible hops only, one label", 1024, 2, (0..1024).flat_map(|s| (0..4).map(move |d| [s, 1, (s + 7 * d + 1) % 1024]))),
         images("3,500 images in descending order", (0..500).rev().collect()),
         images("3,500 images strewn at random", Random::new().shuffled(500)),
+        repeated_images("3,500 images, ten of each and in descending order", (0..500).rev().collect()),
+        repeated_images("3,500 images, ten of each and strewn at random", Random::new().shuffled(500)),
         falling(),
     ]);
     graphs
@@ -98,7 +113,7 @@ fn grid(states: u16, across: u16) -> Graph {
 /// The same graph, with the last state numbered first.
 fn numbered_against(graph: Graph) -> Graph {
     let last = graph.states as u16 - 1;
-    graph_of(last + 1, graph.labels as u16, graph.hops.chunks(3).map(|hop| [last - hop[0], hop[1], last - hop[2]]))
+    graph_of(last + 1, graph.labels as u16, graph.each_hop().map(|[from, label, to, _]| [last - from, label, last - to]))
 }
 
 /// Four hops a state, so many of 100 of them silent and leading upward.
@@ -128,6 +143,18 @@ fn images(name: &'static str, order: Vec<u16>) -> Named {
     let joined = (1..).zip(order).map(|(s, end)| [s, 0, 501 + end]);
     let asked = (1..8).flat_map(|a| (0..500).map(move |i| [0, a, 1 + i]));
     graph(name, 1001, 8, joined.chain(asked))
+}
+
+/// The same with 50 representatives, each of ten states: of ten hops with different lines, some of them 0, one short hop is left, with the smallest.
+fn repeated_images(name: &'static str, order: Vec<u16>) -> Named {
+    let joined = (1..).zip(order).map(|(s, end)| [s, 0, 501 + end / 10]);
+    let asked = (1..8).flat_map(|a| (0..500).map(move |i| [0, a, 1 + i]));
+    let mut named = graph(name, 551, 8, joined.chain(asked));
+    let mut random = Random::new();
+    for hop in named.graph.hops.chunks_exact_mut(NUMBERS) {
+        hop[3] = if random.below(3) == 0 { 0 } else { random.below(65_535) + 1 };
+    }
+    named
 }
 
 /// A ladder whose rungs fall one a sweep, from the far end, beside a block of 32 states whose 496 silent hops stay marked.
@@ -288,7 +315,15 @@ pub fn walks() -> Vec<Named> {
             let (chain, states) = one_a_sweep(1023);
             graph("chain of 1,023 to one end that falls a hop a sweep", states, 3, chain)
         },
-        two_waves(1020),
+        {
+            let (chain, states) = two_waves(1020);
+            graph("chain of 1,020 whose hops fall one a sweep, first to the end and then along it", states, 5, chain)
+        },
+        {
+            let (hops, states) = beside((Hops::from([[0, 0, 1]]), 2), two_waves(1018));
+            let hops = numbered(&Random::new().shuffled(states), hops);
+            graph("one marked hop, beside a chain of 1,018 that falls so, numbered at random", states, 5, hops)
+        },
         waves("waves: 7 chains of 500 hops that fall one after the other", 500, 7),
         waves("waves: 3 chains of 1,000 hops that fall one after the other", 1000, 3),
         strewn("waves: 7 chains of 500 hops, numbered at random", 500, 7),
@@ -306,12 +341,12 @@ pub fn walks() -> Vec<Named> {
 /// A chain of states with a silent hop and hops labelled 1 and 3 to the next, and a silent one to the end e, which has hops labelled 1, 3 and 4 to itself. In every sense the
 /// hops to e fall one a sweep; and when the first state's has fallen, the last one but one's hop labelled 4 to the first is no longer answered by the last one's to e, and
 /// the hops along the chain fall one a sweep too.
-fn two_waves(length: u16) -> Named {
+fn two_waves(length: u16) -> (Hops, u16) {
     let (e, last) = (length, length - 1);
     let along = (0..last).flat_map(|i| [0, 1, 3].map(|a| [i, a, i + 1]));
     let out = (0..length).map(|i| [i, 0, e]);
     let ends = [[last, 1, last], [last, 2, 0], [last, 3, last], [last, 4, e], [last - 1, 4, 0], [e, 1, e], [e, 3, e], [e, 4, e]];
-    graph("chain of 1,020 whose hops fall one a sweep, first to the end and then along it", length + 1, 5, along.chain(out).chain(ends))
+    (along.chain(out).chain(ends).collect(), length + 1)
 }
 
 /// State 0 has silent hops to so many states, these to a hub; 0 and the hub have so many labels to one target. A silent chain of so many states stands behind the
@@ -448,5 +483,7 @@ pub fn dense_rounds() -> Vec<Named> {
 
 /// The graph of the longest legal file.
 pub fn longest() -> Named {
-    graph("the longest legal file", 1024, 1024, (0..4096).map(|i| [i / 4, 1023, i % 4]))
+    let mut named = graph("the longest legal file", 1024, 1024, (0..4096).map(|i| [i / 4, 1023, i % 4]));
+    named.graph.initial = 1023;
+    named
 }

@@ -1,7 +1,7 @@
 //! What the plain implementation makes of a graph, where it is the input of something else.
 
 use crate::timing::Outputs;
-use differential::entries::{Entries, Graph, Plain};
+use differential::entries::{Entries, Graph, Plain, NUMBERS};
 
 /// The short graph and the map under R1.
 pub fn reduced(graph: &Graph) -> (Graph, Vec<u16>) {
@@ -12,7 +12,7 @@ pub fn reduced(graph: &Graph) -> (Graph, Vec<u16>) {
 pub fn reduced_in(sense: u32, graph: &Graph) -> (Graph, Vec<u16>) {
     let mut o = Outputs::new();
     assert_eq!(Plain.reduce(graph, sense, &mut o.map, &mut o.hops, &mut o.answer), 0, "a graph without rings");
-    o.hops.truncate(3 * o.answer[5] as usize);
+    o.hops.truncate(NUMBERS * o.answer[5] as usize);
     o.map.truncate(graph.states as usize);
     (Graph { states: o.answer[3] as u32, labels: o.answer[4] as u32, initial: o.answer[6] as u32, hops: o.hops }, o.map)
 }
@@ -20,7 +20,7 @@ pub fn reduced_in(sense: u32, graph: &Graph) -> (Graph, Vec<u16>) {
 pub fn marks(graph: &Graph) -> Vec<u8> {
     let mut o = Outputs::new();
     assert_eq!(Plain.mark_fast(graph, &mut o.marks, &mut o.answer), 0, "a graph without rings");
-    o.marks.truncate(graph.hops.len() / 3);
+    o.marks.truncate(graph.hop_count());
     o.marks
 }
 

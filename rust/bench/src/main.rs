@@ -12,8 +12,9 @@
 //! - `minutes`: mark_fast on the graphs on which repeated sweeps take a second to minutes, where these are left out else; swept once each. Then shrink on those on which
 //!   it takes up to minutes, which are in no other table;
 //! - `program PATH`: the program at the path beside the library's entries;
-//! - `against OLD NEW [WORD ..]`: the archive at one path beside that at another, both loaded while it runs, so that none need be linked. `against-0.2 OLD NEW`: the
-//!   old one is of a version before 0.3.0, whose mark and reduce take no sense, and the rows are those of R1.
+//! - `against OLD NEW [WORD ..]`: the archive at one path beside that at another, both loaded while it runs, so that none need be linked. `against-0.4 OLD NEW`: the
+//!   old one is of a version before 0.5.0, whose hops have no lines. `against-0.2 OLD NEW`: it is of one before 0.3.0, whose mark and reduce take no sense either, and the
+//!   rows are those of R1.
 //!
 //! Without the feature the plain implementation is timed alone. All must leave the same answer and the same outputs, or the run fails. Times are medians of
 //! processor time.
@@ -34,6 +35,7 @@ mod senses;
 mod show;
 mod timing;
 
+use against::Form;
 use differential::entries;
 use rows::Row;
 use show::{ratio, time};
@@ -50,10 +52,12 @@ fn main() {
         ["repetition", ..] => repetition::table(),
         ["minutes"] => minutes(),
         ["program", path] => program::table(path),
-        ["against", old, new, ..] => against::table(old, new, true),
-        ["against-0.2", old, new, ..] => against::table(old, new, false),
-        ["program" | "against" | "against-0.2"] | [_, _, ..] => {
-            eprintln!("usage: bench [WORD | senses [WORD ..] | repetition [WORD ..] | growth | minutes | program PATH | against OLD NEW [WORD ..] | against-0.2 OLD NEW [WORD ..]]");
+        ["against", old, new, ..] => against::table(old, new, Form::Now),
+        ["against-0.4", old, new, ..] => against::table(old, new, Form::NoLines),
+        ["against-0.2", old, new, ..] => against::table(old, new, Form::NoSense),
+        ["program" | "against" | "against-0.4" | "against-0.2"] | [_, _, ..] => {
+            let tables = "senses [WORD ..] | repetition [WORD ..] | growth | minutes | program PATH";
+            eprintln!("usage: bench [WORD | {tables} | against OLD NEW [WORD ..] | against-0.4 OLD NEW [WORD ..] | against-0.2 OLD NEW [WORD ..]]");
             std::process::exit(2);
         }
         _ => everything(),
@@ -64,7 +68,7 @@ fn main() {
 fn asked(entry: &str, input: &str) -> bool {
     let words: Vec<String> = std::env::args().skip(1).collect();
     let words = match words.first().map(String::as_str) {
-        Some("against" | "against-0.2") => &words[3..],
+        Some("against" | "against-0.4" | "against-0.2") => &words[3..],
         Some("senses" | "repetition") => &words[1..],
         _ => &words,
     };

@@ -1,6 +1,7 @@
 //! The blocks of names that are timed, and files of a state without hops that have them.
 
 use crate::inputs::Random;
+use plain::LONGEST_FILE;
 use std::collections::BTreeSet;
 
 /// A file with its name in the table.
@@ -9,8 +10,7 @@ pub struct NamedFile {
     pub file: Vec<u8>,
 }
 
-/// The longest file, and what stands in it before the names.
-const LONGEST_FILE: usize = 58_344;
+/// What stands in a file without hops before the names.
 const BEFORE_NAMES: usize = 5;
 /// As many names of two bytes as fit.
 const PAIRS: u16 = ((LONGEST_FILE - BEFORE_NAMES) / 3) as u16;
@@ -18,10 +18,11 @@ const PAIRS: u16 = ((LONGEST_FILE - BEFORE_NAMES) / 3) as u16;
 /// Those of more than 1,023 names are refused for that, but only when their names have passed.
 pub fn files() -> Vec<NamedFile> {
     vec![
-        file("19,446 different names of two bytes", (0..PAIRS).map(u16::to_le_bytes)),
-        file("19,446 names of two bytes, descending", (0..PAIRS).rev().map(u16::to_be_bytes)),
-        file("19,446 names of two bytes, at random", Random::new().shuffled(PAIRS).into_iter().map(u16::to_be_bytes)),
-        file("16,364 different names of two and three bytes, alike at first", alike()),
+        file("22,177 different names of two bytes", (0..PAIRS).map(u16::to_le_bytes)),
+        file("22,177 names of two bytes, descending", (0..PAIRS).rev().map(u16::to_be_bytes)),
+        file("22,177 names of two bytes, at random", Random::new().shuffled(PAIRS).into_iter().map(u16::to_be_bytes)),
+        file("19,446 names of two bytes, at random", Random::new().shuffled(19_446).into_iter().map(u16::to_be_bytes)),
+        file("18,602 different names of two and three bytes, alike at first", alike()),
         file("1,023 names as a person writes them", by_hand()),
     ]
 }
@@ -70,6 +71,12 @@ fn alike() -> Vec<Vec<u8>> {
 pub fn longest() -> Vec<u8> {
     let front = [b'n'; 30].as_slice();
     block((1..1024u16).map(|label| [front, &label.to_be_bytes()].concat()))
+}
+
+/// The same with so many of the names a byte shorter: the longest legal file is 1,000 bytes longer than what the program takes.
+pub fn shorter(by: u16) -> Vec<u8> {
+    let front = [b'n'; 30].as_slice();
+    block((1..1024u16).map(|label| [&front[usize::from(label <= by)..], &label.to_be_bytes()].concat()))
 }
 
 /// The block of names that a person writes, alike in front and in order.

@@ -20,9 +20,13 @@ pub fn table(program: &str) {
     let folder = Folder::new();
     let empty = folder.file("empty", &[]);
     let program = Path::new(program);
-    let Named { name: longest_name, graph: longest } = inputs::longest();
+    let longest = inputs::longest().graph;
     let graphs = inputs::graphs();
-    let inputs = graphs.iter().map(|Named { name, graph }| (*name, graph, vec![])).chain([(longest_name, &longest, names::longest())]);
+    let inputs = graphs.iter().map(|Named { name, graph }| (*name, graph, vec![])).chain([(
+        "the longest file that the program takes",
+        &longest,
+        names::shorter(1000),
+    )]);
     for (name, graph, names) in inputs {
         row(program, name, graph, &made::file(graph, &names), &folder, &empty);
     }

@@ -24,7 +24,7 @@ pub fn rows(Named { name, graph }: &Named) {
         let [once, last] = [&reduce, &shrink].map(|way| leaves(&way.outputs));
         let reductions = shrink.outputs.answer[7];
         let [reduce, shrink] = medians([Some(reduce), Some(shrink)]);
-        let (times, counts) = (ratio(shrink, reduce), format!("{}, {}", graph.states, graph.hops.len() / 3));
+        let (times, counts) = (ratio(shrink, reduce), format!("{}, {}", graph.states, graph.hop_count()));
         println!("| {name} | {counts} | R{sense} | {once} | {last} | {reductions} | {} | {} | {times} |", time(reduce), time(shrink));
     }
 }

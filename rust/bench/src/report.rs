@@ -18,7 +18,7 @@ impl Report<'_> {
     }
 
     pub fn put(&self, out: &mut Vec<u8>) {
-        let (hops, short) = (self.graph.hops.chunks_exact(3), self.short.hops.chunks_exact(3));
+        let (hops, short) = (self.graph.each_hop(), self.short.each_hop());
         put_line(out, "in", &[self.graph.states as u16, hops.len() as u16]);
         for (hop, _) in hops.zip(&self.marks).filter(|(_, &mark)| mark == 1) {
             put_line(out, "marked", &[hop[0], hop[2]]);
@@ -28,7 +28,7 @@ impl Report<'_> {
         }
         put_line(out, "out", &[self.short.states as u16, short.len() as u16, self.short.initial as u16]);
         for hop in short {
-            put_line(out, "hop", hop);
+            put_line(out, "hop", &hop);
         }
     }
 }

@@ -5,6 +5,9 @@ use crate::timing::Outputs;
 use crate::{made, marking, names, SENSES};
 use differential::entries::{Entries, Graph, Plain};
 
+/// The longest file before version 0.5.0.
+const LONGEST_WITHOUT_LINES: usize = 58_344;
+
 /// A call of one entry on one input.
 type Call<'a> = &'a dyn Fn(&dyn Entries, &mut Outputs) -> u32;
 
@@ -14,6 +17,8 @@ pub struct Row<'a> {
     /// 1 for an entry that takes no sense.
     pub sense: u32,
     pub input: &'a str,
+    /// Whether a file is read or written that archives before version 0.5.0 do not take: one with lines, or longer than theirs could be.
+    pub new_file: bool,
     pub checked: Option<&'a Graph>,
     pub plain: &'a dyn Fn(&mut Outputs) -> u32,
     pub call: Call<'a>,
@@ -24,13 +29,18 @@ pub type Take<'a> = &'a dyn Fn(&Row);
 
 /// An entry and the plain one.
 fn row(take: Take, entry: &str, input: &str, checked: Option<&Graph>, call: Call) {
-    take(&Row { entry, sense: 1, input, checked, plain: &|o| call(&Plain, o), call });
+    take(&Row { entry, sense: 1, input, new_file: false, checked, plain: &|o| call(&Plain, o), call });
+}
+
+/// Reading or writing of a file, which may be one that there was not before version 0.5.0.
+fn row_of_file(take: Take, entry: &str, input: &str, new_file: bool, call: Call) {
+    take(&Row { entry, sense: 1, input, new_file, checked: None, plain: &|o| call(&Plain, o), call });
 }
 
 /// An entry in a sense, of which a weaker one is part of its name, and the plain one.
 fn row_in(take: Take, (entry, sense): (&str, u32), input: &str, checked: Option<&Graph>, call: Call) {
     let entry = if sense == 1 { entry.to_string() } else { format!("{entry} R{sense}") };
-    take(&Row { entry: &entry, sense, input, checked, plain: &|o| call(&Plain, o), call });
+    take(&Row { entry: &entry, sense, input, new_file: false, checked, plain: &|o| call(&Plain, o), call });
 }
 
 /// All but those of `mark_fast`, which has a table of its own.
@@ -70,13 +80,13 @@ pub fn mark_fast(take: Take) {
 
 /// The hop in the middle of each graph; and of a full list hops at its ends, one that is not there, and many in no order, so that no search can be foreseen.
 fn finds(take: Take, graphs: &[Named]) {
-    let hop = |graph: &Graph, place: usize| [0, 1, 2].map(|i| u32::from(graph.hops[3 * place + i]));
+    let hop = |graph: &Graph, place: usize| graph.three_at(place).map(u32::from);
     for Named { name, graph } in graphs {
-        let middle = hop(graph, graph.hops.len() / 6);
+        let middle = hop(graph, graph.hop_count() / 2);
         row(take, "find", name, Some(graph), &|e, o| e.find(graph, middle, &mut o.answer));
     }
     let full = inputs::longest().graph;
-    let last = full.hops.len() / 3 - 1;
+    let last = full.hop_count() - 1;
     let ends = [("the first", hop(&full, 0)), ("the last", hop(&full, last)), ("one before all", [0; 3]), ("one out of range", [u32::MAX; 3])];
     for (which, asked) in ends {
         row(take, "find", &format!("4,096 hops, {which}"), Some(&full), &|e, o| e.find(&full, asked, &mut o.answer));
@@ -86,13 +96,13 @@ fn finds(take: Take, graphs: &[Named]) {
     row(take, "find", "4,096 hops, 64 of them one after the other, at random", None, &|e, o| {
         strewn.iter().map(|&asked| e.find(&full, asked, &mut o.answer)).sum()
     });
-    let few = Graph { states: 4, labels: 2, initial: 0, hops: vec![0, 0, 1, 0, 1, 2, 1, 1, 3, 2, 0, 3] };
+    let few = Graph { states: 4, labels: 2, initial: 0, hops: vec![0, 0, 1, 3, 0, 1, 2, 4, 1, 1, 3, 5, 2, 0, 3, 2] };
     row(take, "find", "P1, the last", Some(&few), &|e, o| e.find(&few, [2, 0, 3], &mut o.answer));
 }
 
 fn mark(take: Take, Named { name, graph }: &Named, checked: Option<&Graph>) {
     let plain = &|o: &mut Outputs| marking::plain_rounds(graph, o);
-    take(&Row { entry: "mark", sense: 1, input: name, checked, plain, call: &|e, o| e.mark(graph, 1, &mut o.marks, &mut o.answer) });
+    take(&Row { entry: "mark", sense: 1, input: name, new_file: false, checked, plain, call: &|e, o| e.mark(graph, 1, &mut o.marks, &mut o.answer) });
 }
 
 /// Mark in a weaker sense, and reduce where it is asked for.
@@ -137,7 +147,7 @@ fn rounds(take: Take, graphs: &[Named]) {
         for rounds in 1..=4 {
             row(take, "round question", &format!("{name}, {rounds} rounds"), None, &|e, o| e.round(dense, 0, rounds, &mut o.answer));
         }
-        let last = dense.hops.chunks(3).rposition(|hop| hop[1] == 0).expect("a silent hop") as u64;
+        let last = dense.each_hop().rposition(|hop| hop[1] == 0).expect("a silent hop") as u64;
         row(take, "round question", &format!("{name}, 4 rounds, the last hop"), None, &|e, o| e.round(dense, last, 4, &mut o.answer));
     }
     for Named { name, graph } in graphs.iter().filter(|g| g.graph.hops[1] == 0) {
@@ -147,17 +157,24 @@ fn rounds(take: Take, graphs: &[Named]) {
 
 fn files(take: Take) {
     let Named { name, graph: longest } = inputs::longest();
-    let names = names::longest();
-    let no_names = "4,096 hops, no names";
-    row(take, "write", name, None, &|e, o| e.write(&longest, &names, &mut o.file, &mut o.answer));
-    row(take, "write", no_names, None, &|e, o| e.write(&longest, &[], &mut o.file, &mut o.answer));
+    let (names, unlined) = (names::longest(), inputs::without_lines(&longest));
+    let files = [
+        (name, &longest, &names[..]),
+        ("4,096 hops, lines, no names", &longest, &[]),
+        ("the longest legal file without lines", &unlined, &names),
+        ("4,096 hops, no lines, no names", &unlined, &[]),
+    ];
+    for (name, graph, names) in files {
+        let lines = inputs::has_lines(graph);
+        row_of_file(take, "write", name, lines, &|e, o| e.write(graph, names, &mut o.file, &mut o.answer));
+    }
     let (bare, by_hand) = (Graph { states: 1, labels: 1024, initial: 0, hops: vec![] }, names::written_by_hand());
     row(take, "write", "1,023 names as a person writes them", None, &|e, o| e.write(&bare, &by_hand, &mut o.file, &mut o.answer));
-    for (name, names) in [(name, &names[..]), (no_names, &[])] {
-        let file = made::file(&longest, names);
-        row(take, "read", name, None, &|e, o| e.read(&file, &mut o.hops, &mut o.answer));
+    for (name, graph, names) in files {
+        let (file, lines) = (made::file(graph, names), inputs::has_lines(graph));
+        row_of_file(take, "read", name, lines, &|e, o| e.read(&file, &mut o.hops, &mut o.answer));
     }
     for names::NamedFile { name, file } in &names::files() {
-        row(take, "read", name, None, &|e, o| e.read(file, &mut o.hops, &mut o.answer));
+        row_of_file(take, "read", name, file.len() > LONGEST_WITHOUT_LINES, &|e, o| e.read(file, &mut o.hops, &mut o.answer));
     }
 }

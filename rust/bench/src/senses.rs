@@ -24,10 +24,10 @@ fn row(Named { name, graph }: &Named) {
         }))
     });
     let times = medians(ways);
-    print!("| {name} | {}, {} |", graph.states, graph.hops.len() / 3);
+    print!("| {name} | {}, {} |", graph.states, graph.hop_count());
     for (sense, seconds) in SENSES.into_iter().zip(times) {
         let (short, _) = made::reduced_in(sense, graph);
-        print!(" {} | {}, {} |", time(seconds), short.states, short.hops.len() / 3);
+        print!(" {} | {}, {} |", time(seconds), short.states, short.hop_count());
     }
     println!();
 }

@@ -1,7 +1,7 @@
 //! Ways of doing something, timed by turns: the machine's speed changes from one minute to the next, and then it changes for all of them.
 
 use crate::clock;
-use differential::entries::{self, Entries, Plain};
+use differential::entries::{self, Entries, Plain, NUMBERS};
 use std::hint::black_box;
 use std::time::Duration;
 
@@ -24,7 +24,14 @@ pub struct Outputs {
 
 impl Outputs {
     pub fn new() -> Outputs {
-        Outputs { marks: vec![0; 4096], map: vec![0; 1024], hops: vec![0; 12_288], file: vec![0; 58_344], answer: vec![0; 9], text: vec![] }
+        Outputs {
+            marks: vec![0; plain::MOST_HOPS],
+            map: vec![0; plain::MOST_STATES],
+            hops: vec![0; NUMBERS * plain::MOST_HOPS],
+            file: vec![0; plain::LONGEST_FILE],
+            answer: vec![0; 9],
+            text: vec![],
+        }
     }
 }
 

@@ -4,8 +4,8 @@ use crate::graph::Graph;
 use crate::{refuse, written, Answer, Refusal};
 use std::collections::HashSet;
 
-/// "The longest legal file has 58,344 bytes."
-pub const LONGEST_FILE: usize = 58_344;
+/// "The longest legal file has 66,536 bytes".
+pub const LONGEST_FILE: usize = 66_536;
 
 /// A file that ends before its contents.
 struct Ended;
@@ -49,9 +49,13 @@ struct Contents<'a> {
     states: u16,
     labels: u16,
     initial: Option<u16>,
+    /// Three numbers a hop.
     hops: Option<Vec<u16>>,
     names: Option<Vec<(usize, &'a [u8])>>,
-    name_block: usize,
+    /// One number a hop.
+    lines: Option<Vec<u16>>,
+    /// Where the names stand, if there are any, and where they end.
+    name_block: std::ops::Range<usize>,
     end: usize,
 }
 
@@ -71,7 +75,7 @@ fn contents(file: &[u8]) -> Result<Contents<'_>, Ended> {
     } else {
         None
     };
-    let name_block = taker.place;
+    let first_name = taker.place;
     let names = if map & 4 != 0 {
         let mut names = vec![];
         for _label in 1..labels {
@@ -81,7 +85,18 @@ fn contents(file: &[u8]) -> Result<Contents<'_>, Ended> {
     } else {
         None
     };
-    Ok(Contents { states, labels, initial, hops, names, name_block, end: taker.place })
+    let name_block = first_name..taker.place;
+    // "bit 3 stands for a list of lines, one number a hop, after the names"
+    let lines = if map & 8 != 0 {
+        let mut lines = vec![];
+        for _hop in 0..hops.as_ref().map_or(0, |hops| hops.len() / 3) {
+            lines.push(taker.number()?);
+        }
+        Some(lines)
+    } else {
+        None
+    };
+    Ok(Contents { states, labels, initial, hops, names, lines, name_block, end: taker.place })
 }
 
 /// The place of the first name whose length is 0 or over 32, or that is equal to an earlier one.
@@ -104,7 +119,8 @@ fn try_read(file: &[u8], before: &[u16]) -> Result<(Vec<u64>, Vec<u16>), Refusal
     if file.len() > LONGEST_FILE {
         refuse(13, LONGEST_FILE as u64)?;
     }
-    if file.first().is_some_and(|&map| map >= 8) {
+    // "12 no longer speaks of bit 3, except over lines all 0": bits 4 to 7
+    if file.first().is_some_and(|&map| map >= 16) {
         refuse(12, 0)?;
     }
     let contents = match contents(file) {
@@ -115,22 +131,25 @@ fn try_read(file: &[u8], before: &[u16]) -> Result<(Vec<u64>, Vec<u16>), Refusal
         refuse(13, contents.end as u64)?;
     }
     let no_hops = contents.hops.as_ref().is_some_and(|hops| hops.is_empty());
-    if contents.initial == Some(0) || no_hops || (contents.names.is_some() && contents.labels <= 1) {
+    let no_lines = contents.lines.as_ref().is_some_and(|lines| lines.iter().all(|&line| line == 0));
+    if contents.initial == Some(0) || no_hops || (contents.names.is_some() && contents.labels <= 1) || no_lines {
         refuse(12, 0)?;
     }
     let names = contents.names.unwrap_or_default();
     if let Some(place) = first_bad_name(&names) {
         refuse(14, place as u64)?;
     }
-    // "Absent means initial state 0, no hops, no names."
-    let hops = contents.hops.unwrap_or_default();
+    // "Absent means initial state 0, no hops, no names.", and no line is 0
+    let three = contents.hops.unwrap_or_default();
+    let lines = contents.lines.unwrap_or(vec![0; three.len() / 3]);
+    let hops: Vec<u16> = three.chunks_exact(3).zip(lines).flat_map(|(h, line)| [h[0], h[1], h[2], line]).collect();
     let graph = Graph { states: contents.states.into(), labels: contents.labels.into(), initial: contents.initial.unwrap_or(0).into(), hops: &hops };
     graph.check_1_to_4(1)?;
     if before.len() < hops.len() {
         refuse(6, 0)?;
     }
-    let (place, length) = if names.is_empty() { (0, 0) } else { (contents.name_block, file.len() - contents.name_block) };
-    let figures = vec![graph.states, graph.labels, graph.initial, hops.len() as u64 / 3, place as u64, length as u64];
+    let (place, length) = if names.is_empty() { (0, 0) } else { (contents.name_block.start, contents.name_block.len()) };
+    let figures = vec![graph.states, graph.labels, graph.initial, hops.len() as u64 / 4, place as u64, length as u64];
     Ok((figures, written(&hops, before)))
 }
 
@@ -184,14 +203,22 @@ fn file_of(graph: &Graph, block: &[u8]) -> Vec<u8> {
     }
     if !graph.hops.is_empty() {
         file[0] += 2;
-        put(&mut file, graph.hops.len() as u64 / 3);
-        for &number in graph.hops {
-            put(&mut file, number.into());
+        put(&mut file, graph.hop_list().len() as u64);
+        for hop in graph.hop_list() {
+            put(&mut file, hop.from);
+            put(&mut file, hop.label);
+            put(&mut file, hop.to);
         }
     }
     if !block.is_empty() {
         file[0] += 4;
         file.extend(block);
+    }
+    if graph.hop_list().iter().any(|hop| hop.line != 0) {
+        file[0] += 8;
+        for hop in graph.hop_list() {
+            put(&mut file, hop.line);
+        }
     }
     file
 }

@@ -2,8 +2,9 @@
 
 use crate::{refuse, Answer, Refusal};
 
-/// A hop: from, label, to.
-#[derive(Clone, Copy, Debug, PartialEq, Eq, PartialOrd, Ord, Hash)]
+/// "A hop is three 16-bit numbers: from, label, to." "Every hop gains a fourth number, its source line, 0 for none". Whether two are the same is asked of the first
+/// three alone ([`Hop::first_three`]): nothing compares hops whole.
+#[derive(Clone, Copy, Debug)]
 pub struct Hop {
     /// The state it leaves.
     pub from: u64,
@@ -11,9 +12,18 @@ pub struct Hop {
     pub label: u64,
     /// The state it leads to.
     pub to: u64,
+    /// Its source line; 0 for none.
+    pub line: u64,
 }
 
-/// A graph as it is lent: counts, initial state and one flat list, three numbers a hop.
+impl Hop {
+    /// "Order and equality go by the first three".
+    pub fn first_three(&self) -> (u64, u64, u64) {
+        (self.from, self.label, self.to)
+    }
+}
+
+/// A graph as it is lent: counts, initial state and one flat list, four numbers a hop.
 #[derive(Clone, Copy, Debug)]
 pub struct Graph<'a> {
     /// State count.
@@ -29,7 +39,7 @@ pub struct Graph<'a> {
 impl Graph<'_> {
     /// The list as hops; numbers past the last whole hop are left out.
     pub fn hop_list(&self) -> Vec<Hop> {
-        self.hops.chunks_exact(3).map(|h| Hop { from: h[0].into(), label: h[1].into(), to: h[2].into() }).collect()
+        self.hops.chunks_exact(4).map(|h| Hop { from: h[0].into(), label: h[1].into(), to: h[2].into(), line: h[3].into() }).collect()
     }
 
     pub(crate) fn check_1_to_4(&self, table: u64) -> Result<(), Refusal> {
@@ -40,7 +50,8 @@ impl Graph<'_> {
         let hops = self.hop_list();
         // "A graph has a state count of 1 to 1,024, a label count of 1 to 1,024, an initial state, and 0 to 4,096 hops."
         let counts = (1..=1024).contains(&self.states) && (1..=1024).contains(&self.labels) && hops.len() <= 4096;
-        if !counts || self.hops.len() % 3 != 0 {
+        // "1 speaks of multiples of four"
+        if !counts || self.hops.len() % 4 != 0 {
             return refuse(1, 0);
         }
         if self.initial >= self.states {
@@ -51,7 +62,7 @@ impl Graph<'_> {
             return refuse(3, place as u64);
         }
         // "strictly ascending by from, then label, then to"
-        let above = |a: &Hop, b: &Hop| (b.from, b.label, b.to) > (a.from, a.label, a.to);
+        let above = |a: &Hop, b: &Hop| b.first_three() > a.first_three();
         if let Some(place) = (1..hops.len()).find(|&i| !above(&hops[i - 1], &hops[i])) {
             return refuse(4, place as u64);
         }
@@ -73,9 +84,10 @@ pub fn find(graph: &Graph, from: u64, label: u64, to: u64) -> Answer {
     if let Err(refusal) = graph.check_1_to_4(1) {
         return Answer::refused(refusal, 2);
     }
-    let (hops, given) = (graph.hop_list(), Hop { from, label, to });
-    let before = hops.iter().filter(|h| (h.from, h.label, h.to) < (from, label, to)).count();
-    Answer::accepted(vec![u64::from(hops.contains(&given)), before as u64])
+    let (hops, given) = (graph.hop_list(), (from, label, to));
+    let before = hops.iter().filter(|h| h.first_three() < given).count();
+    let there = hops.iter().any(|h| h.first_three() == given);
+    Answer::accepted(vec![u64::from(there), before as u64])
 }
 
 /// The entry hops of a state: where the part starts and how many numbers it has; 0 and 0 for the empty part.
@@ -90,7 +102,7 @@ pub fn hops_of(side: u64, state: u64, graph1: &Graph, graph2: &Graph) -> (u64, u
     };
     let count = hops.iter().filter(|h| h.from == state).count() as u64;
     match hops.iter().position(|h| h.from == state) {
-        Some(first) => (3 * first as u64, 3 * count),
+        Some(first) => (4 * first as u64, 4 * count),
         None => (0, 0),
     }
 }

@@ -3,7 +3,7 @@
 use crate::graph::{check, Graph, Hop};
 use crate::senses::{self, Walks};
 use crate::{refuse, written, Answer, Refusal};
-use std::collections::{BTreeSet, HashSet};
+use std::collections::{BTreeMap, BTreeSet, HashSet};
 
 /// An admitted graph: the list as it is, and the same hops once more put together by the state they leave.
 pub(crate) struct Admitted {
@@ -24,7 +24,7 @@ impl Admitted {
     }
 
     fn has(&self, from: u64, label: u64, to: u64) -> bool {
-        self.leaving[from as usize].contains(&Hop { from, label, to })
+        self.leaving[from as usize].iter().any(|h| h.first_three() == (from, label, to))
     }
 
     /// The states that `from` leads to by zero or more silent hops.
@@ -239,7 +239,7 @@ type Reduced = (Vec<u64>, Vec<u16>, Vec<u16>);
 fn try_reduce(graph: &Graph, sense: u64, map_before: &[u16], short_before: &[u16]) -> Result<Reduced, Refusal> {
     check_to_reduce(graph, sense, map_before, short_before)?;
     let short = short_graph(graph, sense);
-    let figures = vec![short.states, graph.labels, short.hops.len() as u64 / 3, short.initial];
+    let figures = vec![short.states, graph.labels, short.hops.len() as u64 / 4, short.initial];
     Ok((figures, written(&short.map, map_before), written(&short.hops, short_before)))
 }
 
@@ -248,7 +248,7 @@ fn check_to_reduce(graph: &Graph, sense: u64, map_before: &[u16], short_before: 
     senses::is_one(sense)?;
     let admitted = Admitted::new(graph);
     admitted.no_ring()?;
-    if map_before.len() < admitted.states || short_before.len() < 3 * admitted.list.len() {
+    if map_before.len() < admitted.states || short_before.len() < 4 * admitted.list.len() {
         refuse(6, 0)?;
     }
     Ok(())
@@ -260,6 +260,8 @@ struct Short {
     initial: u64,
     hops: Vec<u16>,
     map: Vec<u16>,
+    /// For each hop the places of the hops that it comes from.
+    origins: Vec<Vec<usize>>,
 }
 
 /// For a graph without rings that checks 1 to 4 pass.
@@ -276,14 +278,20 @@ fn short_graph(graph: &Graph, sense: u64) -> Short {
     // "Representatives are renumbered 0, 1, 2 in ascending old order."
     let new = |s: usize| stays.iter().position(|&r| classes[r] == classes[s]).expect("a representative");
     let map: Vec<u16> = (0..admitted.states).map(|s| new(s) as u16).collect();
-    let mut short = BTreeSet::new();
-    for (new, &r) in stays.iter().enumerate() {
-        for hop in &admitted.leaving[r] {
-            short.insert((new as u16, hop.label as u16, map[hop.to as usize]));
+    // "for each hop r, a, t of a representative r, the hop new(r), a, map(t), once, in ascending order": each with the places of those hops
+    let mut short: BTreeMap<(u16, u16, u16), Vec<usize>> = BTreeMap::new();
+    for (place, hop) in admitted.list.iter().enumerate() {
+        if let Ok(new) = stays.binary_search(&(hop.from as usize)) {
+            short.entry((new as u16, hop.label as u16, map[hop.to as usize])).or_default().push(place);
         }
     }
-    let hops = short.iter().flat_map(|&(from, label, to)| [from, label, to]).collect();
-    Short { states: stays.len() as u64, initial: map[graph.initial as usize].into(), hops, map }
+    let hops = short.iter().flat_map(|(&(from, label, to), origins)| [from, label, to, line_of(&admitted.list, origins)]).collect();
+    Short { states: stays.len() as u64, initial: map[graph.initial as usize].into(), hops, map, origins: short.into_values().collect() }
+}
+
+/// "A short hop carries the smallest nonzero line among the hops it comes from, else 0".
+fn line_of(hops: &[Hop], origins: &[usize]) -> u16 {
+    origins.iter().map(|&place| hops[place].line as u16).filter(|&line| line != 0).min().unwrap_or(0)
 }
 
 /// The entry shrink: the answer, and what the outputs for the map and for the last graph's hops hold afterwards. Figures: the last graph's state, label and hop counts
@@ -299,18 +307,27 @@ pub fn shrink(graph: &Graph, sense: u64, map: &[u16], short: &[u16]) -> (Answer,
 /// something. Outputs and refusals are as in reduce."
 fn try_shrink(graph: &Graph, sense: u64, map_before: &[u16], short_before: &[u16]) -> Result<Reduced, Refusal> {
     check_to_reduce(graph, sense, map_before, short_before)?;
-    let mut last = Short { states: graph.states, initial: graph.initial, hops: graph.hops.to_vec(), map: (0..graph.states as u16).collect() };
+    let first = graph.hop_list();
+    let itself = (0..first.len()).map(|place| vec![place]).collect();
+    let map = (0..graph.states as u16).collect();
+    let mut last = Short { states: graph.states, initial: graph.initial, hops: graph.hops.to_vec(), map, origins: itself };
     let mut reductions = 0;
     loop {
         let now = Graph { states: last.states, labels: graph.labels, initial: last.initial, hops: &last.hops };
         assert_eq!((check(&now).number, lowest_on_ring(&now)), (0, None), "5 is asked of the input alone: no short graph has a ring");
+        let lines: Vec<u16> = last.origins.iter().map(|origins| line_of(&first, origins)).collect();
+        assert!(
+            now.hop_list().iter().map(|h| h.line as u16).eq(lines),
+            "the line of the first graph's hops that a hop comes from through all reductions"
+        );
         if !marked(&now, sense).contains(&1) {
-            let figures = vec![last.states, graph.labels, last.hops.len() as u64 / 3, last.initial, reductions];
+            let figures = vec![last.states, graph.labels, last.hops.len() as u64 / 4, last.initial, reductions];
             return Ok((figures, written(&last.map, map_before), written(&last.hops, short_before)));
         }
         let next = short_graph(&now, sense);
         let map = last.map.iter().map(|&state| next.map[usize::from(state)]).collect();
-        last = Short { map, ..next };
+        let origins = next.origins.iter().map(|places| places.iter().flat_map(|&place| last.origins[place].clone()).collect()).collect();
+        last = Short { map, origins, ..next };
         reductions += 1;
     }
 }

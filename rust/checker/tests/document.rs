@@ -2,8 +2,28 @@
 
 use checker::*;
 
-fn graph(states: u64, labels: u64, hops: &[u16]) -> Graph<'_> {
-    Graph { states, labels, initial: 0, hops }
+/// A list of three numbers a hop as one of four, each line 0; what is left behind the last whole hop stays.
+fn without_lines(three: &[u16]) -> Vec<u16> {
+    let hops = three.chunks_exact(3);
+    let left = hops.remainder();
+    hops.flat_map(|h| [h[0], h[1], h[2], 0]).chain(left.iter().copied()).collect()
+}
+
+/// A list of three numbers a hop with these lines, one a hop.
+fn with_lines(three: &[u16], lines: &[u16]) -> Vec<u16> {
+    assert_eq!(three.len(), 3 * lines.len());
+    three.chunks_exact(3).zip(lines).flat_map(|(h, &line)| [h[0], h[1], h[2], line]).collect()
+}
+
+/// The list of three numbers a hop of one whose lines are 0.
+fn three(hops: &[u16]) -> Vec<u16> {
+    assert!(hops.chunks(4).all(|h| h.len() == 4 && h[3] == 0));
+    hops.chunks(4).flat_map(|h| h[..3].to_vec()).collect()
+}
+
+/// A graph of a list of three numbers a hop, without lines.
+fn graph(states: u64, labels: u64, three: &[u16]) -> Graph<'static> {
+    Graph { states, labels, initial: 0, hops: without_lines(three).leak() }
 }
 
 const P1: [u16; 12] = [0, 0, 1, 0, 1, 2, 1, 1, 3, 2, 0, 3];
@@ -27,12 +47,12 @@ fn reduced(states: u64, labels: u64, hops: &[u16]) -> (Vec<u16>, Vec<u16>, Vec<u
 
 /// Outputs are longer than asked for, and hold what they held there.
 fn reduced_in(sense: u64, states: u64, labels: u64, hops: &[u16]) -> (Vec<u16>, Vec<u16>, Vec<u64>) {
-    let (answer, map, short) = reduce(&graph(states, labels, hops), sense, &vec![77; states as usize + 2], &vec![88; hops.len() + 2]);
+    let (answer, map, short) = reduce(&graph(states, labels, hops), sense, &vec![77; states as usize + 2], &vec![88; hops.len() / 3 * 4 + 2]);
     assert_eq!((answer.number, answer.table, answer.place), (0, 1, 0));
-    let written = 3 * answer.figures[2] as usize;
+    let written = 4 * answer.figures[2] as usize;
     assert_eq!(map[states as usize..], [77, 77]);
     assert!(short[written..].iter().all(|&x| x == 88));
-    (map[..states as usize].to_vec(), short[..written].to_vec(), answer.figures)
+    (map[..states as usize].to_vec(), three(&short[..written]), answer.figures)
 }
 
 #[test]
@@ -184,6 +204,108 @@ fn limits() {
     let hops: Vec<u16> = (0..4097u16).flat_map(|i| [i / 8, 1, i % 8]).collect();
     assert_eq!(check(&graph(1024, 2, &hops)).numbers(), [1, 1, 0]);
     assert_eq!(check(&Graph { states: 3, labels: 1, initial: 70_000, hops: &[] }).numbers(), [2, 1, 0]);
+    // "1 speaks of multiples of four", and of 16,384 numbers at most
+    for numbers in 0..=9 {
+        let zeros = vec![0; numbers];
+        let expected = if numbers % 4 != 0 {
+            [1, 0]
+        } else if numbers > 4 {
+            [4, 1]
+        } else {
+            [0, 0]
+        };
+        let answer = check(&Graph { states: 1, labels: 1, initial: 0, hops: &zeros });
+        assert_eq!([answer.number, answer.place], expected, "{numbers} numbers");
+    }
+}
+
+/// "Order and equality go by the first three": two hops that differ in the line alone are 4, and lines need not ascend.
+#[test]
+fn order_and_equality_go_by_the_first_three() {
+    let checked = |hops: &[u16]| {
+        let answer = check(&Graph { states: 4, labels: 2, initial: 0, hops });
+        [answer.number, answer.place]
+    };
+    assert_eq!(checked(&[0, 0, 1, 7, 0, 0, 1, 8]), [4, 1]);
+    assert_eq!(checked(&[0, 0, 1, 8, 0, 0, 1, 7]), [4, 1]);
+    assert_eq!(checked(&with_lines(&P1, &[9, 7, 65_535, 0])), [0, 0]);
+    let lined = with_lines(&P1, &[9, 7, 65_535, 0]);
+    for (place, hop) in (0..).zip(graph(4, 2, &P1).hop_list()) {
+        let p1 = Graph { states: 4, labels: 2, initial: 0, hops: &lined };
+        assert_eq!(find(&p1, hop.from, hop.label, hop.to).numbers(), [0, 1, 0, 1, place]);
+    }
+}
+
+/// "marking and faults ignore the fourth".
+#[test]
+fn marking_and_faults_ignore_the_line() {
+    let (lined, short) = (with_lines(&P10, &[3, 0, 7, 65_535, 1]), [0, 1, 1, 9]);
+    let p10 = Graph { hops: &lined, ..graph(5, 3, &P10) };
+    assert_eq!(mark(&p10, 1, &[7; 5]), mark(&graph(5, 3, &P10), 1, &[7; 5]));
+    assert_eq!(mark_fast(&p10, &[7; 5]), mark_fast(&graph(5, 3, &P10), &[7; 5]));
+    for rounds in 0..=4 {
+        assert_eq!(round(&p10, 0, rounds), round(&graph(5, 3, &P10), 0, rounds));
+    }
+    let p1 = graph(4, 2, &P1);
+    assert_eq!(audit(&p1, &Graph { hops: &short, ..graph(2, 2, &[]) }, &[0, 0, 1, 1]).figures, [0; 4]);
+    let rings = Graph { states: 1, labels: 1, initial: 0, hops: &[0, 0, 0, 5] };
+    assert_eq!(mark(&rings, 1, &[]).0.numbers(), [5, 1, 0]);
+}
+
+/// The short hops of a graph with lines under R1, four numbers each.
+fn short_with_lines(states: u64, labels: u64, three: &[u16], lines: &[u16]) -> Vec<u16> {
+    let hops = with_lines(three, lines);
+    let (answer, _, short) = reduce(&Graph { hops: &hops, ..graph(states, labels, &[]) }, 1, &vec![0; states as usize], &vec![0; hops.len()]);
+    assert_eq!(answer.number, 0);
+    short[..4 * answer.figures[2] as usize].to_vec()
+}
+
+/// M4: "the hops it comes from" are those of the representative whose image it is, and no other member's.
+#[test]
+fn the_line_of_a_short_hop_is_its_representatives() {
+    assert_eq!(short_with_lines(4, 2, &P1, &[3, 4, 5, 2]), [0, 1, 1, 5]);
+    assert_eq!(short_with_lines(2, 2, &[0, 0, 1, 0, 1, 0, 1, 1, 1], &[3, 4, 5]), [0, 1, 0, 5]);
+    assert_eq!(short_with_lines(2, 2, &[0, 0, 1, 0, 1, 0, 1, 1, 1], &[3, 4, 0]), [0, 1, 0, 0]);
+    // nothing is marked: the lines stay
+    assert_eq!(short_with_lines(4, 2, &P1[..9], &[9, 0, 65_535]), with_lines(&P1[..9], &[9, 0, 65_535]));
+}
+
+/// M5: state 0 has hops labelled 1 to 1, 2 and 3, which marked hops make one state.
+#[test]
+fn the_smallest_line_that_is_not_0() {
+    let hops = [0, 1, 1, 0, 1, 2, 0, 1, 3, 1, 0, 3, 2, 0, 3];
+    let of = |lines: [u16; 3]| short_with_lines(4, 2, &hops, &[lines[0], lines[1], lines[2], 1, 1]);
+    for (lines, line) in [
+        ([0, 7, 3], 3),
+        ([0, 3, 7], 3),
+        ([7, 0, 3], 3),
+        ([3, 7, 0], 3),
+        ([0, 0, 7], 7),
+        ([7, 0, 0], 7),
+        ([0, 0, 0], 0),
+        ([65_535, 0, 65_534], 65_534),
+        ([0, 65_535, 0], 65_535),
+        ([256, 1, 255], 1),
+    ] {
+        assert_eq!(of(lines), [0, 1, 1, line], "{lines:?}");
+    }
+}
+
+/// W13.3, on the chain of W13.6: its last state is what is left, and each reduction takes the line of the representative's hop.
+#[test]
+fn lines_through_all_reductions() {
+    let three = one_a_reduction(3);
+    let last = |lines: [u16; 8]| {
+        let hops = with_lines(&three, &lines);
+        let (answer, _, last) = shrink(&Graph { hops: &hops, ..graph(3, 3, &[]) }, 1, &[0; 3], &vec![0; hops.len()]);
+        assert_eq!(answer.figures, [1, 3, 2, 0, 2]);
+        last[..8].to_vec()
+    };
+    assert_eq!(last([1, 2, 3, 4, 5, 6, 7, 8]), [0, 1, 0, 7, 0, 2, 0, 8]);
+    assert_eq!(last([1, 2, 3, 4, 5, 6, 0, 8]), [0, 1, 0, 0, 0, 2, 0, 8]);
+    // nothing is marked at first: the graph itself, its lines too
+    let p3 = with_lines(&[0, 0, 1, 0, 0, 2], &[9, 0]);
+    assert_eq!(shrink(&Graph { hops: &p3, ..graph(3, 1, &[]) }, 1, &[0; 3], &[0; 8]).2, p3);
 }
 
 #[test]
@@ -198,10 +320,10 @@ fn mark_and_reduce_refuse_short_outputs() {
     assert_eq!(mark(&g, 1, &[5; 3]), (mark(&g, 1, &[]).0, vec![5; 3]));
     assert_eq!(mark(&g, 1, &[5; 3]).0.numbers(), [6, 1, 0]);
     assert_eq!(mark(&g, 1, &[5; 6]).1, [1, 0, 0, 1, 5, 5]);
-    assert_eq!(reduce(&g, 1, &[5; 3], &[6; 12]).0.numbers(), [6, 1, 0, 0, 0, 0, 0]);
-    // enough for the result, but not for three numbers a hop of the input
-    let (answer, map, short) = reduce(&g, 1, &[5; 4], &[6; 11]);
-    assert_eq!((answer.number, map, short), (6, vec![5; 4], vec![6; 11]));
+    assert_eq!(reduce(&g, 1, &[5; 3], &[6; 16]).0.numbers(), [6, 1, 0, 0, 0, 0, 0]);
+    // enough for the result, but not for four numbers a hop of the input
+    let (answer, map, short) = reduce(&g, 1, &[5; 4], &[6; 15]);
+    assert_eq!((answer.number, map, short), (6, vec![5; 4], vec![6; 15]));
 }
 
 /// The marks of each of the four senses. What reduce leaves in it has no faults.
@@ -259,7 +381,7 @@ fn other_senses() {
         assert_eq!(mark(&p1, sense, &[5; 4]).0.numbers(), [19, 1, 0]);
         assert_eq!(mark(&ring, sense, &[]).0.numbers(), [19, 1, 0]);
         assert_eq!(reduce(&ring, sense, &[], &[]).0.numbers(), [19, 1, 0, 0, 0, 0, 0]);
-        assert_eq!(reduce(&p1, sense, &[5; 4], &[6; 12]), (reduce(&p1, sense, &[], &[]).0, vec![5; 4], vec![6; 12]));
+        assert_eq!(reduce(&p1, sense, &[5; 4], &[6; 16]), (reduce(&p1, sense, &[], &[]).0, vec![5; 4], vec![6; 16]));
         assert_eq!(mark(&graph(3, 1, &[0, 0, 1, 0, 0, 1]), sense, &[]).0.numbers(), [4, 1, 1]);
     }
     for sense in SENSES {
@@ -271,10 +393,10 @@ fn other_senses() {
 /// Map, last hops and figures. The map has no faults, the number of reductions is below the state count, and nothing is marked in the last graph, whatever the graph.
 fn shrunk_in(sense: u64, states: u64, labels: u64, hops: &[u16]) -> (Vec<u16>, Vec<u16>, Vec<u64>) {
     let first = graph(states, labels, hops);
-    let (answer, map, last) = shrink(&first, sense, &vec![77; states as usize + 2], &vec![88; hops.len() + 2]);
+    let (answer, map, last) = shrink(&first, sense, &vec![77; states as usize + 2], &vec![88; first.hops.len() + 2]);
     assert_eq!((answer.number, answer.table, answer.place), (0, 1, 0));
     let (map, map_behind) = map.split_at(states as usize);
-    let (last, last_behind) = last.split_at(3 * answer.figures[2] as usize);
+    let (last, last_behind) = last.split_at(4 * answer.figures[2] as usize);
     assert_eq!(map_behind, [77, 77]);
     assert!(last_behind.iter().all(|&x| x == 88));
     let [states_left, labels_left, _, initial, reductions] = answer.figures[..] else { panic!("five figures") };
@@ -282,7 +404,7 @@ fn shrunk_in(sense: u64, states: u64, labels: u64, hops: &[u16]) -> (Vec<u16>, V
     assert_eq!(audit(&first, &end, map).figures, [0; 4]);
     assert!(reductions < states && (sense != 8 || reductions <= 1));
     assert!(!marked(&end, sense).contains(&1));
-    (map.to_vec(), last.to_vec(), answer.figures)
+    (map.to_vec(), three(last), answer.figures)
 }
 
 /// The number of reductions in each of the four senses.
@@ -369,11 +491,10 @@ fn the_maps_one_after_the_other() {
 /// The initial state goes where the map leads it.
 #[test]
 fn the_last_initial_state() {
-    let hops = [0, 0, 1, 2, 1, 0];
-    let g = Graph { states: 3, labels: 2, initial: 2, hops: &hops };
-    let (answer, map, last) = shrink(&g, 1, &[9; 3], &[9; 6]);
+    let g = Graph { initial: 2, ..graph(3, 2, &[0, 0, 1, 2, 1, 0]) };
+    let (answer, map, last) = shrink(&g, 1, &[9; 3], &[9; 8]);
     assert_eq!(answer.numbers(), [0, 1, 0, 2, 2, 1, 1, 1]);
-    assert_eq!((map, last), (vec![0, 0, 1], vec![1, 1, 0, 9, 9, 9]));
+    assert_eq!((map, last), (vec![0, 0, 1], vec![1, 1, 0, 0, 9, 9, 9, 9]));
 }
 
 /// W13.5, and the laws of `shrunk_in`, on all graphs without a ring of up to three states and two labels; some take two reductions under R1, R2 and R3.
@@ -405,15 +526,15 @@ fn shrink_refuses_as_reduce() {
         [answer.number, answer.table, answer.place]
     };
     for sense in SENSES {
-        assert_eq!(refused(&p1, sense, &[5; 3], &[6; 12]), [6, 1, 0]);
-        assert_eq!(refused(&p1, sense, &[5; 4], &[6; 11]), [6, 1, 0]);
+        assert_eq!(refused(&p1, sense, &[5; 3], &[6; 16]), [6, 1, 0]);
+        assert_eq!(refused(&p1, sense, &[5; 4], &[6; 15]), [6, 1, 0]);
         assert_eq!(refused(&ring, sense, &[], &[]), [5, 1, 1]);
         assert_eq!(refused(&graph(1025, 1, &[]), sense, &[], &[]), [1, 1, 0]);
-        assert_eq!(refused(&Graph { initial: 4, ..p1 }, sense, &[5; 4], &[6; 12]), [2, 1, 0]);
+        assert_eq!(refused(&Graph { initial: 4, ..p1 }, sense, &[5; 4], &[6; 16]), [2, 1, 0]);
         assert_eq!(refused(&graph(3, 2, &P1), sense, &[], &[]), [3, 1, 2]);
     }
     for sense in [0, 4, 7, 9, 65_537] {
-        assert_eq!(refused(&p1, sense, &[5; 4], &[6; 12]), [19, 1, 0]);
+        assert_eq!(refused(&p1, sense, &[5; 4], &[6; 16]), [19, 1, 0]);
         assert_eq!(refused(&ring, sense, &[], &[]), [19, 1, 0]);
         assert_eq!(refused(&graph(3, 1, &[0, 0, 1, 0, 0, 1]), sense, &[], &[]), [4, 1, 1]);
     }
@@ -474,7 +595,7 @@ fn most_faults() {
     let one: Vec<u16> = (0..4096u16).flat_map(|i| [i / 4, 1, i % 4]).collect();
     let two: Vec<u16> = (0..4096u16).flat_map(|i| [0, 2 + i / 1024, i % 1024]).collect();
     let g1 = graph(1024, 6, &one);
-    let g2 = Graph { states: 1024, labels: 6, initial: 1, hops: &two };
+    let g2 = Graph { initial: 1, ..graph(1024, 6, &two) };
     assert_eq!(audit(&g1, &g2, &[0; 1024]).figures, [4_198_401, 1, 0, 0]);
 }
 
@@ -501,7 +622,7 @@ fn find_a_hop() {
 #[test]
 fn find_refusals() {
     assert_eq!(find(&graph(1025, 2, &P1), 0, 0, 1).numbers(), [1, 1, 0, 0, 0]);
-    assert_eq!(find(&Graph { states: 4, labels: 2, initial: 4, hops: &P1 }, 0, 0, 1).numbers(), [2, 1, 0, 0, 0]);
+    assert_eq!(find(&Graph { initial: 4, ..graph(4, 2, &P1) }, 0, 0, 1).numbers(), [2, 1, 0, 0, 0]);
     assert_eq!(find(&graph(3, 2, &P1), 0, 0, 1).numbers(), [3, 1, 2, 0, 0]);
     assert_eq!(find(&graph(4, 2, &[0, 0, 1, 0, 0, 1]), 0, 0, 1).numbers(), [4, 1, 1, 0, 0]);
     // a ring is no matter
@@ -511,10 +632,10 @@ fn find_refusals() {
 #[test]
 fn hops_of_a_state() {
     let (g1, g2) = (graph(4, 2, &P1), graph(2, 2, &[0, 1, 1]));
-    assert_eq!(hops_of(1, 0, &g1, &g2), (0, 6));
-    assert_eq!(hops_of(1, 2, &g1, &g2), (9, 3));
+    assert_eq!(hops_of(1, 0, &g1, &g2), (0, 8));
+    assert_eq!(hops_of(1, 2, &g1, &g2), (12, 4));
     assert_eq!(hops_of(1, 3, &g1, &g2), (0, 0));
-    assert_eq!(hops_of(2, 0, &g1, &g2), (0, 3));
+    assert_eq!(hops_of(2, 0, &g1, &g2), (0, 4));
     assert_eq!(hops_of(3, 0, &g1, &g2), (0, 0));
     assert_eq!(hops_of(1, 0, &g1, &graph(1, 2, &[0, 1, 1])), (0, 0));
 }
@@ -533,12 +654,37 @@ fn p1_as_a_file() {
     assert_eq!(answer.numbers(), [0, 1, 0, 31]);
     assert_eq!((&out[..31], &out[31..]), (&file[..], &[9, 9][..]));
     assert_eq!(write(&graph(4, 2, &P1), &[], &[9; 30]).0.numbers(), [6, 1, 0, 0]);
-    let (answer, hops) = read(&file, &[9; 13]);
+    let (answer, hops) = read(&file, &[9; 17]);
     assert_eq!(answer.numbers(), [0, 1, 0, 4, 2, 0, 4, 0, 0]);
-    assert_eq!((&hops[..12], hops[12]), (&P1[..], 9));
-    assert_eq!(read(&file, &[9; 11]).0.numbers(), [6, 1, 0, 0, 0, 0, 0, 0, 0]);
+    assert_eq!((&hops[..16], hops[16]), (&without_lines(&P1)[..], 9));
+    assert_eq!(read(&file, &[9; 15]).0.numbers(), [6, 1, 0, 0, 0, 0, 0, 0, 0]);
     for end in 0..31 {
         assert_eq!(read(&file[..end], &[]).0.numbers()[..3], [11, 1, end as u64]);
+    }
+}
+
+/// M7, M8: six bytes a hop, the lines behind the names, and the names end where the lines begin.
+#[test]
+fn p1_with_lines_as_a_file() {
+    let lined = with_lines(&P1, &[3, 4, 5, 0x0201]);
+    let g = Graph { hops: &lined, ..graph(4, 2, &[]) };
+    for names in [&b""[..], b"\x04pass"] {
+        let mut file = p1_file();
+        file[0] = if names.is_empty() { 10 } else { 14 };
+        file.extend(names);
+        file.extend([3, 0, 4, 0, 5, 0, 1, 2]);
+        let (answer, out) = write(&g, names, &[9; 50]);
+        assert_eq!(answer.numbers(), [0, 1, 0, file.len() as u64]);
+        assert_eq!(out[..file.len()], file);
+        assert_eq!(write(&g, names, &vec![9; file.len() - 1]).0.numbers(), [6, 1, 0, 0]);
+        let (answer, hops) = read(&file, &[9; 18]);
+        let block = if names.is_empty() { [0, 0] } else { [31, 5] };
+        assert_eq!(answer.numbers(), [0, 1, 0, 4, 2, 0, 4, block[0], block[1]]);
+        assert_eq!(hops, [&lined[..], &[9, 9]].concat());
+        for end in 0..file.len() {
+            assert_eq!(read(&file[..end], &[]).0.numbers()[..3], [11, 1, end as u64]);
+        }
+        assert_eq!(read_answer(&[&file[..], &[0]].concat()), [13, file.len() as u64]);
     }
 }
 
@@ -554,10 +700,13 @@ fn read_answer(file: &[u8]) -> [u64; 2] {
 #[test]
 fn the_order_of_reading() {
     assert_eq!(read_answer(&[]), [11, 0]);
-    assert_eq!(read_answer(&[8]), [12, 0]);
-    assert_eq!(read_answer(&[7]), [11, 1]);
-    assert_eq!(read_answer(&vec![255; 58_345]), [13, 58_344]);
-    assert_eq!(read_answer(&vec![255; 58_344]), [12, 0]);
+    for bit in 4..8 {
+        assert_eq!(read_answer(&[1 << bit]), [12, 0]);
+    }
+    assert_eq!(read_answer(&[16, 1]), [12, 0]);
+    assert_eq!(read_answer(&[15]), [11, 1]);
+    assert_eq!(read_answer(&vec![255; 66_537]), [13, 66_536]);
+    assert_eq!(read_answer(&vec![255; 66_536]), [12, 0]);
     assert_eq!(read_answer(&[0, 1, 0, 1, 0]), [0, 0]);
     assert_eq!(read_answer(&[0, 1, 0, 0, 0]), [1, 0]);
     assert_eq!(read_answer(&[0, 1, 0, 1, 0, 0]), [13, 5]);
@@ -569,6 +718,48 @@ fn the_order_of_reading() {
     assert_eq!(read_answer(&[4, 1, 0, 0, 0]), [12, 0]);
     assert_eq!(read_answer(&[4, 1, 0, 1, 0]), [12, 0]);
     assert_eq!(read_answer(&[4, 1, 0, 0, 0, 1]), [13, 5]);
+}
+
+/// M9, M10: "12 no longer speaks of bit 3, except over lines all 0"; no lines are all 0. 11 and left over come first, 14 and 1 to 4 later.
+#[test]
+fn bit_3() {
+    // without bit 1, and over a hop count of 0
+    assert_eq!(read_answer(&[8, 1, 0, 1, 0]), [12, 0]);
+    assert_eq!(read_answer(&[8, 1, 0, 1, 0, 0]), [13, 5]);
+    assert_eq!(read_answer(&[10, 1, 0, 1, 0, 0, 0]), [12, 0]);
+    // over one hop: its line is cut, 0, followed by a byte, or there
+    let file = [10, 1, 0, 2, 0, 1, 0, 0, 0, 1, 0, 0, 0];
+    let with = |bytes: &[u8]| [&file[..], bytes].concat();
+    assert_eq!(read_answer(&file), [11, 13]);
+    assert_eq!(read_answer(&with(&[1])), [11, 14]);
+    assert_eq!(read_answer(&with(&[0, 0])), [12, 0]);
+    assert_eq!(read_answer(&with(&[0, 0, 0])), [13, 15]);
+    assert_eq!(read_answer(&with(&[0, 1, 0])), [13, 15]);
+    let (answer, hops) = read(&with(&[0, 1]), &[9; 5]);
+    assert_eq!((answer.numbers(), hops), (vec![0, 1, 0, 1, 2, 0, 1, 0, 0], vec![0, 1, 0, 256, 9]));
+    // over two hops, one line is enough
+    let file = [10, 1, 0, 3, 0, 2, 0, 0, 0, 1, 0, 0, 0, 0, 0, 2, 0, 0, 0];
+    let read_lines = |lines: &[u8]| read(&[&file[..], lines].concat(), &[9; 8]);
+    assert_eq!(read_lines(&[0; 4]).0.numbers()[..3], [12, 1, 0]);
+    assert_eq!(read_lines(&[0, 0, 1, 0]).1, [0, 1, 0, 0, 0, 2, 0, 1]);
+    assert_eq!(read_lines(&[1, 0, 0, 0]).1, [0, 1, 0, 1, 0, 2, 0, 0]);
+    // lines all 0 come before a bad name, and that one before 3
+    let file = |line: u8, name: u8| [14, 1, 0, 2, 0, 1, 0, 0, 0, 1, 0, 9, 0, 1, name, line, 0];
+    assert_eq!(read_answer(&file(0, 7)), [12, 0]);
+    assert_eq!(read_answer(&file(1, 7)), [3, 0]);
+    assert_eq!(read_answer(&[&file(1, 7)[..13], &[0, 1, 0]].concat()), [14, 13]);
+    assert_eq!(read_answer(&[&file(1, 7)[..13], &[0, 0, 0]].concat()), [12, 0]);
+}
+
+/// Writing sets bit 3 exactly when some line is not 0.
+#[test]
+fn bit_3_is_written_for_a_line() {
+    let byte_0 = |lines: [u16; 4]| {
+        let hops = with_lines(&P1, &lines);
+        write(&Graph { hops: &hops, ..graph(4, 2, &[]) }, &[], &[0; 39]).1[0]
+    };
+    assert_eq!([[0; 4], [0, 0, 0, 1], [1, 0, 0, 0], [0, 256, 0, 0]].map(byte_0), [2, 10, 10, 10]);
+    assert_eq!(write(&graph(4, 2, &[]), &[], &[0; 39]).1[0], 0);
 }
 
 #[test]
@@ -610,20 +801,22 @@ fn names_to_write() {
     assert_eq!(answer(3, &[1, 9, 1, 8]), [0, 0]);
 }
 
-/// "The longest legal file has 58,344 bytes."
+/// "The longest legal file has 66,536 bytes"; without lines it has 58,344.
 #[test]
 fn the_longest_file() {
-    let hops: Vec<u16> = (0..4096u16).flat_map(|i| [i / 4, 1023, i % 4]).collect();
-    let g = Graph { states: 1024, labels: 1024, initial: 1023, hops: &hops };
     let mut block = vec![];
     for label in 1..1024u16 {
         block.push(32);
         block.extend([0; 30]);
         block.extend(label.to_be_bytes());
     }
-    let (answer, file) = write(&g, &block, &vec![0; 58_344]);
-    assert_eq!(answer.numbers(), [0, 1, 0, 58_344]);
-    let (answer, after) = read(&file, &vec![0; 12_288]);
-    assert_eq!(answer.numbers(), [0, 1, 0, 1024, 1024, 1023, 4096, 24_585, 33_759]);
-    assert_eq!(after, hops);
+    for (line, longest) in [(0, 58_344), (1, 66_536)] {
+        let hops: Vec<u16> = (0..4096u16).flat_map(|i| [i / 4, 1023, i % 4, line * (i + 1)]).collect();
+        let g = Graph { states: 1024, labels: 1024, initial: 1023, hops: &hops };
+        let (answer, file) = write(&g, &block, &vec![0; longest]);
+        assert_eq!(answer.numbers(), [0, 1, 0, longest as u64]);
+        let (answer, after) = read(&file, &vec![0; 16_384]);
+        assert_eq!(answer.numbers(), [0, 1, 0, 1024, 1024, 1023, 4096, 24_585, 33_759]);
+        assert_eq!(after, hops);
+    }
 }

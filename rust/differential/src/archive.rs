@@ -1,7 +1,9 @@
 //! The functions of an archive, of the one that is linked or of one that was loaded while running, as the entries in one form.
 
-use crate::entries::{Entries, Graph};
+use crate::entries::{Entries, Graph, NUMBERS};
+use std::cell::RefCell;
 use std::ffi::c_void;
+use std::rc::Rc;
 
 type Check = unsafe extern "C" fn(u32, u32, u32, *const u16, usize, *mut u64, usize) -> u32;
 type Find = unsafe extern "C" fn(u32, u32, u32, *const u16, usize, u32, u32, u32, *mut u64, usize) -> u32;
@@ -224,5 +226,84 @@ impl Entries for Archive {
         let (out, out_len) = (out.as_mut_ptr(), out.len());
         let (answer, answer_len) = (answer.as_mut_ptr(), answer.len());
         unsafe { (self.write)(g.states, g.labels, g.initial, hops, len, names, names_len, out, out_len, answer, answer_len) }
+    }
+}
+
+/// An archive before version 0.5.0, whose hops have three numbers: from, label and to. It is lent lists without the lines, which are made once for each graph, and writes
+/// such lists. Files have no lines.
+pub struct WithoutLines<'a> {
+    archive: &'a Archive,
+    /// The graphs that were lent, by the place of their lists, with what the archive is lent for them. They must stay where they are.
+    lent: RefCell<Vec<(*const u16, Rc<Graph>)>>,
+}
+
+impl<'a> WithoutLines<'a> {
+    pub fn new(archive: &'a Archive) -> WithoutLines<'a> {
+        WithoutLines { archive, lent: RefCell::default() }
+    }
+
+    fn lend(&self, g: &Graph) -> Rc<Graph> {
+        let mut lent = self.lent.borrow_mut();
+        if let Some((_, without)) = lent.iter().find(|(place, _)| *place == g.hops.as_ptr()) {
+            return without.clone();
+        }
+        let without = Rc::new(Graph { hops: without_lines(&g.hops), ..*g });
+        lent.push((g.hops.as_ptr(), without.clone()));
+        without
+    }
+}
+
+/// A list of four numbers a hop as one of three.
+pub fn without_lines(hops: &[u16]) -> Vec<u16> {
+    hops.chunks_exact(NUMBERS).flat_map(|hop| [hop[0], hop[1], hop[2]]).collect()
+}
+
+impl Entries for WithoutLines<'_> {
+    fn name(&self) -> &'static str {
+        "library before 0.5.0"
+    }
+
+    fn check(&self, g: &Graph, answer: &mut [u64]) -> u32 {
+        self.archive.check(&self.lend(g), answer)
+    }
+
+    fn find(&self, g: &Graph, hop: [u32; 3], answer: &mut [u64]) -> u32 {
+        self.archive.find(&self.lend(g), hop, answer)
+    }
+
+    fn mark(&self, g: &Graph, sense: u32, marks: &mut [u8], answer: &mut [u64]) -> u32 {
+        self.archive.mark(&self.lend(g), sense, marks, answer)
+    }
+
+    fn mark_fast(&self, g: &Graph, marks: &mut [u8], answer: &mut [u64]) -> u32 {
+        self.archive.mark_fast(&self.lend(g), marks, answer)
+    }
+
+    fn reduce(&self, g: &Graph, sense: u32, map: &mut [u16], short: &mut [u16], answer: &mut [u64]) -> u32 {
+        self.archive.reduce(&self.lend(g), sense, map, short, answer)
+    }
+
+    fn shrink(&self, g: &Graph, sense: u32, map: &mut [u16], short: &mut [u16], answer: &mut [u64]) -> u32 {
+        self.archive.shrink(&self.lend(g), sense, map, short, answer)
+    }
+
+    fn audit(&self, one: &Graph, two: &Graph, map: &[u16], answer: &mut [u64]) -> u32 {
+        self.archive.audit(&self.lend(one), &self.lend(two), map, answer)
+    }
+
+    fn round(&self, g: &Graph, place: u64, rounds: u32, answer: &mut [u64]) -> u32 {
+        self.archive.round(&self.lend(g), place, rounds, answer)
+    }
+
+    fn hops_of(&self, side: u32, state: u32, one: &Graph, two: &Graph, answer: &mut [u64]) -> u32 {
+        self.archive.hops_of(side, state, &self.lend(one), &self.lend(two), answer)
+    }
+
+    fn read(&self, file: &[u8], hops: &mut [u16], answer: &mut [u64]) -> u32 {
+        self.archive.read(file, hops, answer)
+    }
+
+    fn write(&self, g: &Graph, names: &[u8], out: &mut [u8], answer: &mut [u64]) -> u32 {
+        self.archive.write(&self.lend(g), names, out, answer)
     }
 }

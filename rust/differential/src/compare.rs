@@ -7,7 +7,7 @@ use crate::met::{
 };
 use crate::random::Random;
 use checker::Answer;
-use differential::entries::{Entries, Graph};
+use differential::entries::{Entries, Graph, NUMBERS};
 use std::fmt::Debug;
 
 /// Guard elements on either side of what is lent.
@@ -230,7 +230,7 @@ impl<'a> Comparer<'a> {
         let (expected, mut after) = checker::mark(&g.lent(), sense.into(), marks.held());
         let mut answer = self.answer(3);
         let returned = self.entries.mark(g, sense, marks.part(), answer.part());
-        let count = g.hops.len() / 3;
+        let count = g.hop_count();
         let met = match expected.number {
             0 => Some(marked_word(sense, after[..count].contains(&1))),
             5 => Some("5"),
@@ -308,7 +308,7 @@ impl<'a> Comparer<'a> {
             return None;
         }
         let figures = &expected.figures;
-        let hops = short_after[..3 * figures[2] as usize].to_vec();
+        let hops = short_after[..NUMBERS * figures[2] as usize].to_vec();
         let short = Graph { states: figures[0] as u32, labels: figures[1] as u32, initial: figures[3] as u32, hops };
         Some((expected, short, map_after[..g.states as usize].to_vec()))
     }

@@ -1,5 +1,8 @@
 //! The entries in the form of the C interface, and of the plain implementation; those of the library are in `archive`.
 
+/// From, label, to and line: how many numbers of a flat list a hop takes.
+pub const NUMBERS: usize = 4;
+
 /// A graph as it goes in; nothing is asked of it.
 #[derive(Clone, Debug)]
 pub struct Graph {
@@ -12,6 +15,27 @@ pub struct Graph {
 impl Graph {
     pub fn lent(&self) -> checker::Graph<'_> {
         checker::Graph { states: self.states.into(), labels: self.labels.into(), initial: self.initial.into(), hops: &self.hops }
+    }
+
+    /// How many whole hops the list has.
+    pub fn hop_count(&self) -> usize {
+        self.hops.len() / NUMBERS
+    }
+
+    /// From, label and to of the hop at a place.
+    pub fn three_at(&self, place: usize) -> [u16; 3] {
+        let at = NUMBERS * place;
+        [self.hops[at], self.hops[at + 1], self.hops[at + 2]]
+    }
+
+    /// The line of the hop at a place.
+    pub fn line_at(&self, place: usize) -> u16 {
+        self.hops[NUMBERS * place + 3]
+    }
+
+    /// The hops, from, label, to and line.
+    pub fn each_hop(&self) -> impl DoubleEndedIterator<Item = [u16; NUMBERS]> + ExactSizeIterator + '_ {
+        self.hops.chunks_exact(NUMBERS).map(|hop| [hop[0], hop[1], hop[2], hop[3]])
     }
 }
 

@@ -1,14 +1,34 @@
 //! Graphs, name blocks and files to compare on.
 
 use crate::random::Random;
-use differential::entries::Graph;
+use differential::entries::{Graph, NUMBERS};
 use std::collections::BTreeSet;
 
 pub type Hops = BTreeSet<(u16, u16, u16)>;
 
+/// Without lines.
 pub fn graph_of(states: usize, labels: usize, initial: usize, hops: &Hops) -> Graph {
-    let hops = hops.iter().take(4096).flat_map(|&(from, label, to)| [from, label, to]).collect();
+    let hops = hops.iter().take(4096).flat_map(|&(from, label, to)| [from, label, to, 0]).collect();
     Graph { states: states as u32, labels: labels as u32, initial: initial as u32, hops }
+}
+
+/// The same graph with other lines: mostly low ones with many zeros among them, so that short hops come from several hops with lines and without; at times none, the
+/// lines of a text, the highest, or any. Numbers behind the last whole hop stay.
+pub fn lined(random: &mut Random, mut g: Graph) -> Graph {
+    let kind = random.below(10);
+    let zeros = random.pick(&[0, 20, 50, 50, 80, 95]);
+    for (place, hop) in g.hops.chunks_exact_mut(NUMBERS).enumerate() {
+        hop[3] = match kind {
+            0 | 1 => 0,
+            2 => place as u16 + 2,
+            _ if random.percent(zeros) => 0,
+            3 => 65_535,
+            4 => random.next() as u16,
+            _ if random.percent(5) => random.pick(&[255, 256, 257, 32_768, 65_534, 65_535]),
+            _ => random.between(1, 9) as u16,
+        };
+    }
+    g
 }
 
 /// An admitted graph of at most so many states, labels and hops.
@@ -23,7 +43,7 @@ pub fn graph(random: &mut Random, most_states: usize, most_labels: usize, most_h
         2 | 3 => closing(random, states, labels, wanted),
         _ => product(random, states, labels),
     };
-    graph_of(states, labels, initial, &hops)
+    lined(random, graph_of(states, labels, initial, &hops))
 }
 
 fn anything(random: &mut Random, states: usize, labels: usize, wanted: usize) -> Hops {
@@ -158,7 +178,8 @@ pub fn many_rounds(random: &mut Random, most_states: usize) -> Graph {
         hops.extend((0..states).flat_map(|s| (3..labels as u16).map(move |label| (s, label, to))));
     }
     let hops = renumbered(random, states, hops);
-    graph_of(states.into(), labels, random.below(states.into()), &hops)
+    let g = graph_of(states.into(), labels, random.below(states.into()), &hops);
+    lined(random, g)
 }
 
 /// Puts a few hops in or leaves some out, of a graph in which silent hops lead upward: they do then, too.
@@ -196,7 +217,8 @@ pub fn many_reductions(random: &mut Random, most_states: usize) -> Graph {
     };
     alter(random, states, &mut hops);
     let hops = renumbered(random, states, hops);
-    graph_of(states.into(), 3, random.below(states.into()), &hops)
+    let g = graph_of(states.into(), 3, random.below(states.into()), &hops);
+    lined(random, g)
 }
 
 /// W13.6: a silent chain in which state i has a hop labelled 1 to itself for odd i and to 0 for even i, and one labelled 2 the other way round. Only its first silent hop
@@ -235,7 +257,8 @@ pub fn hub(random: &mut Random, most: usize) -> Graph {
         hops.insert((one, 1, two));
     }
     let hops = renumbered(random, states, hops);
-    graph_of(states.into(), usize::from(labels) + 3, random.below(states.into()), &hops)
+    let g = graph_of(states.into(), usize::from(labels) + 3, random.below(states.into()), &hops);
+    lined(random, g)
 }
 
 /// The hub without changes; labels 1 and 2 are those of the falling chain.
@@ -357,23 +380,27 @@ pub const ODD: [u32; 12] = [0, 1, 2, 1023, 1024, 1025, 65_535, 65_536, 65_537, 7
 /// Breaks a graph in one place; it may stay admitted.
 pub fn damaged(random: &mut Random, g: &Graph) -> Graph {
     let mut g = g.clone();
-    let count = g.hops.len() / 3;
-    match random.below(9) {
+    let count = g.hop_count();
+    match random.below(10) {
         0 => g.states = random.pick(&ODD),
         1 => g.labels = random.pick(&ODD),
         2 => g.initial = if random.percent(50) { random.pick(&ODD) } else { g.states.wrapping_add(random.below(3) as u32).wrapping_sub(1) },
-        3 => g.hops.truncate(g.hops.len().saturating_sub(random.between(1, 2))),
+        3 => g.hops.truncate(g.hops.len().saturating_sub(random.between(1, NUMBERS - 1))),
         4 => g.hops.push(random.below(4) as u16),
         5 if count > 1 => {
             let (i, j) = (random.below(count), random.below(count));
-            for k in 0..3 {
-                g.hops.swap(3 * i + k, 3 * j + k);
+            for k in 0..NUMBERS {
+                g.hops.swap(NUMBERS * i + k, NUMBERS * j + k);
             }
         }
         6 if count > 0 => {
-            let i = random.below(count);
-            let copy: Vec<u16> = g.hops[3 * i..3 * i + 3].to_vec();
-            g.hops.splice(3 * i..3 * i, copy);
+            // the same again, or with another line
+            let at = NUMBERS * random.below(count);
+            let mut copy: Vec<u16> = g.hops[at..at + NUMBERS].to_vec();
+            if random.percent(50) {
+                copy[3] = random.pick(&[0, 1, copy[3].wrapping_add(1), 65_535]);
+            }
+            g.hops.splice(at..at, copy);
         }
         _ if count > 0 => {
             for _ in 0..random.between(1, 2) {
@@ -436,7 +463,7 @@ pub fn damaged_bytes(random: &mut Random, bytes: &[u8]) -> Vec<u8> {
             }
             5 if len > 0 => {
                 let at = random.below(len.min(12));
-                bytes[at] = random.pick(&[0, 1, 2, 4, 7, 8, 32, 33, 255]);
+                bytes[at] = random.pick(&[0, 1, 2, 4, 7, 8, 10, 15, 16, 32, 33, 255]);
             }
             6 if len > 0 => {
                 let at = random.below(len);
@@ -450,19 +477,57 @@ pub fn damaged_bytes(random: &mut Random, bytes: &[u8]) -> Vec<u8> {
 
 /// The file of a graph and a block, without any check of either.
 pub fn file(g: &Graph, block: &[u8]) -> Vec<u8> {
-    let mut file = vec![u8::from(g.initial != 0) | u8::from(!g.hops.is_empty()) << 1 | u8::from(!block.is_empty()) << 2];
+    let lined = g.each_hop().any(|hop| hop[3] != 0);
+    let bits = [g.initial != 0, g.hop_count() > 0, !block.is_empty(), lined];
+    let mut file = vec![(0..).zip(bits).map(|(bit, stands)| u8::from(stands) << bit).sum()];
     let put = |file: &mut Vec<u8>, number: u16| file.extend(number.to_le_bytes());
     put(&mut file, g.states as u16);
     put(&mut file, g.labels as u16);
     if g.initial != 0 {
         put(&mut file, g.initial as u16);
     }
-    if !g.hops.is_empty() {
-        put(&mut file, (g.hops.len() / 3) as u16);
-        for &number in &g.hops {
-            put(&mut file, number);
-        }
+    if g.hop_count() > 0 {
+        put(&mut file, g.hop_count() as u16);
+        g.each_hop().flat_map(|hop| [hop[0], hop[1], hop[2]]).for_each(|number| put(&mut file, number));
     }
     file.extend(block);
+    if lined {
+        g.each_hop().for_each(|hop| put(&mut file, hop[3]));
+    }
+    file
+}
+
+/// Whether a file's map byte says that lines stand at its end.
+pub fn has_lines(file: &[u8]) -> bool {
+    file.first().is_some_and(|map| map & 8 != 0)
+}
+
+/// Breaks the lines of a file that has some: they are all 0, or all but one; end early; have a byte behind them; or their bit does not stand. Where it has none, its bit
+/// is set over no lines or over zeros.
+pub fn damaged_lines(random: &mut Random, g: &Graph, file: &[u8]) -> Vec<u8> {
+    let mut file = file.to_vec();
+    if !has_lines(&file) {
+        file[0] |= 8;
+        if random.percent(50) {
+            file.resize(file.len() + 2 * g.hop_count(), 0);
+        }
+        return file;
+    }
+    let lines = file.len() - 2 * g.hop_count();
+    match random.below(6) {
+        0 => file[lines..].fill(0),
+        1 => {
+            let (at, byte) = (random.between(lines, file.len() - 1), file[lines]);
+            file[lines..].fill(0);
+            file[at] = byte;
+        }
+        2 => file.truncate(random.between(lines, file.len() - 1)),
+        3 => file.push(random.below(2) as u8),
+        4 => file[0] &= !8,
+        _ => {
+            file[lines..].fill(0);
+            file.truncate(random.between(lines, file.len()));
+        }
+    }
     file
 }

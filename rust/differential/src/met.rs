@@ -2,7 +2,7 @@
 //! nothing of it, and fails.
 
 use checker::Fault;
-use differential::entries::Graph;
+use differential::entries::{Graph, NUMBERS};
 use std::collections::BTreeMap;
 
 /// Rows 1 to 4.
@@ -17,11 +17,16 @@ const GRAPH: &[&str] = &[
     "3 label",
     "3 to",
     "4 the same",
+    "4 the same but for the line",
     "4 below",
+    "4 below, with a higher line",
 ];
 
-/// Row 1 of a list that is lent; that of a file is always whole.
-const LENGTH: &[&str] = &["1 no multiple of three"];
+/// Row 1 of a list that is lent; that of a file is always whole. A list whose length is a multiple of three alone was whole before hops had lines.
+const LENGTH: &[&str] = &["1 no multiple of four", "1 no multiple of four, but of three"];
+
+/// What an accepted file has behind its hops.
+const ACCEPTED_FILE: &[&str] = &["0 with names", "0 without names", "0 with lines", "0 with names and lines"];
 
 /// Row 14 of a name, in a file and in a block.
 const NAME: &[&str] = &["14 no bytes", "14 too many bytes", "14 the same"];
@@ -107,6 +112,30 @@ const REDUCTIONS: &[&str] = &["0 no reduction", "0 one reduction", "0 some reduc
 /// Those under R8, which takes one at the most.
 const REDUCTIONS_R8: &[&str] = &[REDUCTIONS[0], REDUCTIONS[1]];
 
+/// The line of a short hop, by the hops of the representative that it comes from; a like hop of another member of the class has no part in it.
+const LINES: &[&str] = &[
+    "that of the only hop it comes from",
+    "0, the only hop it comes from has none",
+    "the least of several",
+    "the least of several, not of the first",
+    "the least of several, with 0 among them",
+    "of several, all but one with 0",
+    "0, several hops have none",
+    "65,535, of several with 0 among them",
+    "another member has a lower one",
+    "0, another member has one",
+];
+
+/// The same of the last graph, where shrink took several reductions: in which of them hops came together, one of them with another line, in what leads to the hop.
+const LINES_OF_TURNS: &[&str] = &[
+    "not 0, no hops came together",
+    "of hops that came together in the last reduction",
+    "of hops that came together in an earlier reduction",
+    "of hops that came together in two reductions",
+    "of hops that came together, with 0 among them",
+    "0 after all",
+];
+
 /// Rows 5 and 6 of reduce and shrink.
 const RING_AND_ROOM: &[&str] = &["5", "6 map", "6 short hops"];
 
@@ -149,7 +178,7 @@ const BESIDE: &[&str] = &["all the same", "R2 more than R1", "R3 more than R1", 
 const SHORT_ANSWER: &[&str] = &["answer too short, else accepted", "answer too short, else refused"];
 
 /// All that a run must meet.
-const MUST: [(&str, &[&[&str]]); 20] = [
+const MUST: [(&str, &[&[&str]]); 22] = [
     ("check", &[&["0"], GRAPH, LENGTH, SHORT_ANSWER]),
     ("find", &[FOUND, FAR, GRAPH, LENGTH, SHORT_ANSWER]),
     ("mark", &[MARKED, GRAPH, LENGTH, SENSE, &["5", "6"], SHORT_ANSWER]),
@@ -161,6 +190,8 @@ const MUST: [(&str, &[&[&str]]); 20] = [
     ("shrink, R2", &[REDUCTIONS, GRAPH, LENGTH, RING_AND_ROOM]),
     ("shrink, R3", &[REDUCTIONS, GRAPH, LENGTH, RING_AND_ROOM]),
     ("shrink, R8", &[REDUCTIONS_R8, GRAPH, LENGTH, RING_AND_ROOM]),
+    ("line of a short hop", &[LINES]),
+    ("line of a last hop", &[LINES_OF_TURNS]),
     ("audit", &[FAULTS, &["7", "8 too short", "8 too long", "8 entry"], SHORT_ANSWER]),
     ("audit, graph 1", &[GRAPH, LENGTH]),
     ("audit, graph 2", &[GRAPH, LENGTH]),
@@ -180,14 +211,18 @@ const MUST: [(&str, &[&[&str]]); 20] = [
     (
         "read",
         &[
-            &["0 with names", "0 without names"],
+            ACCEPTED_FILE,
             GRAPH,
-            &["6", "11 empty", "11 cut", "12 high bits", "12 initial state", "12 no hops", "12 no names", "13 too long", "13 left over"],
+            &["6", "11 empty", "11 cut", "11 where the lines begin", "11 cut in the lines", "11 in the lines, before 12"],
+            &["12 bit 4", "12 bit 5, 6 or 7", "12 initial state", "12 no hops", "12 no names"],
+            &["12 lines all 0", "12 bit 3 over no hops", "12 bit 3 without bit 1", "12 lines all 0, before 14", "12 lines all 0, before 1 to 4"],
+            &["13 too long", "13 left over", "13 left over behind lines", "13 left over behind lines all 0"],
             NAME,
+            &["14 the same, past byte 65,535"],
             SHORT_ANSWER,
         ],
     ),
-    ("write", &[&["0 with names", "0 without names"], GRAPH, LENGTH, &["6"], NAME, &["14 ends early", "14 left over"], SHORT_ANSWER]),
+    ("write", &[ACCEPTED_FILE, GRAPH, LENGTH, &["6"], NAME, &["14 ends early", "14 left over"], SHORT_ANSWER]),
 ];
 
 /// An entry and one of its conditions; no condition where several hold at once, for then none of them alone is tried.
@@ -240,23 +275,26 @@ fn alone(conditions: &[(&'static str, bool)]) -> Option<&'static str> {
 
 /// Which condition of rows 1 to 4 refuses a graph with this number at this place.
 pub fn graph_word(g: &Graph, number: u64, place: u64) -> Option<&'static str> {
-    let hop = |place: u64| g.hops[3 * place as usize..3 * place as usize + 3].to_vec();
+    let hop = |place: u64| g.three_at(place as usize);
+    let line = |place: u64| g.line_at(place as usize);
+    let numbers = g.hops.len();
     match number {
         1 => alone(&[
             ("1 no states", g.states == 0),
             ("1 too many states", g.states > 1024),
             ("1 no labels", g.labels == 0),
             ("1 too many labels", g.labels > 1024),
-            ("1 too many hops", g.hops.len() / 3 > 4096),
-            ("1 no multiple of three", g.hops.len() % 3 != 0),
+            ("1 too many hops", g.hop_count() > 4096),
+            ("1 no multiple of four", numbers % NUMBERS != 0 && numbers % 3 != 0),
+            ("1 no multiple of four, but of three", numbers % NUMBERS != 0 && numbers % 3 == 0),
         ]),
         2 => Some("2 initial state"),
         3 => {
             let over = |i: usize, count: u32| u32::from(hop(place)[i]) >= count;
             alone(&[("3 from", over(0, g.states)), ("3 label", over(1, g.labels)), ("3 to", over(2, g.states))])
         }
-        4 if hop(place) == hop(place - 1) => Some("4 the same"),
-        4 => Some("4 below"),
+        4 if hop(place) == hop(place - 1) => Some(if line(place) == line(place - 1) { "4 the same" } else { "4 the same but for the line" }),
+        4 => Some(if line(place) > line(place - 1) { "4 below, with a higher line" } else { "4 below" }),
         _ => None,
     }
 }
@@ -334,6 +372,87 @@ pub fn no_senses() -> impl Iterator<Item = u32> {
     NO_SENSE.iter().map(|(number, _)| *number)
 }
 
+/// For each short hop the places of the hops that it comes from: those of the representative, which no marked hop leaves.
+fn origins(g: &Graph, marks: &[u8], map: &[u16], short: &Graph) -> Vec<Vec<usize>> {
+    let mut rests = vec![true; map.len()];
+    for (hop, _) in g.each_hop().zip(marks).filter(|(_, &mark)| mark == 1) {
+        rests[usize::from(hop[0])] = false;
+    }
+    let mut origins = vec![vec![]; short.hop_count()];
+    for (place, [from, label, to, _]) in g.each_hop().enumerate().filter(|(_, hop)| rests[usize::from(hop[0])]) {
+        let image = [map[usize::from(from)], label, map[usize::from(to)]];
+        let at = (0..short.hop_count()).find(|&at| short.three_at(at) == image).expect("a short hop for each of a representative");
+        origins[at].push(place);
+    }
+    origins
+}
+
+/// How the short hops of a small graph came by their lines.
+pub fn line_words(g: &Graph, marks: &[u8], map: &[u16], short: &Graph) -> Vec<&'static str> {
+    let mut words = vec![];
+    for (at, origins) in origins(g, marks, map, short).iter().enumerate() {
+        let line = short.line_at(at);
+        let lines: Vec<u16> = origins.iter().map(|&place| g.line_at(place)).collect();
+        let with = lines.iter().filter(|&&line| line != 0).count();
+        words.push(match (lines.len(), with) {
+            (1, 1) => "that of the only hop it comes from",
+            (1, _) => "0, the only hop it comes from has none",
+            (_, 0) => "0, several hops have none",
+            (all, _) if all > with && line == 65_535 => "65,535, of several with 0 among them",
+            (_, 1) => "of several, all but one with 0",
+            (all, _) if all > with => "the least of several, with 0 among them",
+            _ if lines[0] == line => "the least of several",
+            _ => "the least of several, not of the first",
+        });
+        // like hops of other members of the class
+        let like = |place: &usize| {
+            let [from, label, to] = g.three_at(*place);
+            [map[usize::from(from)], label, map[usize::from(to)]] == short.three_at(at) && !origins.contains(place)
+        };
+        match (0..g.hop_count()).filter(like).map(|place| g.line_at(place)).filter(|&line| line != 0).min() {
+            Some(_) if line == 0 => words.push("0, another member has one"),
+            Some(other) if other < line => words.push("another member has a lower one"),
+            _ => {}
+        }
+    }
+    words
+}
+
+/// One of several reductions: the graph, its marks, and the map and the short graph.
+pub struct Turn {
+    pub graph: Graph,
+    pub marks: Vec<u8>,
+    pub map: Vec<u16>,
+    pub short: Graph,
+}
+
+/// How the hops of a last graph came by their lines through several reductions.
+pub fn turn_words(turns: &[Turn]) -> Vec<&'static str> {
+    // for each hop the lines that it comes from in the first graph, and in how many reductions hops with different lines came together in what leads to it; in the last
+    // and before
+    let first = &turns[0].graph;
+    let mut hops: Vec<(Vec<u16>, usize, bool)> = (0..first.hop_count()).map(|place| (vec![first.line_at(place)], 0, false)).collect();
+    for Turn { graph, marks, map, short } in turns {
+        let join = |origins: &Vec<usize>| {
+            let lines: Vec<u16> = origins.iter().map(|&place| graph.line_at(place)).collect();
+            let together = lines.iter().any(|&line| line != lines[0]);
+            let earlier = origins.iter().map(|&place| hops[place].1).max().unwrap_or(0);
+            let all = origins.iter().flat_map(|&place| hops[place].0.clone()).collect();
+            (all, earlier + usize::from(together), together)
+        };
+        hops = origins(graph, marks, map, short).iter().map(join).collect();
+    }
+    let word = |(lines, times, last): &(Vec<u16>, usize, bool)| match (times, last) {
+        _ if lines.iter().all(|&line| line == 0) => "0 after all",
+        (0, _) => "not 0, no hops came together",
+        (2.., _) => "of hops that came together in two reductions",
+        _ if lines.contains(&0) => "of hops that came together, with 0 among them",
+        (_, true) => "of hops that came together in the last reduction",
+        (_, false) => "of hops that came together in an earlier reduction",
+    };
+    hops.iter().map(word).collect()
+}
+
 /// How the marks of R1, R2, R3 and R8 stand to each other: "R1's marks are among R2's and R3's, and theirs among R8's", which must hold.
 pub fn beside_words(g: &Graph, marks: &[Vec<u8>; 4]) -> Vec<&'static str> {
     let among = |few: &[u8], many: &[u8]| few.iter().zip(many).all(|(few, many)| few <= many);
@@ -353,11 +472,11 @@ pub fn beside_words(g: &Graph, marks: &[Vec<u8>; 4]) -> Vec<&'static str> {
 
 /// What an accepted search for a hop found or did not find at this place.
 pub fn find_word(g: &Graph, hop: [u32; 3], found: bool, place: u64) -> Option<&'static str> {
-    let count = g.hops.len() as u64 / 3;
+    let count = g.hop_count() as u64;
     let out_of_range = [hop[0] >= g.states, hop[1] >= g.labels, hop[2] >= g.states];
     if out_of_range.contains(&true) {
         let number = out_of_range.iter().position(|&out| out).filter(|_| out_of_range.iter().filter(|&&out| out).count() == 1)?;
-        let cut = g.hops.chunks_exact(3).any(|there| there == hop.map(|number| number as u16));
+        let cut = (0..g.hop_count()).any(|there| g.three_at(there) == hop.map(|number| number as u16));
         let far = match hop[number] {
             1024 => 0,
             65_535 => 1,
@@ -399,9 +518,8 @@ pub fn fault_word(faults: &[Fault]) -> &'static str {
 
 /// What an accepted mark_fast with so many tests and these marks did.
 pub fn fast_word(g: &Graph, tests: u64, marks: &[u8]) -> &'static str {
-    let hops = g.hops.len() / 3;
-    let silent = g.hops.chunks_exact(3).filter(|hop| hop[1] == 0).count();
-    let marked = marks[..hops].iter().filter(|&&mark| mark == 1).count();
+    let silent = g.each_hop().filter(|hop| hop[1] == 0).count();
+    let marked = marks[..g.hop_count()].iter().filter(|&&mark| mark == 1).count();
     let again = tests - silent as u64;
     match (again, marked) {
         _ if silent == 0 => "0 no silent hop",
@@ -414,14 +532,95 @@ pub fn fast_word(g: &Graph, tests: u64, marks: &[u8]) -> &'static str {
     }
 }
 
-/// The graph that stands in a file which is long enough for it.
-fn graph_in(file: &[u8]) -> Graph {
-    let number = |at: usize| u16::from_le_bytes([file[at], file[at + 1]]);
-    let initial = if file[0] & 1 != 0 { number(5) } else { 0 };
-    let at = 5 + 2 * usize::from(file[0] & 1);
-    let count = if file[0] & 2 != 0 { number(at).into() } else { 0 };
-    let hops = (0..3 * count).map(|i| number(at + 2 + 2 * i)).collect();
-    Graph { states: number(1).into(), labels: number(3).into(), initial: initial.into(), hops }
+/// What stands in a file: the graph, without lines where these are not there whole, and where the names and the lines begin.
+struct Contents {
+    graph: Graph,
+    names: usize,
+    lines: usize,
+}
+
+/// The contents of a file which is long enough for what stands in front of its lines.
+fn contents_of(file: &[u8]) -> Option<Contents> {
+    let number = |at: usize| Some(u16::from_le_bytes([*file.get(at)?, *file.get(at + 1)?]));
+    let has = |bit: u8| file[0] >> bit & 1 == 1;
+    let (states, labels) = (number(1)?, number(3)?);
+    let initial = if has(0) { number(5)? } else { 0 };
+    let at = if has(0) { 7 } else { 5 };
+    let count = if has(1) { number(at)?.into() } else { 0 };
+    let hops = if has(1) { at + 2 } else { at };
+    let names = hops + 6 * count;
+    let mut lines = names;
+    for _ in 1..if has(2) { labels } else { 0 } {
+        lines += 1 + usize::from(*file.get(lines)?);
+    }
+    if lines > file.len() {
+        return None;
+    }
+    let hop = |i: usize| {
+        let line = if has(3) { number(lines + 2 * i).unwrap_or(0) } else { 0 };
+        Some([number(hops + 6 * i)?, number(hops + 6 * i + 2)?, number(hops + 6 * i + 4)?, line])
+    };
+    let flat = (0..count).map(hop).collect::<Option<Vec<_>>>()?.concat();
+    Some(Contents { graph: Graph { states: states.into(), labels: labels.into(), initial: initial.into(), hops: flat }, names, lines })
+}
+
+/// Why a file that ends early does.
+fn cut_word(file: &[u8]) -> &'static str {
+    let idle = |c: &Contents| file[0] & 1 != 0 && c.graph.initial == 0 || file[0] & 4 != 0 && c.graph.labels <= 1;
+    match contents_of(file) {
+        _ if file.is_empty() => "11 empty",
+        None => "11 cut",
+        Some(contents) if idle(&contents) => "11 in the lines, before 12",
+        Some(contents) if contents.lines == file.len() => "11 where the lines begin",
+        Some(_) => "11 cut in the lines",
+    }
+}
+
+/// Why a bit of a file must not stand.
+fn bit_word(file: &[u8]) -> Option<&'static str> {
+    let (map, Contents { graph: g, names, lines }) = (file[0], contents_of(file).expect("a file that is there whole"));
+    let idle_lines = map & 8 != 0 && g.each_hop().all(|hop| hop[3] == 0);
+    let word = alone(&[
+        ("12 initial state", map & 1 != 0 && g.initial == 0),
+        ("12 no hops", map & 10 == 2 && g.hops.is_empty()),
+        ("12 bit 3 over no hops", map & 10 == 10 && g.hops.is_empty()),
+        ("12 bit 3 without bit 1", map & 10 == 8),
+        ("12 no names", map & 4 != 0 && g.labels <= 1),
+        ("12 lines all 0", idle_lines && !g.hops.is_empty()),
+    ]);
+    if word != Some("12 lines all 0") {
+        return word;
+    }
+    // what would be said if it were not for the lines
+    let unlined = [&[map - 8][..], &file[1..lines]].concat();
+    match checker::read(&unlined, &vec![0; g.hops.len()]).0.number {
+        0 => word,
+        14 if names < lines => Some("12 lines all 0, before 14"),
+        _ => Some("12 lines all 0, before 1 to 4"),
+    }
+}
+
+/// Why bytes are left over.
+fn left_word(file: &[u8]) -> &'static str {
+    if file[0] & 8 == 0 {
+        return "13 left over";
+    }
+    let g = contents_of(file).expect("a file that is there whole").graph;
+    if g.each_hop().all(|hop| hop[3] == 0) {
+        "13 left over behind lines all 0"
+    } else {
+        "13 left over behind lines"
+    }
+}
+
+/// What an accepted file has.
+fn accepted_file_word(names: bool, lines: bool) -> &'static str {
+    match (names, lines) {
+        (true, false) => "0 with names",
+        (false, false) => "0 without names",
+        (false, true) => "0 with lines",
+        (true, true) => "0 with names and lines",
+    }
 }
 
 /// Why a name is refused, from its length byte.
@@ -436,24 +635,17 @@ fn name_word(length: u8) -> &'static str {
 /// Which condition made reading answer with this number and place.
 pub fn read_word(file: &[u8], number: u64, place: u64) -> Option<&'static str> {
     match number {
-        0 if file[0] & 4 != 0 => Some("0 with names"),
-        0 => Some("0 without names"),
+        0 => Some(accepted_file_word(file[0] & 4 != 0, file[0] & 8 != 0)),
         6 => Some("6"),
-        11 if file.is_empty() => Some("11 empty"),
-        11 => Some("11 cut"),
-        12 if file[0] >= 8 => Some("12 high bits"),
-        12 => {
-            let (map, g) = (file[0], graph_in(file));
-            alone(&[
-                ("12 initial state", map & 1 != 0 && g.initial == 0),
-                ("12 no hops", map & 2 != 0 && g.hops.is_empty()),
-                ("12 no names", map & 4 != 0 && g.labels <= 1),
-            ])
-        }
+        11 => Some(cut_word(file)),
+        12 if file[0] >= 32 => Some("12 bit 5, 6 or 7"),
+        12 if file[0] >= 16 => Some("12 bit 4"),
+        12 => bit_word(file),
         13 if file.len() > checker::LONGEST_FILE => Some("13 too long"),
-        13 => Some("13 left over"),
+        13 => Some(left_word(file)),
+        14 if place > 65_535 && name_word(file[place as usize]) == "14 the same" => Some("14 the same, past byte 65,535"),
         14 => Some(name_word(file[place as usize])),
-        _ => graph_word(&graph_in(file), number, place),
+        _ => graph_word(&contents_of(file).expect("a file that is there whole").graph, number, place),
     }
 }
 
@@ -461,8 +653,7 @@ pub fn read_word(file: &[u8], number: u64, place: u64) -> Option<&'static str> {
 pub fn write_word(g: &Graph, names: &[u8], number: u64, place: u64) -> Option<&'static str> {
     let place_at = place as usize;
     match number {
-        0 if names.is_empty() => Some("0 without names"),
-        0 => Some("0 with names"),
+        0 => Some(accepted_file_word(!names.is_empty(), g.each_hop().any(|hop| hop[3] != 0))),
         6 => Some("6"),
         14 if place_at == names.len() => Some("14 ends early"),
         14 if place_at == (1..g.labels).fold(0, |at, _| at + 1 + usize::from(names.get(at).copied().unwrap_or(0))) => Some("14 left over"),
@@ -473,10 +664,10 @@ pub fn write_word(g: &Graph, names: &[u8], number: u64, place: u64) -> Option<&'
 
 /// Which condition made the round question answer with this number and place.
 pub fn round_word(g: &Graph, asked: u64, survives: bool, number: u64, place: u64) -> Option<&'static str> {
-    let silent = |place: u64| g.hops.get(3 * place as usize + 1) == Some(&0);
+    let silent = |place: u64| g.hops.get(NUMBERS * place as usize + 1) == Some(&0);
     match number {
         0 => Some(if survives { "0 survives" } else { "0 falls" }),
-        9 if asked < g.hops.len() as u64 / 3 => Some("9 not silent"),
+        9 if asked < g.hop_count() as u64 => Some("9 not silent"),
         9 if silent(asked & 0xffff_ffff) => Some("9 cut to 32 bits a silent hop"),
         9 => Some("9 past the list"),
         10 => Some("10"),
@@ -487,7 +678,7 @@ pub fn round_word(g: &Graph, asked: u64, survives: bool, number: u64, place: u64
 /// Why hops of a state are shown or not. A refused graph counts only where hops would stand there else.
 pub fn hops_of_condition(side: u32, state: u32, one: &Graph, two: &Graph) -> Condition {
     let [refused1, refused2] = [one, two].map(|g| checker::check(&g.lent()));
-    let has = |g: &Graph, state: u32| g.hops.chunks_exact(3).any(|hop| u32::from(hop[0]) == state);
+    let has = |g: &Graph, state: u32| g.each_hop().any(|hop| u32::from(hop[0]) == state);
     let asked = match side {
         1 => one,
         2 => two,

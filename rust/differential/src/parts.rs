@@ -2,13 +2,25 @@
 
 use crate::compare::{Comparer, Length};
 use crate::make::{self, Hops};
-use crate::met::{beside_words, no_senses};
-use differential::entries::Graph;
+use crate::met::{beside_words, line_words, no_senses, turn_words, Turn};
+use differential::entries::{Graph, NUMBERS};
 use Length::{About, AtLeast, Exactly};
 
-fn graph(states: u32, labels: u32, hops: &[u16]) -> Graph {
-    Graph { states, labels, initial: 0, hops: hops.to_vec() }
+/// A graph of a list of three numbers a hop, without lines.
+fn graph(states: u32, labels: u32, three: &[u16]) -> Graph {
+    Graph { states, labels, initial: 0, hops: flat(three.chunks(3).map(|hop| [hop[0], hop[1], hop[2]])) }
 }
+
+/// A graph of a list of three numbers a hop, and its lines.
+fn lined(states: u32, labels: u32, three: &[u16], lines: &[u16]) -> Graph {
+    let mut g = graph(states, labels, three);
+    assert_eq!(g.hop_count(), lines.len(), "a line a hop");
+    g.hops.chunks_exact_mut(NUMBERS).zip(lines).for_each(|(hop, &line)| hop[3] = line);
+    g
+}
+
+/// The longest list of hops of which every line is held against those of the hops that it comes from.
+const FEW_HOPS: usize = 60;
 
 /// R1, R2, R3 and R8.
 const SENSES: [u32; 4] = [1, 2, 3, 8];
@@ -24,18 +36,23 @@ fn any_sense(c: &mut Comparer) -> u32 {
 
 /// Mark, reduce and shrink in each sense: R1's marks are among R2's and R3's, theirs among R8's, and what reduce and shrink left has no faults.
 fn in_each_sense(c: &mut Comparer, g: &Graph) {
-    let marked = SENSES.map(|sense| c.mark(g, sense, AtLeast(g.hops.len() / 3)));
-    if let [Some(r1), Some(r2), Some(r3), Some(r8)] = marked {
-        for word in beside_words(g, &[r1, r2, r3, r8]) {
+    let marked = SENSES.map(|sense| c.mark(g, sense, AtLeast(g.hop_count())));
+    if let [Some(r1), Some(r2), Some(r3), Some(r8)] = &marked {
+        for word in beside_words(g, &[r1, r2, r3, r8].map(Clone::clone)) {
             c.met.count(("marks of the senses", Some(word)));
         }
     }
-    for sense in SENSES {
+    for (sense, marks) in SENSES.into_iter().zip(marked) {
         let (map_len, short_len) = (AtLeast(g.states.min(1030) as usize), AtLeast(g.hops.len()));
         match c.reduce(g, sense, map_len, short_len) {
             None => _ = c.shrink(g, sense, map_len, short_len),
             Some((short, map)) => {
                 no_faults(c, g, &short, &map);
+                if g.hop_count() <= FEW_HOPS {
+                    for word in line_words(g, &marks.expect("what is reduced can be marked"), &map, &short) {
+                        c.met.count(("line of a short hop", Some(word)));
+                    }
+                }
                 shrunk(c, g, sense);
             }
         }
@@ -52,6 +69,9 @@ fn shrunk(c: &mut Comparer, g: &Graph, sense: u32) -> u64 {
     let (last, map, reductions) = c.shrink(g, sense, AtLeast(g.states as usize), AtLeast(g.hops.len())).expect("a graph without rings");
     if reductions > 1 {
         no_faults(c, g, &last, &map);
+        if g.hop_count() <= FEW_HOPS {
+            one_by_one(c, g, sense, reductions, &last);
+        }
     }
     if reductions > 0 {
         let (states, numbers) = (last.states as usize, last.hops.len());
@@ -61,6 +81,21 @@ fn shrunk(c: &mut Comparer, g: &Graph, sense: u32) -> u64 {
         assert_eq!(more, 0, "shrink leaves what it left of {g:?}");
     }
     reductions
+}
+
+/// "each reduction's rule in turn": so many reductions one by one leave what shrink left, lines too.
+fn one_by_one(c: &mut Comparer, g: &Graph, sense: u32, reductions: u64, last: &Graph) {
+    let (mut now, mut turns) = (g.clone(), vec![]);
+    for _ in 0..reductions {
+        let marks = checker::marked(&now.lent(), sense.into());
+        let (short, map) = c.reduce(&now, sense, AtLeast(now.states as usize), AtLeast(now.hops.len())).expect("no short graph has a ring");
+        turns.push(Turn { graph: now, marks, map, short: short.clone() });
+        now = short;
+    }
+    assert_eq!((now.states, &now.hops), (last.states, &last.hops), "one by one the reductions leave what shrink left of {g:?}");
+    for word in turn_words(&turns) {
+        c.met.count(("line of a last hop", Some(word)));
+    }
 }
 
 /// P1 to P10, and the examples of the limits.
@@ -81,10 +116,12 @@ pub fn worked(c: &mut Comparer) {
     c.answer_len = Some(9);
     for g in &graphs {
         whole(c, g);
+        let lined = make::lined(&mut c.random, g.clone());
+        whole(c, &lined);
     }
     let tests = [2, 1, 2, 3, 6, 1, 0, 0, 3];
     for (g, tests) in graphs.iter().zip(tests) {
-        assert_eq!(c.mark_fast(g, AtLeast(g.hops.len() / 3)).figures, [tests], "tests of {g:?}");
+        assert_eq!(c.mark_fast(g, AtLeast(g.hop_count())).figures, [tests], "tests of {g:?}");
     }
     let map = [0, 0, 1, 1];
     for (hops, figures) in [(&[0, 1, 1][..], [0, 0, 0, 0]), (&[], [2, 2, 1, 0]), (&[0, 1, 1, 1, 1, 1], [2, 3, 1, 2])] {
@@ -95,6 +132,7 @@ pub fn worked(c: &mut Comparer) {
     c.audit(&graph(3, 2, &[0, 0, 1, 1, 0, 2, 2, 1, 2]), &graph(2, 2, &[0, 0, 1, 0, 1, 0, 1, 0, 0]), &[0, 1, 0]);
     worked_senses(c);
     worked_shrinking(c);
+    worked_lines(c);
     c.answer_len = None;
 }
 
@@ -111,6 +149,35 @@ fn worked_shrinking(c: &mut Comparer) {
     }
 }
 
+/// M4 and M5: the lines of short hops, each of several hops of the representative and none of another member's; with those of P1, P6 and a chain of W13.6.
+fn worked_lines(c: &mut Comparer) {
+    let p1 = [0, 0, 1, 0, 1, 2, 1, 1, 3, 2, 0, 3];
+    let p6 = [0, 0, 1, 0, 1, 0, 1, 1, 1];
+    // state 0 has hops labelled 1 to 1, 2 and 3, which marked hops make one state
+    let fan = [0, 1, 1, 0, 1, 2, 0, 1, 3, 1, 0, 3, 2, 0, 3];
+    for (g, short) in [
+        (lined(4, 2, &p1, &[3, 4, 5, 2]), vec![0, 1, 1, 5]),
+        (lined(4, 2, &p1, &[0, 4, 0, 0]), vec![0, 1, 1, 0]),
+        (lined(2, 2, &p6, &[3, 4, 5]), vec![0, 1, 0, 5]),
+        (lined(4, 2, &fan, &[0, 7, 3, 1, 1]), vec![0, 1, 1, 3]),
+        (lined(4, 2, &fan, &[3, 7, 9, 1, 1]), vec![0, 1, 1, 3]),
+        (lined(4, 2, &fan, &[9, 7, 8, 1, 1]), vec![0, 1, 1, 7]),
+        (lined(4, 2, &fan, &[0, 7, 0, 1, 1]), vec![0, 1, 1, 7]),
+        (lined(4, 2, &fan, &[0, 0, 0, 1, 1]), vec![0, 1, 1, 0]),
+        (lined(4, 2, &fan, &[65_535, 0, 65_535, 1, 1]), vec![0, 1, 1, 65_535]),
+    ] {
+        whole(c, &g);
+        in_each_sense(c, &g);
+        let (found, _) = c.reduce(&g, 1, AtLeast(g.states as usize), AtLeast(g.hops.len())).expect("no ring");
+        assert_eq!(found.hops, short, "short hops of {g:?}");
+    }
+    let (_, chain) = make::one_a_reduction(3);
+    let mut chain = make::graph_of(3, 3, 0, &chain);
+    chain.hops.chunks_exact_mut(NUMBERS).zip(1..).for_each(|(hop, line)| hop[3] = line);
+    let (last, _, _) = c.shrink(&chain, 1, AtLeast(3), AtLeast(chain.hops.len())).expect("no ring");
+    assert_eq!(last.hops, [0, 1, 0, 7, 0, 2, 0, 8], "last hops of {chain:?}");
+}
+
 /// The case of wish 7 and graphs that tell the senses apart: which of the four mark a hop.
 fn worked_senses(c: &mut Comparer) {
     for (g, place, marked) in [
@@ -123,7 +190,7 @@ fn worked_senses(c: &mut Comparer) {
         (graph(3, 2, &[1, 0, 2, 1, 1, 0, 2, 0, 0, 2, 1, 2]), 0, [0, 0, 0, 0]),
     ] {
         in_each_sense(c, &g);
-        let found = SENSES.map(|sense| c.mark(&g, sense, AtLeast(g.hops.len() / 3)).expect("no ring")[place]);
+        let found = SENSES.map(|sense| c.mark(&g, sense, AtLeast(g.hop_count())).expect("no ring")[place]);
         assert_eq!(found, marked, "the hop at {place} of {g:?} under R1, R2, R3 and R8");
     }
 }
@@ -134,7 +201,7 @@ const HIGH: [u64; 4] = [1 << 32, 1 << 33, 1 << 63, u64::MAX << 32];
 /// Every entry over one graph, with outputs of every length around the needed one and every round question.
 fn whole(c: &mut Comparer, g: &Graph) {
     let (states, numbers) = (g.states as usize, g.hops.len());
-    let hops = numbers / 3;
+    let hops = g.hop_count();
     c.check(g);
     for from in 0..=g.states {
         for label in 0..=g.labels {
@@ -181,12 +248,13 @@ pub fn all_small(c: &mut Comparer) {
         for labels in 1..=2u16 {
             let all: Vec<[u16; 3]> = (0..states).flat_map(|s| (0..labels).flat_map(move |a| (0..states).map(move |t| [s, a, t]))).collect();
             for chosen in 0..1u32 << all.len() {
-                let hops: Vec<u16> = (0..all.len()).filter(|i| chosen >> i & 1 == 1).flat_map(|i| all[i]).collect();
+                let hops = flat((0..all.len()).filter(|i| chosen >> i & 1 == 1).map(|i| all[i]));
                 for initial in 0..=states.into() {
                     let g = Graph { states: states.into(), labels: labels.into(), initial, hops: hops.clone() };
+                    let g = make::lined(&mut c.random, g);
                     whole(c, &g);
                     let block = make::block(&mut c.random, usize::from(labels) - 1, 3);
-                    c.write(&g, &block, About(8 + 2 * hops.len() + block.len()));
+                    c.write(&g, &block, About(make::file(&g, &block).len()));
                     if initial < states.into() {
                         graphs.push(g);
                     }
@@ -217,9 +285,13 @@ pub fn all_small(c: &mut Comparer) {
             }
         }
     }
-    for len in 0..=6u32 {
-        for code in 0..3usize.pow(len) {
-            let hops: Vec<u16> = (0..len).map(|i| (code / 3usize.pow(i) % 3) as u16).collect();
+    // lists of every length up to two hops, their lines any of two
+    for len in 0..=8u32 {
+        for code in 0..3usize.pow(len - len / 4) {
+            let mut hops: Vec<u16> = (0..len - len / 4).map(|i| (code / 3usize.pow(i) % 3) as u16).collect();
+            for at in (0..len as usize).filter(|at| at % NUMBERS == 3) {
+                hops.insert(at, c.random.below(2) as u16);
+            }
             for initial in 0..=2 {
                 let g = Graph { states: 2, labels: 2, initial, hops: hops.clone() };
                 c.check(&g);
@@ -227,9 +299,9 @@ pub fn all_small(c: &mut Comparer) {
                 let sense = any_sense(c);
                 c.mark(&g, sense, About(2));
                 c.mark_fast(&g, About(2));
-                c.reduce(&g, sense, About(2), About(6));
-                c.shrink(&g, sense, About(2), About(6));
-                c.write(&g, &[], About(20));
+                c.reduce(&g, sense, About(2), About(8));
+                c.shrink(&g, sense, About(2), About(8));
+                c.write(&g, &[], About(24));
             }
         }
     }
@@ -241,9 +313,10 @@ pub fn all_in_each_sense(c: &mut Comparer) {
     for (states, labels) in [(1u16, 1u16), (1, 2), (2, 1), (2, 2), (3, 1), (3, 2)] {
         let all: Vec<[u16; 3]> = (0..states).flat_map(|s| (0..labels).flat_map(move |a| (0..states).map(move |t| [s, a, t]))).collect();
         for rank in 0..1u32 << all.len() {
-            let hops = (0..all.len()).filter(|i| rank >> i & 1 == 1).flat_map(|i| all[i]).collect();
+            let hops = flat((0..all.len()).filter(|i| rank >> i & 1 == 1).map(|i| all[i]));
             let initial = c.random.below(states.into()) as u32;
             let g = Graph { states: states.into(), labels: labels.into(), initial, hops };
+            let g = make::lined(&mut c.random, g);
             if checker::lowest_on_ring(&g.lent()).is_none() {
                 in_each_sense(c, &g);
                 count += 1;
@@ -260,6 +333,7 @@ pub fn pairs_of_hops(c: &mut Comparer) {
     let hop = |i: usize| [ends[i / 16], ends[i / 4 % 4], ends[i % 4]];
     for pair in 0..64 * 64 {
         let g = graph(1024, 1024, &[hop(pair / 64), hop(pair % 64)].concat());
+        let g = make::lined(&mut c.random, g);
         c.check(&g);
         if pair / 64 < pair % 64 {
             (0..64).for_each(|i| _ = c.find(&g, hop(i).map(u32::from)));
@@ -277,6 +351,7 @@ pub fn answers(c: &mut Comparer) {
     for g in
         [graph(4, 2, &[0, 0, 1, 0, 1, 2, 1, 1, 3, 2, 0, 3]), graph(2, 1, &[0, 0, 1, 1, 0, 0]), graph(0, 1, &[]), graph(3, 2, &[1, 0, 2, 0, 0, 1])]
     {
+        let g = make::lined(&mut c.random, g);
         let file = make::file(&g, &[]);
         for len in 0..=11 {
             c.answer_len = Some(len);
@@ -285,11 +360,11 @@ pub fn answers(c: &mut Comparer) {
             c.find(&g, [0, 1, 3]);
             for short in [g.hops.len(), g.hops.len().saturating_sub(1)] {
                 for sense in [1, 2, 3, 8, 4] {
-                    c.mark(&g, sense, Exactly(short / 3));
+                    c.mark(&g, sense, Exactly(short / NUMBERS));
                     c.reduce(&g, sense, Exactly(g.states as usize), Exactly(short));
                     c.shrink(&g, sense, Exactly(g.states as usize), Exactly(short));
                 }
-                c.mark_fast(&g, Exactly(short / 3));
+                c.mark_fast(&g, Exactly(short / NUMBERS));
                 c.read(&file, Exactly(short));
             }
             c.audit(&g, &g, &[0, 1, 2, 3]);
@@ -300,9 +375,9 @@ pub fn answers(c: &mut Comparer) {
             }
             c.hops_of(1, 0, &g, &g);
             c.hops_of(1, 9, &g, &g);
-            c.write(&g, &[], Exactly(31));
-            c.write(&g, &[], Exactly(30));
-            c.write(&g, &[1, 7], Exactly(33));
+            c.write(&g, &[], Exactly(file.len()));
+            c.write(&g, &[], Exactly(file.len() - 1));
+            c.write(&g, &[1, 7], Exactly(file.len() + 2));
         }
     }
     c.answer_len = None;
@@ -318,11 +393,11 @@ pub fn conditions(c: &mut Comparer) {
         c.find(&g, [0, 0, 1]);
         c.find(&g, [u32::MAX; 3]);
         for sense in [1, 2, 3, 8, 4] {
-            c.mark(&g, sense, Exactly(numbers / 3));
+            c.mark(&g, sense, Exactly(g.hop_count()));
             c.reduce(&g, sense, Exactly(states), Exactly(numbers));
             c.shrink(&g, sense, Exactly(states), Exactly(numbers));
         }
-        c.mark_fast(&g, Exactly(numbers / 3));
+        c.mark_fast(&g, Exactly(g.hop_count()));
         c.audit(&g, &p1, &vec![0; states]);
         c.audit(&p1, &g, &[0; 4]);
         c.round(&g, 0, 1);
@@ -345,7 +420,7 @@ fn other_senses(c: &mut Comparer, p1: &Graph) {
     let ring = graph(4, 2, &[0, 0, 1, 1, 0, 0, 1, 1, 0, 2, 0, 3]);
     for sense in no_senses() {
         for g in [p1, &ring] {
-            for (marks, map, short) in [(4, 4, 12), (3, 3, 12), (0, 4, 11), (0, 0, 0)] {
+            for (marks, map, short) in [(4, 4, 16), (3, 3, 16), (0, 4, 15), (0, 0, 0)] {
                 c.mark(g, sense, Exactly(marks));
                 c.reduce(g, sense, Exactly(map), Exactly(short));
                 c.shrink(g, sense, Exactly(map), Exactly(short));
@@ -393,7 +468,7 @@ fn first_faults(c: &mut Comparer) {
     }
     // all states in one class: state s answers the hops labelled with its letters
     let answering = |letters: &[&[u16]]| {
-        let hops = (0..).zip(letters).flat_map(|(s, labels)| labels.iter().flat_map(move |&label| [s, label, s])).collect();
+        let hops = (0..).zip(letters).flat_map(|(s, labels)| labels.iter().flat_map(move |&label| [s, label, s, 0])).collect();
         Graph { states: letters.len() as u32, labels: 4, initial: 0, hops }
     };
     let two = graph(1, 4, &[0, 1, 0, 0, 2, 0, 0, 3, 0]);
@@ -425,14 +500,17 @@ fn refused_graphs(p1: &Graph) -> Vec<Graph> {
         with(&|g| g.labels = 1025),
         Graph { states: 1024, labels: 2, initial: 0, hops: many_hops },
         with(&|g| g.hops.push(0)),
-        with(&|g| g.hops.truncate(11)),
+        with(&|g| g.hops.truncate(15)),
+        with(&|g| g.hops.truncate(14)),
         with(&|g| g.initial = 4),
         with(&|g| g.initial = 1 << 16),
-        with(&|g| g.hops[9] = 4),
-        with(&|g| g.hops[10] = 2),
-        with(&|g| g.hops[11] = 4),
-        with(&|g| g.hops.extend([2, 0, 3])),
-        with(&|g| g.hops.extend([2, 0, 2])),
+        with(&|g| g.hops[12] = 4),
+        with(&|g| g.hops[13] = 2),
+        with(&|g| g.hops[14] = 4),
+        with(&|g| g.hops.extend([2, 0, 3, 0])),
+        with(&|g| g.hops.extend([2, 0, 3, 1])),
+        with(&|g| g.hops.extend([2, 0, 2, 0])),
+        with(&|g| g.hops.extend([2, 0, 2, 1])),
     ]
 }
 
@@ -456,23 +534,80 @@ fn places_and_numbers_that_would_be_cut(c: &mut Comparer, p1: &Graph) {
 
 /// Rows 6 and 11 to 14 of reading and writing, one condition a call.
 fn files_and_blocks(c: &mut Comparer) {
-    let g = graph(4, 3, &[0, 1, 1]);
-    let whole = make::file(&g, &[1, 7, 2, 7, 7]);
-    c.read(&whole, Exactly(2));
-    let too_long = vec![0; 58_345];
-    let cut = &whole[..whole.len() - 1];
-    let left_over = [&whole[..], &[0]].concat();
-    let files: [&[u8]; 9] =
-        [&whole, &[], cut, &[10, 4, 0, 2, 0], &[1, 4, 0, 2, 0, 0, 0], &[2, 4, 0, 2, 0, 0, 0], &[4, 4, 0, 1, 0], &too_long, &left_over];
-    for file in files {
-        c.read(file, Exactly(3));
+    let (plain, lines) = (graph(4, 3, &[0, 1, 1]), lined(4, 3, &[0, 1, 1], &[9]));
+    let names: &[u8] = &[1, 7, 2, 7, 7];
+    for g in [&plain, &lines] {
+        let whole = make::file(g, names);
+        c.read(&whole, Exactly(3));
+        let cut = &whole[..whole.len() - 1];
+        let left_over = [&whole[..], &[0]].concat();
+        for file in [&whole[..], cut, &left_over] {
+            c.read(file, Exactly(4));
+        }
+        c.write(g, names, Exactly(whole.len() - 1));
+        let too_many = [&[33][..], &[7; 33], &[1, 7]].concat();
+        let blocks: [&[u8]; 8] = [&[], names, &[0, 1, 7], &[1, 7, 0], &too_many, &[1, 7, 1, 7], &[1, 7, 2, 7], &[1, 7, 1, 8, 0]];
+        for block in blocks {
+            c.write(g, block, Exactly(checker::LONGEST_FILE));
+            c.read(&make::file(g, block), Exactly(4));
+        }
     }
-    c.write(&g, &[1, 7, 2, 7, 7], Exactly(whole.len() - 1));
-    let too_many = [&[33][..], &[7; 33], &[1, 7]].concat();
-    let blocks: [&[u8]; 8] = [&[], &[1, 7, 2, 7, 7], &[0, 1, 7], &[1, 7, 0], &too_many, &[1, 7, 1, 7], &[1, 7, 2, 7], &[1, 7, 1, 8, 0]];
-    for block in blocks {
-        c.write(&g, block, Exactly(58_344));
-        c.read(&make::file(&g, block), Exactly(3));
+    let too_long = vec![0; checker::LONGEST_FILE + 1];
+    let files: [&[u8]; 9] = [
+        &[],
+        &too_long,
+        &[18, 4, 0, 2, 0],
+        &[34, 4, 0, 2, 0],
+        &[66, 4, 0, 2, 0],
+        &[130, 4, 0, 2, 0],
+        &[1, 4, 0, 2, 0, 0, 0],
+        &[2, 4, 0, 2, 0, 0, 0],
+        &[4, 4, 0, 1, 0],
+    ];
+    for file in files {
+        c.read(file, Exactly(4));
+    }
+    files_with_lines(c);
+}
+
+/// Bit 3: without bit 1, over no hops, over lines that are cut, all 0, or have something behind them; and what it speaks before.
+fn files_with_lines(c: &mut Comparer) {
+    let hop = [0, 0, 1, 0, 1, 0];
+    let field = |map: u8, labels: u8, count: u8, behind: &[u8]| {
+        [&[map, 4, 0, labels, 0, count, 0][..], &hop.repeat(usize::from(count).min(1)), behind].concat()
+    };
+    let files = [
+        (vec![8, 4, 0, 2, 0], [12, 0]),
+        (vec![8, 4, 0, 2, 0, 0, 0], [13, 5]),
+        (vec![12, 4, 0, 2, 0, 1, 7], [12, 0]),
+        (field(10, 2, 0, &[]), [12, 0]),
+        (field(10, 2, 0, &[1, 0]), [13, 7]),
+        (field(10, 2, 1, &[]), [11, 13]),
+        (field(10, 2, 1, &[1]), [11, 14]),
+        (field(10, 2, 1, &[1, 0]), [0, 0]),
+        (field(10, 2, 1, &[0, 1]), [0, 0]),
+        (field(10, 2, 1, &[0, 0]), [12, 0]),
+        (field(10, 2, 1, &[0, 0, 0]), [13, 15]),
+        (field(10, 2, 1, &[1, 0, 0]), [13, 15]),
+        (field(10, 1, 1, &[0, 0]), [12, 0]),
+        (field(10, 1, 1, &[1, 0]), [3, 0]),
+        // names: one that is cut, one that is refused, one that is not
+        (field(14, 2, 1, &[2, 7]), [11, 15]),
+        (field(14, 2, 1, &[1, 7]), [11, 15]),
+        (field(14, 2, 1, &[1, 7, 0]), [11, 16]),
+        (field(14, 2, 1, &[0, 0, 0]), [12, 0]),
+        (field(14, 2, 1, &[0, 0, 1]), [14, 13]),
+        (field(14, 2, 1, &[1, 7, 0, 0]), [12, 0]),
+        (field(14, 2, 1, &[1, 7, 1, 0]), [0, 0]),
+        (field(14, 2, 1, &[1, 7, 1, 0, 0]), [13, 17]),
+        (field(14, 1, 1, &[1]), [11, 14]),
+        (field(14, 1, 1, &[1, 0]), [12, 0]),
+        // an initial state of 0 and a line that is cut
+        ([&[11, 4, 0, 2, 0, 0, 0, 1, 0][..], &hop, &[1]].concat(), [11, 16]),
+    ];
+    for (file, [number, place]) in files {
+        let answer = c.read(&file, Exactly(4));
+        assert_eq!([answer.number, answer.place], [number, place], "read of {file:?}");
     }
 }
 
@@ -489,7 +624,7 @@ pub fn small(c: &mut Comparer, count: usize) {
 
 /// Every entry over one graph, each once or a few times.
 fn every_entry(c: &mut Comparer, g: &Graph, other_states: usize) {
-    let hops = g.hops.len() / 3;
+    let hops = g.hop_count();
     let states = (g.states as usize).min(1030);
     c.check(g);
     finds_about(c, g);
@@ -536,8 +671,8 @@ fn finds_about(c: &mut Comparer, g: &Graph) {
     let counts = [g.states, g.labels, g.states].map(|count| count.clamp(1, 1030) as usize);
     let mut hop = counts.map(|count| c.random.below(count + 1) as u32);
     c.find(g, hop);
-    if let Some(there) = (g.hops.len() / 3).checked_sub(1).map(|last| c.random.between(0, last)) {
-        hop = [0, 1, 2].map(|i| g.hops[3 * there + i].into());
+    if let Some(there) = g.hop_count().checked_sub(1).map(|last| c.random.between(0, last)) {
+        hop = g.three_at(there).map(u32::from);
         c.find(g, hop);
     }
     let at = c.random.below(3);
@@ -568,12 +703,15 @@ fn audits_about(c: &mut Comparer, one: &Graph, two: &Graph, map: &[u16]) {
     c.audit(one, two, &other);
     let altered = make::damaged(&mut c.random, two);
     c.audit(one, &altered, map);
-    if two.hops.len() >= 3 {
+    if two.hop_count() > 0 {
         let mut fewer = two.clone();
-        let at = 3 * c.random.below(two.hops.len() / 3);
-        fewer.hops.drain(at..at + 3);
+        let at = NUMBERS * c.random.below(two.hop_count());
+        fewer.hops.drain(at..at + NUMBERS);
         c.audit(one, &fewer, map);
     }
+    // "marking and faults ignore the fourth"
+    let relined = make::lined(&mut c.random, two.clone());
+    assert_eq!(c.audit(one, &relined, map).figures[..], checker::audit(&one.lent(), &two.lent(), map).figures[..], "lines are no matter to an audit");
 }
 
 /// Markings of many rounds: chains, ladders, waves, fans and the like, random small ones and some large ones.
@@ -581,13 +719,13 @@ pub fn rounds(c: &mut Comparer, count: usize) {
     for _ in 0..count {
         let g = make::many_rounds(&mut c.random, 30);
         in_each_sense(c, &g);
-        c.mark_fast(&g, About(g.hops.len() / 3));
+        c.mark_fast(&g, About(g.hop_count()));
     }
     let mut tests_of = |(states, hops): (u16, make::Hops)| {
-        let g = make::graph_of(states.into(), 3, 0, &hops);
+        let g = make::lined(&mut c.random, make::graph_of(states.into(), 3, 0, &hops));
         c.mark(&g, 1, Exactly(hops.len()));
-        c.reduce(&g, 1, Exactly(states.into()), Exactly(3 * hops.len()));
-        c.shrink(&g, 1, Exactly(states.into()), Exactly(3 * hops.len()));
+        c.reduce(&g, 1, Exactly(states.into()), Exactly(g.hops.len()));
+        c.shrink(&g, 1, Exactly(states.into()), Exactly(g.hops.len()));
         c.answer_len = Some(4);
         let tests = c.mark_fast(&g, Exactly(hops.len())).figures[0];
         c.answer_len = None;
@@ -618,7 +756,8 @@ pub fn senses(c: &mut Comparer, count: usize) {
     }
     let graphs = [make::chain(150), make::chain_to_one_end(150), make::ladder(80), make::waves(10, 12), make::fans(5, 30, 40), make::over_one(60, 4)];
     for (states, hops) in graphs {
-        in_each_sense(c, &make::graph_of(states.into(), 3, 0, &hops));
+        let g = make::lined(&mut c.random, make::graph_of(states.into(), 3, 0, &hops));
+        in_each_sense(c, &g);
     }
 }
 
@@ -635,7 +774,10 @@ pub fn reductions(c: &mut Comparer, count: usize) {
         let g = make::many_reductions(&mut c.random, states);
         in_each_sense(c, &g);
     }
-    let reductions_of = |c: &mut Comparer, (states, hops): (u16, Hops), sense| shrunk(c, &make::graph_of(states.into(), 3, 0, &hops), sense);
+    let reductions_of = |c: &mut Comparer, (states, hops): (u16, Hops), sense| {
+        let g = make::lined(&mut c.random, make::graph_of(states.into(), 3, 0, &hops));
+        shrunk(c, &g, sense)
+    };
     assert_eq!(SENSES.map(|sense| reductions_of(c, make::one_a_reduction(120), sense)), [119, 119, 119, 1], "reductions of a chain of 120");
     assert_eq!(reductions_of(c, make::beside(make::one_a_reduction(100), make::chain(100)), 1), 99, "reductions beside a chain that falls");
     assert_eq!(reductions_of(c, make::one_a_reduction(1024), 1), 1023, "reductions of the longest chain under R1");
@@ -657,12 +799,13 @@ pub fn files(c: &mut Comparer, count: usize) {
         let longest = c.random.pick(&[1, 2, 4, 32]);
         let mut block = make::block(&mut c.random, names, longest);
         let mut file = make::file(&g, &block);
-        match i % 4 {
+        match i % 5 {
             0 => {}
+            4 => file = make::damaged_lines(&mut c.random, &g, &file),
             3 => {
                 file = (0..c.random.below(24)).map(|_| if c.random.percent(60) { c.random.below(5) as u8 } else { c.random.next() as u8 }).collect();
                 if let Some(first) = file.first_mut() {
-                    *first &= 7;
+                    *first &= 15;
                 }
             }
             _ => file = make::damaged_bytes(&mut c.random, &file),
@@ -681,11 +824,15 @@ pub fn files(c: &mut Comparer, count: usize) {
 
 /// "A file read and written again has the same bytes".
 fn written_again(c: &mut Comparer, file: &[u8]) {
-    let (answer, hops) = checker::read(file, &vec![0; 12_288]);
+    let (answer, hops) = checker::read(file, &vec![0; NUMBERS * 4096]);
     assert_eq!(answer.number, 0, "a file that was accepted");
     let figures = answer.figures;
-    let g =
-        Graph { states: figures[0] as u32, labels: figures[1] as u32, initial: figures[2] as u32, hops: hops[..3 * figures[3] as usize].to_vec() };
+    let g = Graph {
+        states: figures[0] as u32,
+        labels: figures[1] as u32,
+        initial: figures[2] as u32,
+        hops: hops[..NUMBERS * figures[3] as usize].to_vec(),
+    };
     let block = &file[figures[4] as usize..(figures[4] + figures[5]) as usize];
     let answer = c.write(&g, block, Exactly(file.len()));
     assert_eq!(answer.figures, [file.len() as u64], "the same length again");
@@ -716,6 +863,10 @@ pub fn every_damage(c: &mut Comparer) {
                 other[at] = value;
                 c.read(&other, AtLeast(g.hops.len()));
             }
+        }
+        for _ in 0..20 {
+            let other = make::damaged_lines(&mut c.random, &g, &file);
+            c.read(&other, AtLeast(g.hops.len()));
         }
         for end in 0..block.len() {
             c.write(&g, &block[..end], About(file.len()));
@@ -759,8 +910,9 @@ pub fn large(c: &mut Comparer, count: usize) {
     }
 }
 
+/// A flat list without lines.
 fn flat(hops: impl Iterator<Item = [u16; 3]>) -> Vec<u16> {
-    hops.flatten().collect()
+    hops.flat_map(|[from, label, to]| [from, label, to, 0]).collect()
 }
 
 /// Graphs of the full size: chains, one class, the most faults, one more than is allowed.
@@ -792,10 +944,11 @@ pub fn limits(c: &mut Comparer) {
     for g in
         [chain, chain_down, chain_strewn, ring, late_ring, ring_strewn, class, one_label, dense, many_labels, rounds, descending, mixed, repeated]
     {
+        let g = make::lined(&mut c.random, g);
         every_entry(c, &g, 1024);
         every_entry(c, &g, 3);
         for _ in 0..20 {
-            let place = c.random.below(g.hops.len() / 3) as u64;
+            let place = c.random.below(g.hop_count()) as u64;
             c.round(&g, place, 4);
         }
         let file = make::file(&g, &[]);
@@ -806,21 +959,22 @@ pub fn limits(c: &mut Comparer) {
     for count in [4095, 4096, 4097] {
         for states in [1023, 1024, 1025] {
             for labels in [1, 2, 1024, 1025] {
-                let g = Graph { states, labels, initial: 0, hops: hops[..3 * count].to_vec() };
+                let g = Graph { states, labels, initial: 0, hops: hops[..NUMBERS * count].to_vec() };
+                let g = make::lined(&mut c.random, g);
                 c.check(&g);
                 let sense = any_sense(c);
                 c.mark(&g, sense, About(count));
                 c.mark_fast(&g, About(count));
-                c.reduce(&g, sense, About(states as usize), About(3 * count));
-                c.shrink(&g, sense, About(states as usize), About(3 * count));
+                c.reduce(&g, sense, About(states as usize), About(NUMBERS * count));
+                c.shrink(&g, sense, About(states as usize), About(NUMBERS * count));
                 c.round(&g, 0, 1);
-                c.write(&g, &[], About(24_600));
-                c.read(&make::file(&g, &[]), About(3 * count));
+                c.write(&g, &[], About(make::file(&g, &[]).len()));
+                c.read(&make::file(&g, &[]), About(NUMBERS * count));
             }
         }
     }
-    for extra in [1, 2, 3] {
-        let mut g = full(1024, 2, hops[..3 * 4096].to_vec());
+    for extra in [1, 2, 3, 4] {
+        let mut g = full(1024, 2, hops[..NUMBERS * 4096].to_vec());
         g.hops.extend(vec![0; extra]);
         c.check(&g);
         c.mark(&g, 8, About(4096));
@@ -831,15 +985,15 @@ pub fn limits(c: &mut Comparer) {
     c.mark(&g, 8, About(70_000));
     c.mark_fast(&g, About(70_000));
     // every hop and every pair of a hop and a state is a fault, and so are the initial states
-    let one = full(1024, 6, hops[..3 * 4096].to_vec());
+    let one = full(1024, 6, hops[..NUMBERS * 4096].to_vec());
     let two = Graph { states: 1024, labels: 6, initial: 1, hops: flat((0..4096u16).map(|i| [0, 2 + i / 1024, i % 1024])) };
     assert_eq!(c.audit(&one, &two, &[0; 1024]).figures, [4_198_401, 1, 0, 0]);
     c.audit(&one, &two, &vec![0; 70_000]);
     first_faults_at_the_limits(c);
     // each hop of a full list, and what stands on either side of it
-    let numbers: Vec<u32> = one.hops.iter().map(|&number| number.into()).collect();
-    for (place, hop) in (0..).zip(numbers.chunks_exact(3)) {
-        let (from, label, to) = (hop[0], hop[1], hop[2]);
+    for place in 0..one.hop_count() {
+        let [from, label, to] = one.three_at(place).map(u32::from);
+        let place = place as u64;
         assert_eq!(c.find(&one, [from, label, to]).figures, [1, place], "each hop is found");
         c.find(&one, [from, label - 1, to]);
         c.find(&one, [from, label, to + 4]);
@@ -849,7 +1003,7 @@ pub fn limits(c: &mut Comparer) {
 /// All states in one class, and one row of graph 2 with all labels: no state answers the last hop, or only the last state does not; or each state lacks another hop,
 /// the higher the state the earlier.
 fn first_faults_at_the_limits(c: &mut Comparer) {
-    let row = graph(1, 1024, &flat((0..1024).map(|a| [0, a, 0])));
+    let row = Graph { states: 1, labels: 1024, initial: 0, hops: flat((0..1024).map(|a| [0, a, 0])) };
     let of = |states: u16, hops: Hops| make::graph_of(states.into(), 1024, 0, &hops);
     let ring = of(1024, (0..1024).map(|s| (s, 0, (s + 1) % 1024)).chain((1..1023).map(|a| (1023, a, 1023))).collect());
     assert_eq!(c.audit(&ring, &row, &[0; 1024]).figures, [1024, 3, 1023, 0], "no state answers the last hop");
@@ -867,34 +1021,43 @@ fn round_graph(states: u16) -> Graph {
 
 /// Files around the longest length, with counts over the limits and more names than labels can have.
 pub fn large_files(c: &mut Comparer) {
+    const LONGEST: usize = checker::LONGEST_FILE;
     let mut read = |file: &[u8]| {
-        c.read(file, About(12));
+        c.read(file, About(16));
     };
-    for first in [0, 7, 8, 255] {
-        for len in [58_343, 58_344, 58_345, 70_000] {
+    for first in [0, 7, 8, 15, 16, 255] {
+        for len in [58_344, 65_536, LONGEST - 1, LONGEST, LONGEST + 1, 70_000] {
             let mut file = vec![0; len];
             file[0] = first;
             read(&file);
         }
     }
     // counts of 65,535, with too little, just enough and too much behind them
-    for map in 0..8u8 {
+    for map in 0..16u8 {
         read(&[map, 255, 255, 255, 255, 255, 255, 255, 255]);
         let mut file = vec![map, 255, 255, 255, 255, 255, 255];
-        file.resize(58_344, 1);
+        file.resize(LONGEST, 1);
         read(&file);
     }
-    for count in [9_721, 9_722, 9_723u16] {
-        let mut file = vec![2, 4, 0, 2, 0];
-        file.extend(count.to_le_bytes());
-        file.resize(7 + 6 * usize::from(count).min(9_722), 0);
+    // as many hops as a file holds, one less and one more; with lines, and with lines all 0
+    for (map, most, each) in [(2, (LONGEST - 7) / 6, 6), (10, (LONGEST - 7) / 8, 8)] {
+        for byte in [0, 1] {
+            for count in [most - 1, most, most + 1] {
+                let mut file = vec![map, 4, 0, 2, 0];
+                file.extend((count as u16).to_le_bytes());
+                file.resize(7 + each * count.min(most), byte);
+                read(&file);
+                file.resize(7 + 6 * count.min(most), byte);
+                read(&file);
+            }
+        }
+    }
+    // names of length 0, as many as a file of 65,535 labels holds, and what is left of the longest behind them
+    for len in [5 + 65_534, LONGEST] {
+        let mut file = vec![4, 1, 0, 255, 255];
+        file.resize(len, 0);
         read(&file);
     }
-    // names of length 0, as many as a file holds
-    let mut file = vec![4, 1, 0];
-    file.extend(58_340u16.to_le_bytes());
-    file.resize(58_344, 0);
-    read(&file);
     // names of length 255 and 33
     for len in [255u8, 33] {
         for count in [1, 2, 200u16] {
@@ -909,23 +1072,34 @@ pub fn large_files(c: &mut Comparer) {
             read(&file[..file.len() - 1]);
         }
     }
-    // the most names: all of one byte, then of two; all different, and with the last one repeated
+    most_names(c);
+    longest_file(c);
+}
+
+/// As many names as a file holds, places past 65,535 among them, where one is the same as another, and none.
+fn most_names(c: &mut Comparer) {
+    const LONGEST: usize = checker::LONGEST_FILE;
+    let mut read = |file: &[u8]| c.read(file, About(16));
+    // all of one byte, then of two; all different, and with the last one repeated
+    let pairs = (LONGEST - 5 - 2 * 256) / 3;
     let mut file = vec![4, 1, 0];
-    file.extend(19_532u16.to_le_bytes());
+    file.extend((1 + 256 + pairs as u16).to_le_bytes());
     for i in 0..256 {
         file.extend([1, i as u8]);
     }
-    for i in 0..19_275u16 {
+    for i in 0..pairs as u16 {
         file.push(2);
         file.extend(i.to_le_bytes());
     }
     read(&file);
     let last = file.len() - 2;
-    file[last] = 0;
-    file[last + 1] = 0;
-    read(&file);
-    // as many names of two bytes as fit, ascending, descending and in no order; all different, and with one repeated
-    let mut names: Vec<u16> = (0..19_446).collect();
+    for earlier in [0, 100, pairs as u16 - 2] {
+        file[last..].copy_from_slice(&earlier.to_le_bytes());
+        read(&file);
+    }
+    // as many names of two bytes as fit, ascending, descending and in no order; all different, and with one repeated, from early on and from past byte 65,535
+    let most = ((LONGEST - 5) / 3) as u16;
+    let mut names: Vec<u16> = (0..most).collect();
     for turn in 0..3 {
         match turn {
             0 => {}
@@ -933,36 +1107,46 @@ pub fn large_files(c: &mut Comparer) {
             _ => names.sort_by_key(|&i| i.wrapping_mul(40_503)),
         }
         let mut file = vec![4, 1, 0];
-        file.extend(19_447u16.to_le_bytes());
+        file.extend((most + 1).to_le_bytes());
         for i in &names {
             file.push(2);
             file.extend(i.to_be_bytes());
         }
         read(&file);
-        let (first, later) = (5 + 3 * 1000, 5 + 3 * 18_000);
-        file.copy_within(first + 1..first + 3, later + 1);
-        read(&file);
+        let name_at = |i: usize| 5 + 3 * i;
+        for (first, later) in [(1000, 18_000), (10, usize::from(most) - 1), (usize::from(most) - 100, usize::from(most) - 1)] {
+            let mut file = file.clone();
+            file.copy_within(name_at(first) + 1..name_at(first) + 3, name_at(later) + 1);
+            read(&file);
+        }
     }
-    // the longest legal file, one byte less and one more
-    let hops = flat((0..4096u16).map(|i| [i / 4, 1023, i % 4]));
-    let g = Graph { states: 1024, labels: 1024, initial: 1023, hops };
+}
+
+/// The longest legal file, one byte less and one more, and the longest without lines.
+fn longest_file(c: &mut Comparer) {
     let mut block = vec![];
     for label in 1..1024u16 {
         block.push(32);
         block.extend([0; 30]);
         block.extend(label.to_be_bytes());
     }
-    let file = make::file(&g, &block);
-    assert_eq!(file.len(), 58_344, "the longest file");
-    for len in [58_343, 58_344, 58_345] {
-        c.write(&g, &block, Exactly(len));
+    let hops = flat((0..4096u16).map(|i| [i / 4, 1023, i % 4]));
+    let mut g = Graph { states: 1024, labels: 1024, initial: 1023, hops };
+    for (line, longest) in [(0, 58_344), (7, checker::LONGEST_FILE)] {
+        // the last line alone is enough
+        *g.hops.last_mut().expect("a hop") = line;
+        let file = make::file(&g, &block);
+        assert_eq!(file.len(), longest, "the longest file");
+        for len in [longest - 1, longest, longest + 1] {
+            c.write(&g, &block, Exactly(len));
+        }
+        for len in [NUMBERS * 4096 - 1, NUMBERS * 4096, NUMBERS * 4096 + 1] {
+            c.read(&file, Exactly(len));
+        }
+        c.read(&file[..longest - 1], Exactly(NUMBERS * 4096));
+        c.read(&[&file[..], &[0]].concat(), Exactly(NUMBERS * 4096));
+        written_again(c, &file);
     }
-    for len in [12_287, 12_288, 12_289] {
-        c.read(&file, Exactly(len));
-    }
-    c.read(&file[..58_343], Exactly(12_288));
-    c.read(&[&file[..], &[0]].concat(), Exactly(12_288));
-    written_again(c, &file);
     // a block of 1,023 names of length 255, and one longer
     let mut block: Vec<u8> = vec![];
     for label in 1..1024u16 {
@@ -970,8 +1154,8 @@ pub fn large_files(c: &mut Comparer) {
         block.extend([0; 253]);
         block.extend(label.to_be_bytes());
     }
-    c.write(&g, &block, About(58_344));
-    c.write(&g, &block[..block.len() - 1], About(58_344));
+    c.write(&g, &block, About(checker::LONGEST_FILE));
+    c.write(&g, &block[..block.len() - 1], About(checker::LONGEST_FILE));
     block.push(9);
-    c.write(&g, &block, About(58_344));
+    c.write(&g, &block, About(checker::LONGEST_FILE));
 }

@@ -2,7 +2,7 @@
 
 use crate::compare::Comparer;
 use crate::make;
-use differential::entries::Graph;
+use differential::entries::{Graph, NUMBERS};
 use zundrafipo::{Audit, Fault, Found, Hop, NameBlock, Refusal, Sense};
 
 fn lent(g: &Graph) -> zundrafipo::Graph {
@@ -37,7 +37,7 @@ pub fn wrappers(c: &mut Comparer, count: usize) {
 
 fn one_graph(c: &mut Comparer, g: &Graph) {
     let graph = lent(g);
-    let hops = g.hops.len() / 3;
+    let hops = g.hop_count();
     assert_eq!(graph.check(), split(checker::check(&g.lent())).map(|_| ()), "check of {g:?}");
 
     Sense::ALL.into_iter().for_each(|sense| in_sense(g, sense));
@@ -61,12 +61,16 @@ fn one_graph(c: &mut Comparer, g: &Graph) {
 
     let mut hop = [g.states, g.labels, g.states].map(|count| c.random.below(count.min(1030) as usize + 1) as u16);
     if hops > 0 && c.random.percent(50) {
-        let place = 3 * c.random.below(hops);
-        hop.copy_from_slice(&g.hops[place..place + 3]);
+        hop = g.three_at(c.random.below(hops));
     }
     let [from, label, to] = hop.map(u64::from);
     let found = |figures: Vec<u64>| if figures[0] == 1 { Found::At(figures[1] as usize) } else { Found::Gap(figures[1] as usize) };
-    assert_eq!(graph.find(Hop::from(hop)), split(checker::find(&g.lent(), from, label, to)).map(found), "find {hop:?} in {g:?}");
+    let line = c.random.below(3) as u16;
+    assert_eq!(
+        graph.find(Hop::new(hop[0], hop[1], hop[2]).with_line(line)),
+        split(checker::find(&g.lent(), from, label, to)).map(found),
+        "find {hop:?} in {g:?}"
+    );
 
     let (place, rounds) = (c.random.below(hops + 1) as u64, c.random.below(6) as u32);
     let expected = split(checker::round(&g.lent(), place, rounds.into())).map(|figures| figures[0] == 1);
@@ -81,17 +85,19 @@ fn one_graph(c: &mut Comparer, g: &Graph) {
 
     let names = if c.random.percent(50) { 0 } else { (g.labels as usize).clamp(1, 9) - 1 };
     let block = make::block(&mut c.random, names, 4);
-    let (answer, out) = checker::write(&g.lent(), &block, &vec![0; 58_344]);
+    let (answer, out) = checker::write(&g.lent(), &block, &vec![0; checker::LONGEST_FILE]);
     let expected = split(answer).map(|figures| out[..figures[0] as usize].to_vec());
     assert_eq!(graph.write(&block), expected, "write of {g:?} with {block:?}");
 
     let mut file = make::file(g, &block);
-    if c.random.percent(50) {
-        file = make::damaged_bytes(&mut c.random, &file);
+    match c.random.below(4) {
+        0 => file = make::damaged_bytes(&mut c.random, &file),
+        1 => file = make::damaged_lines(&mut c.random, g, &file),
+        _ => {}
     }
-    let (answer, hops) = checker::read(&file, &vec![0; 12_288]);
+    let (answer, hops) = checker::read(&file, &vec![0; NUMBERS * 4096]);
     let expected = split(answer).map(|f| zundrafipo::File {
-        graph: zundrafipo::Graph::new(f[0] as u32, f[1] as u32, f[2] as u32, hops[..3 * f[3] as usize].to_vec()),
+        graph: zundrafipo::Graph::new(f[0] as u32, f[1] as u32, f[2] as u32, hops[..NUMBERS * f[3] as usize].to_vec()),
         name_block: &file[f[4] as usize..(f[4] + f[5]) as usize],
     });
     assert_eq!(zundrafipo::read(&file), expected, "read of {file:?}");
@@ -110,11 +116,11 @@ fn senses() {
 /// Mark, reduce and shrink in a sense.
 fn in_sense(g: &Graph, sense: Sense) {
     let (graph, number) = (lent(g), sense.number().into());
-    let (answer, marks) = checker::mark(&g.lent(), number, &vec![0; g.hops.len() / 3]);
+    let (answer, marks) = checker::mark(&g.lent(), number, &vec![0; g.hop_count()]);
     assert_eq!(graph.mark(sense), split(answer).map(|_| marks.iter().map(|&m| m == 1).collect()), "mark of {g:?} under {sense}");
 
     let short_of = |figures: &[u64], hops: &[u16]| {
-        zundrafipo::Graph::new(figures[0] as u32, figures[1] as u32, figures[3] as u32, hops[..3 * figures[2] as usize].to_vec())
+        zundrafipo::Graph::new(figures[0] as u32, figures[1] as u32, figures[3] as u32, hops[..NUMBERS * figures[2] as usize].to_vec())
     };
     let (map, hops) = (vec![0; (g.states as usize).min(1024)], vec![0; g.hops.len()]);
     let (answer, map_after, short) = checker::reduce(&g.lent(), number, &map, &hops);
@@ -139,14 +145,16 @@ fn fault(figures: &[u64]) -> Option<Fault> {
     Some(fault)
 }
 
-/// A fault's sentence has its hop's numbers; of other graphs and with any bytes for names there is one too.
+/// A fault's sentence has its hop's numbers, and its line where it has one; of other graphs and with any bytes for names there is one too.
 fn described(c: &mut Comparer, fault: Fault, one: &zundrafipo::Graph, two: &zundrafipo::Graph) {
     let numbers = match fault {
         Fault::Initial => format!("state {} of graph 1", one.initial),
         Fault::Lost { place } | Fault::MadeUp { place, .. } => {
             let graph = if fault.kind() == 2 { one } else { two };
-            let [from, label, to] = <[u16; 3]>::from(graph.hops().nth(place).expect("a hop of the graph"));
-            format!("hop ({from},{label},{to})")
+            let hop = graph.hops().nth(place).expect("a hop of the graph");
+            let line = format!(", from line {}, ", hop.line);
+            assert_eq!(fault.describe(one, two, b"").contains(&line), hop.line != 0, "{fault:?} with {hop:?}");
+            format!("hop ({},{},{})", hop.from, hop.label, hop.to)
         }
     };
     let names = make::block(&mut c.random, one.labels as usize - 1, 4);
@@ -160,16 +168,22 @@ fn described(c: &mut Comparer, fault: Fault, one: &zundrafipo::Graph, two: &zund
 /// The hops of a graph and of one of its states, as hops.
 fn typed_views(c: &mut Comparer, g: &Graph) {
     let graph = lent(g);
-    let expected: Vec<Hop> = g.lent().hop_list().iter().map(|h| Hop::new(h.from as u16, h.label as u16, h.to as u16)).collect();
+    let expected: Vec<Hop> =
+        g.lent().hop_list().iter().map(|h| Hop { from: h.from as u16, label: h.label as u16, to: h.to as u16, line: h.line as u16 }).collect();
     assert_eq!(graph.hops().len(), expected.len(), "hop count of {g:?}");
-    assert_eq!(graph.hops().rev().collect::<Vec<_>>(), expected.iter().rev().copied().collect::<Vec<_>>(), "hops of {g:?}, the last first");
+    assert_eq!(whole(graph.hops().rev()), whole(expected.iter().rev().copied()), "hops of {g:?}, the last first");
     let again = zundrafipo::Graph::from_hops(g.states, g.labels, g.initial, expected.clone());
-    assert_eq!(again.flat_hops, g.hops[..3 * expected.len()], "hops of {g:?}, put together again");
+    assert_eq!(again.flat_hops, g.hops[..NUMBERS * expected.len()], "hops of {g:?}, put together again");
 
     let state = c.random.below(8) as u32;
     let shown = checker::check(&g.lent()).number == 0;
     let expected: Vec<Hop> = expected.into_iter().filter(|h| shown && u32::from(h.from) == state).collect();
-    assert_eq!(graph.hops_of(state).collect::<Vec<_>>(), expected, "hops of {state} of {g:?}");
+    assert_eq!(whole(graph.hops_of(state)), whole(expected), "hops of {state} of {g:?}");
+}
+
+/// All numbers of hops: hops themselves are compared without their lines.
+fn whole(hops: impl IntoIterator<Item = Hop>) -> Vec<[u16; NUMBERS]> {
+    hops.into_iter().map(<[u16; NUMBERS]>::from).collect()
 }
 
 /// A block put together name by name is refused where writing would refuse it.

@@ -1,17 +1,18 @@
-use crate::{find_between, first_places, hop_at, hop_count, places, refuse, sum_of, Answer, Shape, ACCEPTED, MOST_HOPS, MOST_LABELS, MOST_STATES};
+use crate::{find_between, first_places, hop_at, hop_count, places, refuse, sum_of};
+use crate::{Answer, Shape, ACCEPTED, MOST_HOPS, MOST_LABELS, MOST_STATES, NUMBERS};
 
 /// The entry check: one pass for 3, one for 4, which keeps the sum of the hop before.
 pub fn check(shape: Shape, hops: &[u16]) -> Answer {
     let states_fit = (1..=MOST_STATES as u32).contains(&shape.states);
     let labels_fit = (1..=MOST_LABELS as u32).contains(&shape.labels);
-    if !states_fit || !labels_fit || hops.len() % 3 != 0 || hop_count(hops) > MOST_HOPS {
+    if !states_fit || !labels_fit || hops.len() % NUMBERS != 0 || hop_count(hops) > MOST_HOPS {
         return refuse(1, 0);
     }
     if shape.initial >= shape.states {
         return refuse(2, 0);
     }
     let (states, labels) = (shape.states as u16, shape.labels as u16);
-    for (place, hop) in hops.chunks_exact(3).enumerate() {
+    for (place, hop) in hops.chunks_exact(NUMBERS).enumerate() {
         if hop[0] >= states || hop[1] >= labels || hop[2] >= states {
             return refuse(3, place);
         }
@@ -52,5 +53,5 @@ pub fn hops_of<'a>(side: u32, state: u32, shape1: Shape, hops1: &'a [u16], shape
         return &[];
     }
     let range = places(&first_places(shape.states as usize, hops), state as u16);
-    &hops[3 * range.start..3 * range.end]
+    &hops[NUMBERS * range.start..NUMBERS * range.end]
 }

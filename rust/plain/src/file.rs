@@ -1,4 +1,4 @@
-use crate::{check, refuse, Answer, Contents, Shape, ACCEPTED, LONGEST_FILE, MOST_HOPS};
+use crate::{check, hop_count, refuse, Answer, Contents, Shape, ACCEPTED, LONGEST_FILE, MOST_HOPS, NUMBERS};
 
 fn number_at(bytes: &[u8], place: usize) -> u16 {
     u16::from_le_bytes([bytes[place], bytes[place + 1]])
@@ -12,6 +12,8 @@ struct Layout {
     hops_place: usize,
     hops: usize,
     names_place: usize,
+    /// Where the names end and the lines begin; without lines the end.
+    lines_place: usize,
     end: usize,
     /// A bit stands over a field that holds what absence means.
     idle_bit: bool,
@@ -52,7 +54,15 @@ fn layout(file: &[u8]) -> Option<Layout> {
         idle_bit |= labels <= 1;
         at = skip_names(file, at, labels.into())?;
     }
-    Some(Layout { states, labels, initial, hops_place, hops, names_place, end: at, idle_bit })
+    let lines_place = at;
+    if file[0] & 8 != 0 {
+        if file.len() - at < 2 * hops {
+            return None;
+        }
+        at += 2 * hops;
+        idle_bit |= file[lines_place..at].iter().all(|&byte| byte == 0);
+    }
+    Some(Layout { states, labels, initial, hops_place, hops, names_place, lines_place, end: at, idle_bit })
 }
 
 /// The place behind the names for labels 1 upward; `None` where the bytes end before it.
@@ -69,10 +79,18 @@ fn skip_names(bytes: &[u8], mut at: usize, labels: usize) -> Option<usize> {
     Some(at)
 }
 
-/// The first bad name of the names that fill `bytes[start..end]`. The places of those that passed are kept in the order of the names; there they fit 16 bits: a file
-/// is no longer, and in writing 1,023 names that passed are not.
+/// The first bad name of the names that fill `bytes[start..end]`. The places of names fit 16 bits, but for those in the last thousand bytes of the longest file.
 fn first_bad_name(bytes: &[u8], start: usize, end: usize) -> Option<usize> {
-    let mut passed: Vec<u16> = vec![];
+    if end <= 1 << 16 {
+        first_bad(bytes, start, end, |place| place as u16, usize::from)
+    } else {
+        first_bad(bytes, start, end, |place| place as u32, |place| place as usize)
+    }
+}
+
+/// The places of those that passed are kept in the order of the names, each put into as few bits as it fits: most of the time is taken by moving them.
+fn first_bad<P: Copy>(bytes: &[u8], start: usize, end: usize, put: impl Fn(usize) -> P, place_of: impl Fn(P) -> usize) -> Option<usize> {
+    let mut passed: Vec<P> = vec![];
     let mut at = start;
     while at < end {
         let len = bytes[at];
@@ -80,9 +98,9 @@ fn first_bad_name(bytes: &[u8], start: usize, end: usize) -> Option<usize> {
             return Some(at);
         }
         let name = name_at(bytes, at);
-        match passed.binary_search_by(|&place| name_at(bytes, place.into()).cmp(name)) {
+        match passed.binary_search_by(|&place| name_at(bytes, place_of(place)).cmp(name)) {
             Ok(_) => return Some(at),
-            Err(gap) => passed.insert(gap, at as u16),
+            Err(gap) => passed.insert(gap, put(at)),
         }
         at += name.len();
     }
@@ -95,10 +113,13 @@ fn name_at(bytes: &[u8], place: usize) -> &[u8] {
     &bytes[place..=place + usize::from(bytes[place])]
 }
 
-/// Decodes numbers from `place` on until the list is full.
-fn take_numbers(file: &[u8], place: usize, list: &mut [u16]) {
-    for (number, bytes) in list.iter_mut().zip(file[place..].chunks_exact(2)) {
-        *number = number_at(bytes, 0);
+/// Decodes the hops, six bytes each, and their lines, two bytes each or 0 where there are none, into a list that has room for just these.
+fn take_hops(file: &[u8], layout: &Layout, list: &mut [u16]) {
+    for (hop, bytes) in list.chunks_exact_mut(NUMBERS).zip(file[layout.hops_place..].chunks_exact(6)) {
+        hop.copy_from_slice(&[number_at(bytes, 0), number_at(bytes, 2), number_at(bytes, 4), 0]);
+    }
+    for (hop, bytes) in list.chunks_exact_mut(NUMBERS).zip(file[layout.lines_place..layout.end].chunks_exact(2)) {
+        hop[3] = number_at(bytes, 0);
     }
 }
 
@@ -107,8 +128,8 @@ pub fn read(file: &[u8], hops: &mut [u16]) -> (Answer, Contents) {
     match admitted(file, hops.len()) {
         Err(refusal) => (refusal, Contents::default()),
         Ok(layout) => {
-            take_numbers(file, layout.hops_place, &mut hops[..3 * layout.hops]);
-            (ACCEPTED, contents(file, &layout))
+            take_hops(file, &layout, &mut hops[..NUMBERS * layout.hops]);
+            (ACCEPTED, contents(&layout))
         }
     }
 }
@@ -118,7 +139,7 @@ fn admitted(file: &[u8], room: usize) -> Result<Layout, Answer> {
     if file.len() > LONGEST_FILE {
         return Err(refuse(13, LONGEST_FILE));
     }
-    if !file.is_empty() && file[0] > 7 {
+    if !file.is_empty() && file[0] > 15 {
         return Err(refuse(12, 0));
     }
     let layout = layout(file).ok_or(refuse(11, file.len()))?;
@@ -128,14 +149,14 @@ fn admitted(file: &[u8], room: usize) -> Result<Layout, Answer> {
     if layout.idle_bit {
         return Err(refuse(12, 0));
     }
-    if let Some(place) = first_bad_name(file, layout.names_place, layout.end) {
+    if let Some(place) = first_bad_name(file, layout.names_place, layout.lines_place) {
         return Err(refuse(14, place));
     }
     let checked = check_copy(file, &layout);
     if checked.number != 0 {
         return Err(checked);
     }
-    if room < 3 * layout.hops {
+    if room < NUMBERS * layout.hops {
         return Err(refuse(6, 0));
     }
     Ok(layout)
@@ -146,14 +167,14 @@ fn check_copy(file: &[u8], layout: &Layout) -> Answer {
     if layout.hops > MOST_HOPS {
         return refuse(1, 0);
     }
-    let mut copy = [0; 3 * MOST_HOPS];
-    let copy = &mut copy[..3 * layout.hops];
-    take_numbers(file, layout.hops_place, copy);
+    let mut copy = [0; NUMBERS * MOST_HOPS];
+    let copy = &mut copy[..NUMBERS * layout.hops];
+    take_hops(file, layout, copy);
     check(Shape { states: layout.states.into(), labels: layout.labels.into(), initial: layout.initial.into() }, copy)
 }
 
-fn contents(file: &[u8], layout: &Layout) -> Contents {
-    let names_len = file.len() - layout.names_place;
+fn contents(layout: &Layout) -> Contents {
+    let names_len = layout.lines_place - layout.names_place;
     Contents {
         states: layout.states.into(),
         labels: layout.labels.into(),
@@ -181,12 +202,14 @@ pub fn write(shape: Shape, hops: &[u16], names: &[u8], out: &mut [u8]) -> (Answe
         }
     }
     let initial_len = if shape.initial == 0 { 0 } else { 2 };
-    let hops_len = if hops.is_empty() { 0 } else { 2 + 2 * hops.len() };
-    let len = 5 + initial_len + hops_len + names.len();
+    let hops_len = if hops.is_empty() { 0 } else { 2 + 6 * hop_count(hops) };
+    let lined = hops.chunks_exact(NUMBERS).any(|hop| hop[3] != 0);
+    let lines_len = if lined { 2 * hop_count(hops) } else { 0 };
+    let len = 5 + initial_len + hops_len + names.len() + lines_len;
     if out.len() < len {
         return (refuse(6, 0), 0);
     }
-    out[0] = u8::from(shape.initial != 0) + 2 * u8::from(!hops.is_empty()) + 4 * u8::from(!names.is_empty());
+    out[0] = u8::from(shape.initial != 0) + 2 * u8::from(!hops.is_empty()) + 4 * u8::from(!names.is_empty()) + 8 * u8::from(lined);
     put(out, 1, shape.states as u16);
     put(out, 3, shape.labels as u16);
     let mut at = 5;
@@ -195,14 +218,22 @@ pub fn write(shape: Shape, hops: &[u16], names: &[u8], out: &mut [u8]) -> (Answe
         at += 2;
     }
     if !hops.is_empty() {
-        put(out, at, (hops.len() / 3) as u16);
+        put(out, at, hop_count(hops) as u16);
         at += 2;
-        for &number in hops {
-            put(out, at, number);
-            at += 2;
+        for (hop, bytes) in hops.chunks_exact(NUMBERS).zip(out[at..].chunks_exact_mut(6)) {
+            put(bytes, 0, hop[0]);
+            put(bytes, 2, hop[1]);
+            put(bytes, 4, hop[2]);
         }
+        at += 6 * hop_count(hops);
     }
     out[at..at + names.len()].copy_from_slice(names);
+    at += names.len();
+    if lined {
+        for (hop, bytes) in hops.chunks_exact(NUMBERS).zip(out[at..].chunks_exact_mut(2)) {
+            put(bytes, 0, hop[3]);
+        }
+    }
     (ACCEPTED, len)
 }
 

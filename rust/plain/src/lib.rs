@@ -29,7 +29,10 @@ pub use shrink::shrink;
 pub const MOST_STATES: usize = 1024;
 pub const MOST_LABELS: usize = 1024;
 pub const MOST_HOPS: usize = 4096;
-pub const LONGEST_FILE: usize = 58_344;
+pub const LONGEST_FILE: usize = 66_536;
+
+/// From, label, to and line: how many numbers of a flat list a hop takes.
+pub const NUMBERS: usize = 4;
 
 /// Counts and initial state of a graph; its hops go beside it as a flat list.
 #[derive(Clone, Copy, Debug, PartialEq, Eq)]
@@ -84,30 +87,38 @@ pub struct Contents {
 
 #[inline]
 pub(crate) fn hop_count(hops: &[u16]) -> usize {
-    hops.len() / 3
+    hops.len() / NUMBERS
 }
 
 #[inline]
 pub(crate) fn from_at(hops: &[u16], place: usize) -> u16 {
-    hops[3 * place]
+    hops[NUMBERS * place]
 }
 
 #[inline]
 pub(crate) fn label_at(hops: &[u16], place: usize) -> u16 {
-    hops[3 * place + 1]
+    hops[NUMBERS * place + 1]
 }
 
 #[inline]
 pub(crate) fn to_at(hops: &[u16], place: usize) -> u16 {
-    hops[3 * place + 2]
+    hops[NUMBERS * place + 2]
 }
 
+/// From, label and to.
 #[inline]
 pub(crate) fn hop_at(hops: &[u16], place: usize) -> (u16, u16, u16) {
-    (hops[3 * place], hops[3 * place + 1], hops[3 * place + 2])
+    let hop = &hops[NUMBERS * place..NUMBERS * place + NUMBERS];
+    (hop[0], hop[1], hop[2])
 }
 
-/// A hop's sum, by which hops are compared: from, label and to, 16 bits each.
+/// The smaller of two lines that is not 0; 0 where both are. One less than no line is the highest number.
+#[inline]
+pub(crate) fn first_line(one: u16, other: u16) -> u16 {
+    one.wrapping_sub(1).min(other.wrapping_sub(1)).wrapping_add(1)
+}
+
+/// A hop's sum, by which hops are compared: from, label and to, 16 bits each. The line has no part in it.
 #[inline]
 pub(crate) fn sum_of((from, label, to): (u16, u16, u16)) -> u64 {
     (u64::from(from) << 32) | (u64::from(label) << 16) | u64::from(to)

@@ -1,5 +1,5 @@
 use crate::senses::is_sense;
-use crate::{check, first_places, label_at, places, refuse, to_at, Answer, Shape};
+use crate::{check, first_places, label_at, places, refuse, to_at, Answer, Shape, NUMBERS};
 
 /// The table of first places of a graph that is admitted and has no ring, for what goes over the graph in a sense next; else the refusal.
 pub(crate) fn ringless(shape: Shape, hops: &[u16], sense: u32) -> Result<Vec<u16>, Answer> {
@@ -33,7 +33,7 @@ fn lowest_on_ring(states: usize, hops: &[u16], first: &[u16]) -> Option<usize> {
     (0..states).filter(|&state| !ranked[state]).find(|&state| {
         reach(states, hops, first, &silent, state as u16, &mut seen, &mut queue);
         let state = state as u16;
-        hops.chunks_exact(3).any(|hop| hop[1] == 0 && hop[2] == state && seen[usize::from(hop[0])])
+        hops.chunks_exact(NUMBERS).any(|hop| hop[1] == 0 && hop[2] == state && seen[usize::from(hop[0])])
     })
 }
 
@@ -84,7 +84,7 @@ fn rank_rest(hops: &[u16], first: &[u16], ranked: &mut [bool]) {
 
 /// Whether each hop is silent.
 pub(crate) fn silent_hops(hops: &[u16]) -> Vec<bool> {
-    hops.chunks_exact(3).map(|hop| hop[1] == 0).collect()
+    hops.chunks_exact(NUMBERS).map(|hop| hop[1] == 0).collect()
 }
 
 /// Notes the states that zero or more chosen hops lead to from `start`, breadth first.

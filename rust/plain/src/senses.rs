@@ -1,6 +1,6 @@
 //! Marking in the weaker senses: repeated sweeps over the hops tried, 64 of them at a time, a bit each in one word a state.
 
-use crate::{from_at, hop_count, label_at, places, to_at, MOST_LABELS, MOST_STATES};
+use crate::{from_at, hop_count, label_at, places, to_at, MOST_LABELS, MOST_STATES, NUMBERS};
 
 /// Where a sense lets walks of marked hops stand; R1 lets none.
 #[derive(Clone, Copy)]
@@ -192,7 +192,7 @@ impl<'a> Words<'a> {
         for state in 0..self.first.len() - 1 {
             self.answers[state] = self.ends[state] & silent;
         }
-        for hop in self.hops.chunks_exact(3) {
+        for hop in self.hops.chunks_exact(NUMBERS) {
             self.answers[usize::from(hop[0])] |= self.ends[usize::from(hop[2])] & self.labels[usize::from(hop[1])];
         }
     }

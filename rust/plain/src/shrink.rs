@@ -1,5 +1,5 @@
 use crate::reduce::{admitted, marked, reduce_marked};
-use crate::{first_places, hop_count, Answer, Shape, Short, ACCEPTED};
+use crate::{first_places, hop_count, Answer, Shape, Short, ACCEPTED, NUMBERS};
 
 /// The entry shrink: the last graph, and the number of reductions that marked something. The short graph of a graph that is admitted and has no ring is so too: neither
 /// is asked again.
@@ -22,7 +22,7 @@ pub fn shrink(shape: Shape, hops: &[u16], sense: u32, map: &mut [u16], short: &m
         last = reduce_marked(shape_of(last), &now, &marks, step, &mut next);
         put_behind(map, step);
         std::mem::swap(&mut now, &mut next);
-        now.truncate(3 * last.hops as usize);
+        now.truncate(NUMBERS * last.hops as usize);
         reductions += 1;
         // R8 marks nothing of what its own reduction leaves
         if sense == 8 {

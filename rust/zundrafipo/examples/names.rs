@@ -1,4 +1,5 @@
-//! Prints the short graph of a graph file with names in the place of label numbers: `tau` for the silent label, and the number where a label has no name.
+//! Prints the short graph of a graph file with names in the place of label numbers: `tau` for the silent label, and the number where a label has no name. Lines are left
+//! out; the example `lines` is about them.
 //!
 //!     cargo run -p zundrafipo --example names [FILE]
 //!
@@ -7,7 +8,7 @@
 use zundrafipo::{read, File, Graph, Hop, NameBlock, Refusal, Sense};
 
 fn p1() -> Result<Vec<u8>, Refusal> {
-    let hops = [(0, 0, 1), (0, 1, 2), (1, 1, 3), (2, 0, 3)].map(|(from, label, to)| Hop { from, label, to });
+    let hops = [(0, 0, 1), (0, 1, 2), (1, 1, 3), (2, 0, 3)].map(|(from, label, to)| Hop::new(from, label, to));
     Graph::from_hops(4, 2, 0, hops).write(NameBlock::from_names(["pass"])?.as_bytes())
 }
 

@@ -1,4 +1,4 @@
-//! Reads a graph file from standard input and prints its short graph, with what the audit of the two says.
+//! Reads a graph file from standard input and prints its short graph, from, label, to and line of each hop, with what the audit of the two says.
 
 use std::io::Read;
 
@@ -14,7 +14,7 @@ fn main() -> Result<(), Box<dyn std::error::Error>> {
         println!("the first: {}", fault.describe(graph, &reduction.graph, file.name_block));
     }
     for hop in reduction.graph.hops() {
-        println!("{} {} {}", hop.from, hop.label, hop.to);
+        println!("{} {} {} {}", hop.from, hop.label, hop.to, hop.line);
     }
     Ok(())
 }

@@ -1,5 +1,6 @@
 //! Reduces a silent chain once and then until nothing moves, in each sense. Each reduction but that of R8 takes one state off the chain: only the first silent hop closes,
-//! for state i has a hop labelled 1 to itself where i is odd and to 0 where it is even, and one labelled 2 the other way round.
+//! for state i has a hop labelled 1 to itself where i is odd and to 0 where it is even, and one labelled 2 the other way round. Each state has a line of its own, and what
+//! is left of the chain comes from the line of the last state.
 //!
 //!     cargo run -p zundrafipo --example shrink [STATES]
 //!
@@ -11,7 +12,7 @@ fn chain(states: u16) -> Graph {
     let hops_of = |i: u16| {
         let (one, two) = if i % 2 == 1 { (i, 0) } else { (0, i) };
         let next = (i + 1 < states).then(|| Hop::new(i, 0, i + 1));
-        next.into_iter().chain([Hop::new(i, 1, one), Hop::new(i, 2, two)])
+        next.into_iter().chain([Hop::new(i, 1, one), Hop::new(i, 2, two)]).map(move |hop| hop.with_line(i + 1))
     };
     Graph::from_hops(states.into(), 3, 0, (0..states).flat_map(hops_of))
 }
@@ -23,8 +24,9 @@ fn main() -> Result<(), Box<dyn std::error::Error>> {
         let once = graph.reduce(sense)?.graph;
         let last = graph.shrink(sense)?;
         let faults = graph.audit(&last.graph, &last.map)?.faults;
+        let lines: Vec<u16> = last.graph.hops().map(|hop| hop.line).collect();
         println!(
-            "{sense}: {states} states, reduced {}, shrunk {}; reductions: {}, faults: {faults}",
+            "{sense}: {states} states, reduced {}, shrunk {}; reductions: {}, faults: {faults}, lines {lines:?}",
             once.states, last.graph.states, last.reductions
         );
     }

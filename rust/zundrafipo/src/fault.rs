@@ -6,7 +6,7 @@ use std::fmt;
 /// ```
 /// use zundrafipo::{Audit, Fault, Graph};
 ///
-/// let graph = Graph::new(2, 2, 0, vec![0, 1, 1]);
+/// let graph = Graph::new(2, 2, 0, vec![0, 1, 1, 0]);
 /// assert_eq!(graph.audit(&graph, &[0, 1])?, Audit { faults: 0, first: None });
 /// assert_eq!(graph.audit(&graph, &[1, 0])?, Audit { faults: 3, first: Some(Fault::Initial) });
 /// # Ok::<(), zundrafipo::Refusal>(())
@@ -24,12 +24,13 @@ pub struct Audit {
 /// ```
 /// use zundrafipo::{Fault, Graph};
 ///
-/// let graph = Graph::new(4, 2, 0, vec![0, 0, 1, 0, 1, 2, 1, 1, 3, 2, 0, 3]);
+/// let graph = Graph::new(4, 2, 0, vec![0, 0, 1, 0, 0, 1, 2, 0, 1, 1, 3, 0, 2, 0, 3, 0]);
 /// let map = [0, 0, 1, 1];
 /// let first = |hops| graph.audit(&Graph::new(2, 2, 0, hops), &map).map(|audit| audit.first);
-/// assert_eq!(first(vec![0, 1, 1])?, None);
+/// assert_eq!(first(vec![0, 1, 1, 0])?, None);
+/// assert_eq!(first(vec![0, 1, 1, 9])?, None);
 /// assert_eq!(first(vec![])?, Some(Fault::Lost { place: 1 }));
-/// assert_eq!(first(vec![0, 1, 1, 1, 1, 1])?, Some(Fault::MadeUp { place: 1, state: 2 }));
+/// assert_eq!(first(vec![0, 1, 1, 0, 1, 1, 1, 0])?, Some(Fault::MadeUp { place: 1, state: 2 }));
 /// # Ok::<(), zundrafipo::Refusal>(())
 /// ```
 #[derive(Clone, Copy, Debug, PartialEq, Eq, PartialOrd, Ord, Hash)]
@@ -106,14 +107,15 @@ impl Fault {
         }
     }
 
-    /// A sentence with the numbers of the hop, or of the initial states, and with the label's name where the block has one (as
-    /// [`Graph::write`] takes it; empty: no names). Of a graph that has no hop at the place it says what the fault says by itself.
+    /// A sentence with the numbers of the hop, or of the initial states, with the label's name where the block has one (as
+    /// [`Graph::write`] takes it; empty: no names) and with the hop's source line where it has one. Of a graph that has no hop at the place it says what the fault
+    /// says by itself.
     ///
     /// ```
     /// use zundrafipo::{Fault, Graph, NameBlock};
     ///
-    /// let one = Graph::new(4, 2, 0, vec![0, 0, 1, 0, 1, 2, 1, 1, 3, 2, 0, 3]);
-    /// let two = Graph::new(2, 2, 0, vec![0, 1, 1, 1, 1, 1]);
+    /// let one = Graph::new(4, 2, 0, vec![0, 0, 1, 3, 0, 1, 2, 4, 1, 1, 3, 5, 2, 0, 3, 2]);
+    /// let two = Graph::new(2, 2, 0, vec![0, 1, 1, 5, 1, 1, 1, 0]);
     /// let names = NameBlock::from_names(["pass"])?;
     /// let fault = one.audit(&two, &[0, 0, 1, 1])?.first.expect("two faults");
     /// assert_eq!(
@@ -122,7 +124,7 @@ impl Fault {
     /// );
     /// assert_eq!(
     ///     Fault::Lost { place: 0 }.describe(&one, &two, b""),
-    ///     "silent hop (0,0,1), at place 0 of graph 1, is lost: graph 2 has no such hop between what 0 and 1 are mapped to"
+    ///     "silent hop (0,0,1), from line 3, at place 0 of graph 1, is lost: graph 2 has no such hop between what 0 and 1 are mapped to"
     /// );
     /// assert_eq!(Fault::Lost { place: 9 }.describe(&one, &two, b""), Fault::Lost { place: 9 }.to_string());
     /// # Ok::<(), zundrafipo::Refusal>(())
@@ -142,13 +144,14 @@ impl Fault {
                 None => return self.to_string(),
             },
         };
-        format!("{}, at place {} of graph {graph}, is {why}", shown(hop, names), self.place())
+        let source = hop.source_line().map_or(String::new(), |line| format!(", from line {line}"));
+        format!("{}{source}, at place {} of graph {graph}, is {why}", shown(hop, names), self.place())
     }
 }
 
 /// A hop by its numbers, with its label's name where there is one. A name may hold any bytes: what is no ASCII to be printed is escaped.
 fn shown(hop: Hop, names: &[u8]) -> String {
-    let Hop { from, label, to } = hop;
+    let Hop { from, label, to, .. } = hop;
     if hop.is_silent() {
         return format!("silent hop ({from},{label},{to})");
     }

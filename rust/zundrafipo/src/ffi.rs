@@ -1,5 +1,7 @@
 //! The archive's functions as `include/zundrafipo.h` declares them.
 //!
+//! A list of hops has four numbers a hop, from, label, to and line, in what goes in and in what is written ([`NUMBERS_A_HOP`](crate::NUMBERS_A_HOP)).
+//!
 //! Each writes its answer, number, table and place and then its own figures, to `answer` and returns the number. An answer too short speaks last, as
 //! an output too short does: 6, and nothing is written at all. Lengths count elements, a pointer has that many elements behind it (beside a length of 0 it
 //! may be null), and no output may overlap anything else that is lent in the same call. The functions of the crate's root keep all that by themselves.

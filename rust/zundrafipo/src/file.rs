@@ -1,4 +1,4 @@
-use crate::{ffi, figure, judge, length, Graph, Names, Refusal, MOST_HOPS};
+use crate::{ffi, figure, judge, length, Graph, Names, Refusal, MOST_HOPS, NUMBERS_A_HOP};
 
 /// A file that was read: its graph, and its name block as a part of the bytes that were lent.
 ///
@@ -8,13 +8,18 @@ use crate::{ffi, figure, judge, length, Graph, Names, Refusal, MOST_HOPS};
 /// assert_eq!(file.name_block, b"\x01a\x02bc");
 /// assert_eq!(file.names().collect::<Vec<_>>(), [&b"a"[..], b"bc"]);
 /// assert_eq!(file.graph.write(file.name_block)?, b"\x04\x01\x00\x03\x00\x01a\x02bc");
+///
+/// // one hop, its name and its line
+/// let file = zundrafipo::read(b"\x0e\x01\x00\x02\x00\x01\x00\x00\x00\x01\x00\x00\x00\x01a\x07\x00")?;
+/// assert_eq!(file.graph, zundrafipo::Graph::new(1, 2, 0, vec![0, 1, 0, 7]));
+/// assert_eq!(file.name_block, b"\x01a");
 /// # Ok::<(), zundrafipo::Refusal>(())
 /// ```
 #[derive(Clone, Debug, PartialEq, Eq)]
 pub struct File<'a> {
     /// The graph.
     pub graph: Graph,
-    /// The name block; empty for a file without names.
+    /// The name block, which ends where the lines begin; empty for a file without names.
     pub name_block: &'a [u8],
 }
 
@@ -59,7 +64,7 @@ pub struct Figures {
     pub labels: u32,
     /// Initial state.
     pub initial: u32,
-    /// Hop count; the output holds three numbers for each.
+    /// Hop count; the output holds four numbers for each.
     pub hops: u32,
     /// The place of the name block in the file; 0 without names.
     pub names_place: usize,
@@ -67,20 +72,22 @@ pub struct Figures {
     pub names_length: usize,
 }
 
-/// Reads a graph file.
+/// Reads a graph file. The lines stand at its end, and only where some hop has one; else all are 0.
 ///
 /// ```
 /// use zundrafipo::{read, Graph};
 ///
 /// let file = read(&[2, 2, 0, 2, 0, 1, 0, 0, 0, 1, 0, 1, 0])?;
-/// assert_eq!(file.graph, Graph::new(2, 2, 0, vec![0, 1, 1]));
+/// assert_eq!(file.graph, Graph::new(2, 2, 0, vec![0, 1, 1, 0]));
+/// let file = read(&[10, 2, 0, 2, 0, 1, 0, 0, 0, 1, 0, 1, 0, 44, 1])?;
+/// assert_eq!(file.graph, Graph::new(2, 2, 0, vec![0, 1, 1, 300]));
 /// assert_eq!(read(&[]).unwrap_err().number, 11);
 /// # Ok::<(), zundrafipo::Refusal>(())
 /// ```
 pub fn read(file: &[u8]) -> Result<File<'_>, Refusal> {
-    let mut hops = vec![0; 3 * MOST_HOPS];
+    let mut hops = vec![0; NUMBERS_A_HOP * MOST_HOPS];
     let figures = read_into(file, &mut hops)?;
-    hops.truncate(3 * length(figures.hops.into()));
+    hops.truncate(NUMBERS_A_HOP * length(figures.hops.into()));
     let graph = Graph::new(figures.states, figures.labels, figures.initial, hops);
     Ok(File { graph, name_block: &file[figures.names_place..figures.names_place + figures.names_length] })
 }
@@ -88,9 +95,9 @@ pub fn read(file: &[u8]) -> Result<File<'_>, Refusal> {
 /// Reads a graph file, writing its hops to the front of `hops`; nothing past them, and nothing at all with a refusal.
 ///
 /// ```
-/// let mut hops = [9; 4];
+/// let mut hops = [9; 5];
 /// let figures = zundrafipo::read_into(&[2, 2, 0, 2, 0, 1, 0, 0, 0, 1, 0, 1, 0], &mut hops)?;
-/// assert_eq!((figures.hops, hops), (1, [0, 1, 1, 9]));
+/// assert_eq!((figures.hops, hops), (1, [0, 1, 1, 0, 9]));
 /// # Ok::<(), zundrafipo::Refusal>(())
 /// ```
 pub fn read_into(file: &[u8], hops: &mut [u16]) -> Result<Figures, Refusal> {

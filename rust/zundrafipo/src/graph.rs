@@ -1,17 +1,18 @@
-use crate::{ffi, figure, judge, length, Audit, Fault, Hop, Hops, Refusal, Sense, LONGEST_FILE, MOST_HOPS};
+use crate::{ffi, figure, judge, length, Audit, Fault, Hop, Hops, Refusal, Sense, LONGEST_FILE, MOST_HOPS, NUMBERS_A_HOP};
 use std::ops::Range;
 
 /// A mode graph: counts, initial state and one flat list of hops, which [`Graph::hops`] shows as [`Hop`]s.
 ///
-/// Nothing is asked of the numbers here; each entry checks them and refuses what is not admitted.
+/// Nothing is asked of the numbers here; each entry checks them and refuses what is not admitted. Two graphs are equal where all their numbers are, the hops' lines too.
 ///
 /// ```
 /// use zundrafipo::{Graph, Hop};
 ///
-/// let graph = Graph { states: 2, labels: 2, initial: 0, flat_hops: vec![0, 1, 1] };
+/// let graph = Graph { states: 2, labels: 2, initial: 0, flat_hops: vec![0, 1, 1, 0] };
 /// assert!(graph.check().is_ok());
-/// assert_eq!(graph, Graph::new(2, 2, 0, vec![0, 1, 1]));
-/// assert_eq!(graph, Graph::from_hops(2, 2, 0, [Hop { from: 0, label: 1, to: 1 }]));
+/// assert_eq!(graph, Graph::new(2, 2, 0, vec![0, 1, 1, 0]));
+/// assert_eq!(graph, Graph::from_hops(2, 2, 0, [Hop::new(0, 1, 1)]));
+/// assert_ne!(graph, Graph::from_hops(2, 2, 0, [Hop::new(0, 1, 1).with_line(9)]));
 /// ```
 #[derive(Clone, Debug, PartialEq, Eq, Hash)]
 pub struct Graph {
@@ -21,7 +22,7 @@ pub struct Graph {
     pub labels: u32,
     /// The initial state.
     pub initial: u32,
-    /// Three numbers a hop, from, label and to; strictly ascending, at most 4,096 hops.
+    /// Four numbers a hop: from, label, to and the line of the source that it comes from, 0 for none. Strictly ascending by the first three, at most 4,096 hops.
     pub flat_hops: Vec<u16>,
 }
 
@@ -30,7 +31,7 @@ pub struct Graph {
 /// ```
 /// use zundrafipo::{FastMarking, Graph};
 ///
-/// let FastMarking { marks, tests } = Graph::new(3, 1, 0, vec![0, 0, 1, 0, 0, 2, 1, 0, 2]).mark_fast()?;
+/// let FastMarking { marks, tests } = Graph::new(3, 1, 0, vec![0, 0, 1, 0, 0, 0, 2, 0, 1, 0, 2, 0]).mark_fast()?;
 /// assert_eq!(marks, [true, true, true]);
 /// assert_eq!(tests, 3);
 /// # Ok::<(), zundrafipo::Refusal>(())
@@ -47,12 +48,13 @@ pub struct FastMarking {
 /// Where [`Graph::find`] found a hop, or where it would stand.
 ///
 /// ```
-/// use zundrafipo::{Found, Graph, Hop};
+/// use zundrafipo::{Found, Graph, Hop, NUMBERS_A_HOP};
 ///
-/// let mut graph = Graph::new(2, 2, 0, vec![0, 1, 1]);
+/// let mut graph = Graph::new(2, 2, 0, vec![0, 1, 1, 0]);
 /// let missing = Hop::new(0, 0, 1);
 /// if let Found::Gap(place) = graph.find(missing)? {
-///     graph.flat_hops.splice(3 * place..3 * place, <[u16; 3]>::from(missing));
+///     let at = NUMBERS_A_HOP * place;
+///     graph.flat_hops.splice(at..at, <[u16; NUMBERS_A_HOP]>::from(missing));
 /// }
 /// assert_eq!(graph.find(missing)?, Found::At(0));
 /// # Ok::<(), zundrafipo::Refusal>(())
@@ -69,7 +71,7 @@ impl Graph {
     /// A graph of these numbers, its hops as a flat list, not checked yet.
     ///
     /// ```
-    /// let graph = zundrafipo::Graph::new(3, 1, 0, vec![0, 0, 1]);
+    /// let graph = zundrafipo::Graph::new(3, 1, 0, vec![0, 0, 1, 0]);
     /// assert_eq!(graph.states, 3);
     /// ```
     pub fn new(states: u32, labels: u32, initial: u32, flat_hops: Vec<u16>) -> Graph {
@@ -77,19 +79,19 @@ impl Graph {
     }
 
     /// A graph of these hops, not checked yet. They stay in the order in which they come, and one out of order is refused with 4: sort them
-    /// first, and keep each once.
+    /// first, and keep each once. Hops that differ in the line alone are the same hop.
     ///
     /// ```
     /// use zundrafipo::{Graph, Hop};
     ///
-    /// let mut hops = vec![Hop::new(1, 1, 0), Hop::new(0, 0, 1), Hop::new(1, 1, 0)];
+    /// let mut hops = vec![Hop::new(1, 1, 0).with_line(7), Hop::new(0, 0, 1), Hop::new(1, 1, 0).with_line(8)];
     /// assert_eq!(Graph::from_hops(2, 2, 0, hops.clone()).check().unwrap_err().number, 4);
     /// hops.sort();
     /// hops.dedup();
-    /// assert_eq!(Graph::from_hops(2, 2, 0, hops), Graph::new(2, 2, 0, vec![0, 0, 1, 1, 1, 0]));
+    /// assert_eq!(Graph::from_hops(2, 2, 0, hops), Graph::new(2, 2, 0, vec![0, 0, 1, 0, 1, 1, 0, 7]));
     /// ```
     pub fn from_hops(states: u32, labels: u32, initial: u32, hops: impl IntoIterator<Item = Hop>) -> Graph {
-        Graph::new(states, labels, initial, hops.into_iter().flat_map(<[u16; 3]>::from).collect())
+        Graph::new(states, labels, initial, hops.into_iter().flat_map(<[u16; NUMBERS_A_HOP]>::from).collect())
     }
 
     /// The hops, in list order; numbers past the last whole hop are left out.
@@ -97,9 +99,9 @@ impl Graph {
     /// ```
     /// use zundrafipo::{Graph, Hop};
     ///
-    /// let graph = Graph::new(3, 2, 0, vec![0, 0, 1, 1, 1, 2]);
+    /// let graph = Graph::new(3, 2, 0, vec![0, 0, 1, 0, 1, 1, 2, 0]);
     /// assert_eq!(graph.hops().len(), 2);
-    /// assert_eq!(graph.hops().find(|hop| !hop.is_silent()), Some(Hop { from: 1, label: 1, to: 2 }));
+    /// assert_eq!(graph.hops().find(|hop| !hop.is_silent()), Some(Hop::new(1, 1, 2)));
     /// ```
     pub fn hops(&self) -> Hops<'_> {
         Hops::from(&self.flat_hops[..])
@@ -110,8 +112,8 @@ impl Graph {
     /// ```
     /// use zundrafipo::{Graph, Hop};
     ///
-    /// let graph = Graph::new(3, 2, 0, vec![0, 0, 1, 1, 0, 2, 1, 1, 0]);
-    /// assert_eq!(graph.hops_of(1).as_flat(), [1, 0, 2, 1, 1, 0]);
+    /// let graph = Graph::new(3, 2, 0, vec![0, 0, 1, 0, 1, 0, 2, 5, 1, 1, 0, 6]);
+    /// assert_eq!(graph.hops_of(1).as_flat(), [1, 0, 2, 5, 1, 1, 0, 6]);
     /// assert_eq!(graph.hops_of(0).next(), Some(Hop::new(0, 0, 1)));
     /// assert_eq!(graph.hops_of(7).len(), 0);
     /// ```
@@ -120,16 +122,16 @@ impl Graph {
         Hops::from(&self.flat_hops[part_of(1, state, self, &other)])
     }
 
-    /// Looks a hop up: its place in the list, or how many hops come before it. The graph is checked as by [`Graph::check`], each time.
+    /// Looks a hop up: its place in the list, or how many hops come before it. Its line is no matter. The graph is checked as by [`Graph::check`], each time.
     ///
     /// ```
     /// use zundrafipo::{Found, Graph, Hop};
     ///
-    /// let graph = Graph::new(4, 2, 0, vec![0, 0, 1, 0, 1, 2, 1, 1, 3, 2, 0, 3]);
+    /// let graph = Graph::new(4, 2, 0, vec![0, 0, 1, 0, 0, 1, 2, 0, 1, 1, 3, 0, 2, 0, 3, 0]);
     /// assert_eq!(graph.find(Hop::new(1, 1, 3))?, Found::At(2));
     /// assert_eq!(graph.find(Hop::new(1, 1, 2))?, Found::Gap(2));
     /// assert_eq!(graph.find(Hop::new(9, 9, 9))?, Found::Gap(4));
-    /// assert_eq!(Graph::new(1, 2, 0, vec![0, 1, 1]).find(Hop::new(0, 1, 1)).unwrap_err().number, 3);
+    /// assert_eq!(Graph::new(1, 2, 0, vec![0, 1, 1, 0]).find(Hop::new(0, 1, 1)).unwrap_err().number, 3);
     /// # Ok::<(), zundrafipo::Refusal>(())
     /// ```
     pub fn find(&self, hop: Hop) -> Result<Found, Refusal> {
@@ -160,7 +162,7 @@ impl Graph {
     ///
     /// assert!(Graph::new(1024, 1, 0, vec![]).check().is_ok());
     /// assert_eq!(Graph::new(1025, 1, 0, vec![]).check().unwrap_err().number, 1);
-    /// assert_eq!(Graph::new(3, 1, 0, vec![1, 0, 0, 0, 0, 1]).check().unwrap_err().place, 1);
+    /// assert_eq!(Graph::new(3, 1, 0, vec![1, 0, 0, 0, 0, 0, 1, 0]).check().unwrap_err().place, 1);
     /// ```
     pub fn check(&self) -> Result<(), Refusal> {
         let mut answer = [0; 3];
@@ -176,16 +178,16 @@ impl Graph {
     /// ```
     /// use zundrafipo::{Graph, Sense};
     ///
-    /// let graph = Graph::new(4, 2, 0, vec![0, 0, 1, 0, 1, 2, 1, 1, 3, 2, 0, 3]);
+    /// let graph = Graph::new(4, 2, 0, vec![0, 0, 1, 0, 0, 1, 2, 0, 1, 1, 3, 0, 2, 0, 3, 0]);
     /// assert_eq!(graph.mark(Sense::R1)?, [true, false, false, true]);
     ///
-    /// let graph = Graph::new(2, 2, 0, vec![0, 1, 1, 1, 0, 0, 1, 1, 0]);
+    /// let graph = Graph::new(2, 2, 0, vec![0, 1, 1, 0, 1, 0, 0, 0, 1, 1, 0, 0]);
     /// assert_eq!(graph.mark(Sense::R1)?, [false, false, false]);
     /// assert_eq!(graph.mark(Sense::R2)?, [false, true, false]);
     /// # Ok::<(), zundrafipo::Refusal>(())
     /// ```
     pub fn mark(&self, sense: Sense) -> Result<Vec<bool>, Refusal> {
-        let mut marks = vec![0; (self.flat_hops.len() / 3).min(MOST_HOPS)];
+        let mut marks = vec![0; (self.flat_hops.len() / NUMBERS_A_HOP).min(MOST_HOPS)];
         self.mark_into(sense, &mut marks)?;
         Ok(marks.iter().map(|&mark| mark == 1).collect())
     }
@@ -196,7 +198,7 @@ impl Graph {
     /// use zundrafipo::{Graph, Sense};
     ///
     /// let mut marks = [9; 2];
-    /// Graph::new(2, 1, 0, vec![0, 0, 1]).mark_into(Sense::R8, &mut marks)?;
+    /// Graph::new(2, 1, 0, vec![0, 0, 1, 0]).mark_into(Sense::R8, &mut marks)?;
     /// assert_eq!(marks, [1, 9]);
     /// # Ok::<(), zundrafipo::Refusal>(())
     /// ```
@@ -225,14 +227,14 @@ impl Graph {
     /// ```
     /// use zundrafipo::{Graph, Sense};
     ///
-    /// let graph = Graph::new(5, 3, 0, vec![0, 0, 1, 0, 1, 2, 1, 1, 3, 2, 0, 3, 2, 2, 4]);
+    /// let graph = Graph::new(5, 3, 0, vec![0, 0, 1, 0, 0, 1, 2, 0, 1, 1, 3, 0, 2, 0, 3, 0, 2, 2, 4, 0]);
     /// let marking = graph.mark_fast()?;
     /// assert_eq!(marking.marks, graph.mark(Sense::R1)?);
     /// assert_eq!(marking.tests, 3);
     /// # Ok::<(), zundrafipo::Refusal>(())
     /// ```
     pub fn mark_fast(&self) -> Result<FastMarking, Refusal> {
-        let mut marks = vec![0; (self.flat_hops.len() / 3).min(MOST_HOPS)];
+        let mut marks = vec![0; (self.flat_hops.len() / NUMBERS_A_HOP).min(MOST_HOPS)];
         let tests = self.mark_fast_into(&mut marks)?;
         Ok(FastMarking { marks: marks.iter().map(|&mark| mark == 1).collect(), tests })
     }
@@ -243,7 +245,7 @@ impl Graph {
     /// use zundrafipo::Graph;
     ///
     /// let mut marks = [9; 2];
-    /// assert_eq!(Graph::new(2, 1, 0, vec![0, 0, 1]).mark_fast_into(&mut marks)?, 1);
+    /// assert_eq!(Graph::new(2, 1, 0, vec![0, 0, 1, 0]).mark_fast_into(&mut marks)?, 1);
     /// assert_eq!(marks, [1, 9]);
     /// # Ok::<(), zundrafipo::Refusal>(())
     /// ```
@@ -272,8 +274,8 @@ impl Graph {
     /// ```
     /// use zundrafipo::{Fault, Graph};
     ///
-    /// let graph = Graph::new(4, 2, 0, vec![0, 0, 1, 0, 1, 2, 1, 1, 3, 2, 0, 3]);
-    /// assert_eq!(graph.audit(&Graph::new(2, 2, 0, vec![0, 1, 1]), &[0, 0, 1, 1])?.faults, 0);
+    /// let graph = Graph::new(4, 2, 0, vec![0, 0, 1, 0, 0, 1, 2, 0, 1, 1, 3, 0, 2, 0, 3, 0]);
+    /// assert_eq!(graph.audit(&Graph::new(2, 2, 0, vec![0, 1, 1, 0]), &[0, 0, 1, 1])?.faults, 0);
     /// let audit = graph.audit(&Graph::new(2, 2, 0, vec![]), &[0, 0, 1, 1])?;
     /// assert_eq!((audit.faults, audit.first), (2, Some(Fault::Lost { place: 1 })));
     /// # Ok::<(), zundrafipo::Refusal>(())
@@ -308,7 +310,7 @@ impl Graph {
     /// ```
     /// use zundrafipo::Graph;
     ///
-    /// let graph = Graph::new(5, 3, 0, vec![0, 0, 1, 0, 1, 2, 1, 1, 3, 2, 0, 3, 2, 2, 4]);
+    /// let graph = Graph::new(5, 3, 0, vec![0, 0, 1, 0, 0, 1, 2, 0, 1, 1, 3, 0, 2, 0, 3, 0, 2, 2, 4, 0]);
     /// assert!(graph.survives(0, 1)?);
     /// assert!(!graph.survives(0, 2)?);
     /// assert_eq!(graph.survives(1, 0).unwrap_err().number, 9);
@@ -335,14 +337,16 @@ impl Graph {
     }
 
     /// The graph as a file, with a name block ([`NameBlock`](crate::NameBlock)): for labels 1 upward a length byte of 1 to 32 and that many bytes. An
-    /// empty block: no names.
+    /// empty block: no names. The lines stand behind the names where some hop has one.
     ///
     /// ```
     /// use zundrafipo::Graph;
     ///
-    /// let graph = Graph::new(2, 2, 0, vec![0, 1, 1]);
+    /// let graph = Graph::new(2, 2, 0, vec![0, 1, 1, 0]);
     /// assert_eq!(graph.write(b"")?, [2, 2, 0, 2, 0, 1, 0, 0, 0, 1, 0, 1, 0]);
     /// assert_eq!(graph.write(b"\x04pass")?.len(), 18);
+    /// let lined = Graph::new(2, 2, 0, vec![0, 1, 1, 300]);
+    /// assert_eq!(lined.write(b"")?, [10, 2, 0, 2, 0, 1, 0, 0, 0, 1, 0, 1, 0, 44, 1]);
     /// # Ok::<(), zundrafipo::Refusal>(())
     /// ```
     pub fn write(&self, names: &[u8]) -> Result<Vec<u8>, Refusal> {
@@ -391,10 +395,10 @@ impl Graph {
 /// ```
 /// use zundrafipo::{hops_of, Graph};
 ///
-/// let one = Graph::new(3, 2, 0, vec![0, 0, 1, 1, 0, 2, 1, 1, 0]);
-/// let two = Graph::new(1, 2, 0, vec![0, 1, 0]);
-/// assert_eq!(hops_of(1, 1, &one, &two), [1, 0, 2, 1, 1, 0]);
-/// assert_eq!(hops_of(2, 0, &one, &two), [0, 1, 0]);
+/// let one = Graph::new(3, 2, 0, vec![0, 0, 1, 0, 1, 0, 2, 5, 1, 1, 0, 6]);
+/// let two = Graph::new(1, 2, 0, vec![0, 1, 0, 0]);
+/// assert_eq!(hops_of(1, 1, &one, &two), [1, 0, 2, 5, 1, 1, 0, 6]);
+/// assert_eq!(hops_of(2, 0, &one, &two), [0, 1, 0, 0]);
 /// assert!(hops_of(3, 0, &one, &two).is_empty());
 /// ```
 pub fn hops_of<'a>(side: u32, state: u32, one: &'a Graph, two: &'a Graph) -> &'a [u16] {

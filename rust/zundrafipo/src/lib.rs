@@ -7,10 +7,11 @@
 //! ```
 //! use zundrafipo::{Graph, Sense};
 //!
-//! let graph = Graph::new(4, 2, 0, vec![0, 0, 1, 0, 1, 2, 1, 1, 3, 2, 0, 3]);
+//! // from, label, to and source line of each hop
+//! let graph = Graph::new(4, 2, 0, vec![0, 0, 1, 3, 0, 1, 2, 4, 1, 1, 3, 5, 2, 0, 3, 2]);
 //! let reduction = graph.reduce(Sense::R1)?;
 //! assert_eq!(reduction.map, [0, 0, 1, 1]);
-//! assert_eq!(reduction.graph, Graph::new(2, 2, 0, vec![0, 1, 1]));
+//! assert_eq!(reduction.graph, Graph::new(2, 2, 0, vec![0, 1, 1, 5]));
 //! assert_eq!(graph.audit(&reduction.graph, &reduction.map)?.faults, 0);
 //! # Ok::<(), zundrafipo::Refusal>(())
 //! ```
@@ -18,7 +19,8 @@
 //! Which silent hops count as confluent is said by a [`Sense`]: [`Sense::R1`] is strong confluence, and the weaker ones mark more hops. What one reduction leaves may
 //! be reduced again: [`Graph::shrink`] goes on until no hop is marked, with one map for all of it.
 //!
-//! A graph's hops are one flat list, three numbers a hop; [`Hop`] and [`Graph::hops`] are a typed view of it, and [`Graph::from_hops`] makes one of hops.
+//! A graph's hops are one flat list, four numbers a hop; [`Hop`] and [`Graph::hops`] are a typed view of it, and [`Graph::from_hops`] makes one of hops. The fourth is the
+//! line of the source that the hop comes from, 0 for none: a short hop keeps the smallest of those that it comes from ([`Graph::reduce`]), and nothing else looks at it.
 //! [`Graph::find`] says where in the list a hop stands. Where an audit counts faults it names the first of them, and a [`Fault`] says itself in words.
 //!
 //! No entry panics on what it is given: whatever is not admitted comes back as a [`Refusal`], and numbers go through unchanged.
@@ -55,8 +57,11 @@ pub const MOST_LABELS: usize = 1024;
 /// The most hops a graph can have.
 pub const MOST_HOPS: usize = 4096;
 
-/// The length of the longest legal file.
-pub const LONGEST_FILE: usize = 58_344;
+/// How many numbers of a flat list a hop takes: from, label, to and line.
+pub const NUMBERS_A_HOP: usize = 4;
+
+/// The length of the longest legal file. The program takes files of up to 65,536 bytes.
+pub const LONGEST_FILE: usize = 66_536;
 
 /// Splits an answer of an entry: its figures, or the refusal.
 fn judge<const N: usize>(number: u32, answer: [u64; N]) -> Result<[u64; N], Refusal> {

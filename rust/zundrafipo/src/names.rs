@@ -17,7 +17,7 @@ const LONGEST_NAME: usize = 32;
 /// names.push("pass")?.push("dump")?;
 /// assert_eq!(names.as_bytes(), b"\x04pass\x04dump");
 ///
-/// let file = Graph::new(2, 3, 0, vec![0, 1, 1, 0, 2, 1]).write(names.as_bytes())?;
+/// let file = Graph::new(2, 3, 0, vec![0, 1, 1, 0, 0, 2, 1, 0]).write(names.as_bytes())?;
 /// assert_eq!(read(&file)?.names().collect::<Vec<_>>(), [b"pass", b"dump"]);
 /// # Ok::<(), zundrafipo::Refusal>(())
 /// ```

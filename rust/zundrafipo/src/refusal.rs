@@ -7,7 +7,7 @@ use std::fmt;
 /// - with 5 the lowest state on a ring;
 /// - with 8 the map's length where that is wrong, else the first such entry;
 /// - with 11 the file's length;
-/// - with 13 58,344 for a file that is longer, else the first extra byte;
+/// - with 13 66,536 for a file that is longer, else the first extra byte;
 /// - with 14 the length byte of the first such name, for writing counted from the block's start; but first the length of a block that ends early, or
 ///   the first byte left over;
 /// - with every other number 0.
@@ -15,7 +15,7 @@ use std::fmt;
 /// ```
 /// use zundrafipo::{Graph, Sense};
 ///
-/// let ring = Graph::new(3, 1, 0, vec![0, 0, 1, 1, 0, 2, 2, 0, 1]);
+/// let ring = Graph::new(3, 1, 0, vec![0, 0, 1, 0, 1, 0, 2, 0, 2, 0, 1, 0]);
 /// let refusal = ring.mark(Sense::R1).unwrap_err();
 /// assert_eq!((refusal.number, refusal.table, refusal.place), (5, 1, 1));
 /// assert_eq!(refusal.to_string(), "refused with 5 (a ring of silent hops), table 1, place 1");
@@ -42,18 +42,18 @@ impl Refusal {
     /// let refusal = Graph::new(3, 1, 70_000, vec![]).check().unwrap_err();
     /// assert_eq!(refusal.meaning(), "initial state not below the state count");
     ///
-    /// let refusal = Graph::new(3, 1, 0, vec![0, 0]).check().unwrap_err();
-    /// assert_eq!(refusal.meaning(), "state, label or hop count outside its limits, or flat list length not a multiple of three");
+    /// let refusal = Graph::new(3, 1, 0, vec![0, 0, 1]).check().unwrap_err();
+    /// assert_eq!(refusal.meaning(), "state, label or hop count outside its limits, or flat list length not a multiple of four");
     /// ```
     pub fn meaning(&self) -> &'static str {
         match self.number {
-            1 => "state, label or hop count outside its limits, or flat list length not a multiple of three",
+            1 => "state, label or hop count outside its limits, or flat list length not a multiple of four",
             2 => "initial state not below the state count",
             3 => "a hop's state or label not below its count",
             4 => "a hop not above the one before",
             5 => "a ring of silent hops",
             6 => {
-                "an output shorter than: marks, one a hop; map, one a state; short hops, three a hop of the input; any other output, what it needs"
+                "an output shorter than: marks, one a hop; map, one a state; short hops, four a hop of the input; any other output, what it needs"
             }
             7 => "label counts of graphs 1 and 2 differ",
             8 => "map length not the state count of graph 1, else an entry not below the state count of graph 2",
@@ -61,9 +61,9 @@ impl Refusal {
             10 => "more than 4 rounds",
             11 => "file ends before its contents",
             12 => {
-                "bits 3 to 7 of the map byte set, or a bit over a field that holds what absence means (0, no hops, or names with label count at most 1)"
+                "bits 4 to 7 of the map byte set, or a bit over a field that holds what absence means (0, no hops, names with label count at most 1, or lines all 0)"
             }
-            13 => "file over 58,344 bytes, or bytes left over",
+            13 => "file over 66,536 bytes, or bytes left over",
             14 => {
                 "name length 0 or over 32, or a name equal to an earlier one; for writing, also a block of more or fewer names than labels 1 upward"
             }

@@ -19,7 +19,7 @@ use std::fmt;
 /// ```
 /// use zundrafipo::{Graph, Sense};
 ///
-/// let graph = Graph::new(5, 2, 0, vec![0, 0, 1, 0, 1, 2, 1, 1, 3, 2, 0, 4, 4, 0, 3]);
+/// let graph = Graph::new(5, 2, 0, vec![0, 0, 1, 0, 0, 1, 2, 0, 1, 1, 3, 0, 2, 0, 4, 0, 4, 0, 3, 0]);
 /// assert_eq!(graph.mark(Sense::R1)?, [false, false, false, true, true]);
 /// assert_eq!(graph.mark(Sense::R8)?, [true, false, false, true, true]);
 /// assert_eq!(Sense::ALL.map(|sense| graph.reduce(sense).map(|short| short.graph.states)), [Ok(3), Ok(3), Ok(3), Ok(2)]);

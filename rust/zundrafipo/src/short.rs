@@ -1,13 +1,13 @@
-use crate::{ffi, figure, judge, length, Graph, Refusal, Sense, MOST_HOPS, MOST_STATES};
+use crate::{ffi, figure, judge, length, Graph, Refusal, Sense, MOST_HOPS, MOST_STATES, NUMBERS_A_HOP};
 
 /// What [`Graph::reduce`] gives: the short graph, and the map that leads to it.
 ///
 /// ```
 /// use zundrafipo::{Graph, Reduction, Sense};
 ///
-/// let Reduction { graph, map } = Graph::new(2, 2, 1, vec![0, 0, 1, 0, 1, 0, 1, 1, 1]).reduce(Sense::R1)?;
+/// let Reduction { graph, map } = Graph::new(2, 2, 1, vec![0, 0, 1, 3, 0, 1, 0, 4, 1, 1, 1, 5]).reduce(Sense::R1)?;
 /// assert_eq!(map, [0, 0]);
-/// assert_eq!(graph, Graph::new(1, 2, 0, vec![0, 1, 0]));
+/// assert_eq!(graph, Graph::new(1, 2, 0, vec![0, 1, 0, 5]));
 /// # Ok::<(), zundrafipo::Refusal>(())
 /// ```
 #[derive(Clone, Debug, PartialEq, Eq, Hash)]
@@ -23,8 +23,8 @@ pub struct Reduction {
 /// ```
 /// use zundrafipo::{Graph, Sense, ShortFigures};
 ///
-/// let (mut map, mut short) = ([0; 2], [0; 3]);
-/// let figures = Graph::new(2, 1, 0, vec![0, 0, 1]).reduce_into(Sense::R1, &mut map, &mut short)?;
+/// let (mut map, mut short) = ([0; 2], [0; 4]);
+/// let figures = Graph::new(2, 1, 0, vec![0, 0, 1, 0]).reduce_into(Sense::R1, &mut map, &mut short)?;
 /// assert_eq!(figures, ShortFigures { states: 1, labels: 1, hops: 0, initial: 0 });
 /// # Ok::<(), zundrafipo::Refusal>(())
 /// ```
@@ -34,7 +34,7 @@ pub struct ShortFigures {
     pub states: u32,
     /// Label count.
     pub labels: u32,
-    /// Hop count; the output holds three numbers for each.
+    /// Hop count; the output holds four numbers for each.
     pub hops: u32,
     /// Initial state.
     pub initial: u32,
@@ -45,9 +45,9 @@ pub struct ShortFigures {
 /// ```
 /// use zundrafipo::{Graph, Sense, Shrinking};
 ///
-/// let Shrinking { graph, map, reductions } = Graph::new(2, 2, 1, vec![0, 0, 1, 0, 1, 0, 1, 1, 1]).shrink(Sense::R1)?;
+/// let Shrinking { graph, map, reductions } = Graph::new(2, 2, 1, vec![0, 0, 1, 3, 0, 1, 0, 4, 1, 1, 1, 5]).shrink(Sense::R1)?;
 /// assert_eq!((map, reductions), (vec![0, 0], 1));
-/// assert_eq!(graph, Graph::new(1, 2, 0, vec![0, 1, 0]));
+/// assert_eq!(graph, Graph::new(1, 2, 0, vec![0, 1, 0, 5]));
 /// # Ok::<(), zundrafipo::Refusal>(())
 /// ```
 #[derive(Clone, Debug, PartialEq, Eq, Hash)]
@@ -65,8 +65,8 @@ pub struct Shrinking {
 /// ```
 /// use zundrafipo::{Graph, Sense, ShortFigures, ShrunkFigures};
 ///
-/// let (mut map, mut last) = ([0; 2], [0; 3]);
-/// let figures = Graph::new(2, 1, 0, vec![0, 0, 1]).shrink_into(Sense::R1, &mut map, &mut last)?;
+/// let (mut map, mut last) = ([0; 2], [0; 4]);
+/// let figures = Graph::new(2, 1, 0, vec![0, 0, 1, 0]).shrink_into(Sense::R1, &mut map, &mut last)?;
 /// assert_eq!(figures, ShrunkFigures { last: ShortFigures { states: 1, labels: 1, hops: 0, initial: 0 }, reductions: 1 });
 /// # Ok::<(), zundrafipo::Refusal>(())
 /// ```
@@ -84,16 +84,23 @@ type Entry = unsafe extern "C" fn(u32, u32, u32, *const u16, usize, u32, *mut u1
 impl Graph {
     /// The short graph, in which each class of states joined by the hops that the sense marks is one state, with the map to it.
     ///
+    /// A short hop has the smallest line, 0 apart, of the hops that it comes from, and 0 where none of them has a line. Those are the hops of the class's representative
+    /// alone, the state that no marked hop leaves, and not like hops of other states of the class.
+    ///
     /// ```
     /// use zundrafipo::{Graph, Sense};
     ///
-    /// let reduction = Graph::new(3, 1, 2, vec![0, 0, 1, 0, 0, 2, 1, 0, 2]).reduce(Sense::R1)?;
+    /// let reduction = Graph::new(3, 1, 2, vec![0, 0, 1, 0, 0, 0, 2, 0, 1, 0, 2, 0]).reduce(Sense::R1)?;
     /// assert_eq!(reduction.map, [0, 0, 0]);
     /// assert_eq!(reduction.graph, Graph::new(1, 1, 0, vec![]));
     ///
-    /// let graph = Graph::new(3, 2, 0, vec![0, 0, 1, 0, 1, 0, 1, 0, 2, 2, 1, 1]);
+    /// let graph = Graph::new(3, 2, 0, vec![0, 0, 1, 0, 0, 1, 0, 0, 1, 0, 2, 0, 2, 1, 1, 0]);
     /// assert_eq!(graph.reduce(Sense::default())?.map, [0, 1, 1]);
     /// assert_eq!(graph.reduce(Sense::R3)?.map, [0, 0, 0]);
+    ///
+    /// // states 1, 2 and 3 become one, and with them the three hops of state 0
+    /// let graph = Graph::new(4, 2, 0, vec![0, 1, 1, 0, 0, 1, 2, 7, 0, 1, 3, 3, 1, 0, 3, 1, 2, 0, 3, 2]);
+    /// assert_eq!(graph.reduce(Sense::R1)?.graph, Graph::new(2, 2, 0, vec![0, 1, 1, 3]));
     /// # Ok::<(), zundrafipo::Refusal>(())
     /// ```
     pub fn reduce(&self, sense: Sense) -> Result<Reduction, Refusal> {
@@ -108,10 +115,10 @@ impl Graph {
     /// ```
     /// use zundrafipo::{Graph, Sense};
     ///
-    /// let (mut map, mut short) = ([9; 3], [9; 9]);
-    /// let figures = Graph::new(2, 2, 0, vec![0, 0, 1, 0, 1, 0, 1, 1, 1]).reduce_into(Sense::R1, &mut map, &mut short)?;
+    /// let (mut map, mut short) = ([9; 3], [9; 12]);
+    /// let figures = Graph::new(2, 2, 0, vec![0, 0, 1, 3, 0, 1, 0, 4, 1, 1, 1, 5]).reduce_into(Sense::R1, &mut map, &mut short)?;
     /// assert_eq!((map, figures.hops), ([0, 0, 9], 1));
-    /// assert_eq!(short, [0, 1, 0, 9, 9, 9, 9, 9, 9]);
+    /// assert_eq!(short, [0, 1, 0, 5, 9, 9, 9, 9, 9, 9, 9, 9]);
     /// # Ok::<(), zundrafipo::Refusal>(())
     /// ```
     pub fn reduce_into(&self, sense: Sense, map: &mut [u16], short_hops: &mut [u16]) -> Result<ShortFigures, Refusal> {
@@ -121,19 +128,20 @@ impl Graph {
 
     /// The last graph that is left when this one is reduced in the sense again and again until no hop is marked, with one map from this graph's states to it and the
     /// number of reductions that marked something. One reduction can lay bare another, but under [`Sense::R8`] there is one at the most; in every sense the number is
-    /// below this graph's state count, and the map has no faults.
+    /// below this graph's state count, and the map has no faults. Lines go by the rule of [`Graph::reduce`] in each reduction: a hop of the last graph has the smallest,
+    /// 0 apart, of this graph's hops that it comes from through all of them.
     ///
     /// ```
     /// use zundrafipo::{Graph, Sense};
     ///
     /// // a silent chain; label 1 leads from 0, 1 and 2 to 0, 1 and 0, label 2 to 0, 0 and 2
-    /// let graph = Graph::new(3, 3, 0, vec![0, 0, 1, 0, 1, 0, 0, 2, 0, 1, 0, 2, 1, 1, 1, 1, 2, 0, 2, 1, 0, 2, 2, 2]);
+    /// let graph = Graph::new(3, 3, 0, vec![0, 0, 1, 1, 0, 1, 0, 2, 0, 2, 0, 3, 1, 0, 2, 4, 1, 1, 1, 5, 1, 2, 0, 6, 2, 1, 0, 7, 2, 2, 2, 8]);
     /// assert_eq!(graph.reduce(Sense::R1)?.graph.states, 2);
     ///
     /// let shrinking = graph.shrink(Sense::R1)?;
     /// assert_eq!(shrinking.reductions, 2);
     /// assert_eq!(shrinking.map, [0, 0, 0]);
-    /// assert_eq!(shrinking.graph, Graph::new(1, 3, 0, vec![0, 1, 0, 0, 2, 0]));
+    /// assert_eq!(shrinking.graph, Graph::new(1, 3, 0, vec![0, 1, 0, 7, 0, 2, 0, 8]));
     /// assert_eq!(graph.audit(&shrinking.graph, &shrinking.map)?.faults, 0);
     ///
     /// assert_eq!(graph.shrink(Sense::R8)?.reductions, 1);
@@ -155,10 +163,10 @@ impl Graph {
     /// ```
     /// use zundrafipo::{Graph, Sense};
     ///
-    /// let (mut map, mut last) = ([9; 3], [9; 9]);
-    /// let figures = Graph::new(2, 2, 0, vec![0, 0, 1, 0, 1, 0, 1, 1, 1]).shrink_into(Sense::R1, &mut map, &mut last)?;
+    /// let (mut map, mut last) = ([9; 3], [9; 12]);
+    /// let figures = Graph::new(2, 2, 0, vec![0, 0, 1, 3, 0, 1, 0, 4, 1, 1, 1, 5]).shrink_into(Sense::R1, &mut map, &mut last)?;
     /// assert_eq!((map, figures.last.hops, figures.reductions), ([0, 0, 9], 1, 1));
-    /// assert_eq!(last, [0, 1, 0, 9, 9, 9, 9, 9, 9]);
+    /// assert_eq!(last, [0, 1, 0, 5, 9, 9, 9, 9, 9, 9, 9, 9]);
     /// # Ok::<(), zundrafipo::Refusal>(())
     /// ```
     pub fn shrink_into(&self, sense: Sense, map: &mut [u16], last_hops: &mut [u16]) -> Result<ShrunkFigures, Refusal> {
@@ -168,7 +176,7 @@ impl Graph {
 
     /// Outputs for a map and for hops, with the room that both entries ask for.
     fn room(&self) -> (Vec<u16>, Vec<u16>) {
-        (vec![0; length(self.states.into()).min(MOST_STATES)], vec![0; self.flat_hops.len().min(3 * MOST_HOPS)])
+        (vec![0; length(self.states.into()).min(MOST_STATES)], vec![0; self.flat_hops.len().min(NUMBERS_A_HOP * MOST_HOPS)])
     }
 
     fn shortened<const N: usize>(&self, entry: Entry, sense: Sense, map: &mut [u16], hops: &mut [u16]) -> Result<[u64; N], Refusal> {
@@ -201,7 +209,7 @@ impl ShortFigures {
 
     /// The graph whose hops are at the front of an output.
     fn graph(self, mut output: Vec<u16>) -> Graph {
-        output.truncate(3 * length(self.hops.into()));
+        output.truncate(NUMBERS_A_HOP * length(self.hops.into()));
         Graph::new(self.states, self.labels, self.initial, output)
     }
 }

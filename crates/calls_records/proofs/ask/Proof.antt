@@ -46,6 +46,7 @@ use denote.Triple.Walked.{needs, Stays, stay-dropped, gave-slice, walkOf, goes-d
 use denote.Exit.{yes}
 use Rattle.graph.specs.declared.Answer.{Answer}
 use Rattle.graph.specs.declared.Shape.{Shape}
+use Rattle.graph.specs.Hops.{numbers-a-hop}
 use Rattle.graph.specs.declared.Hop.{Hop}
 use Rattle.graph.proofs.Answer as R
 use Rattle.graph.proofs.Answer.Laws as R′
@@ -79,9 +80,9 @@ list-ty = tyArray (lone (T.the-row .mir)) 4097
 
 -- at most 4,097 records have room
 room-for : (n : ℕ) → n ≤ 4097 → Room T.the-row n
-room-for n few = (omega arith, six) where
-  six : n * 6 < 2 ^ 63
-  six = omega arith
+room-for n few = (omega arith, bytes) where
+  bytes : n * (2 * numbers-a-hop) < 2 ^ 63
+  bytes = omega arith
 
 module _ {M : Type 1} (𝓤 : URA M) (H : Heap 𝓤) (A : Atoms 𝓤) (mem : Memory → SProp 𝓤) (run : Routine → Fun 𝓤) where
   -- the contracts of the callees

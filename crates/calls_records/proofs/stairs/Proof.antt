@@ -1,55 +1,30 @@
 -- `calls_records::stairs` is safe and ends. Assumes nothing.
 use borrow.Author.Needs.{needs}
-use Prim.Native.Nat.{_≤_, _-_}
+use Prim.Native.Nat.{_+_, _≤_, _-_}
 use lib.ListN.{length}
 use mathlib.Core.Path.{_≡_}
+use Rattle.graph.specs.Hops.{numberPlace}
+use Rattle.graph.specs.Answers.{most-hops}
 use Rattle.calls_records.proofs.stairs.Statement.{statement}
 use Rattle.calls_records.proofs.stairs.Tie as tie
 
 abbrev Inv-loop : tie.InvT-loop
-Inv-loop nums₀ i₀ nums i = (i ≤ 4097) × (length nums ≡ 12291)
+Inv-loop nums₀ i₀ nums i = (i ≤ most-hops + 1) × (length nums ≡ numberPlace (most-hops + 1))
 
 abbrev μ-loop : tie.MeasureT-loop
-μ-loop nums₀ i₀ nums i = 4097 - i
+μ-loop nums₀ i₀ nums i = most-hops + 1 - i
 
 loop-holds : tie.Need-loop-holds Inv-loop μ-loop
 loop-holds c = search needs
 
+slice-aggregate-put-hop : tie.Need-slice-aggregate-put-hop Inv-loop μ-loop
+slice-aggregate-put-hop c = search needs
+
 stair-requires : tie.Need-stair-requires Inv-loop μ-loop
 stair-requires c κs = search needs
 
-mul-nums : tie.Need-mul-nums Inv-loop μ-loop
-mul-nums c = search needs
-
-mul-nums-2 : tie.Need-mul-nums-2 Inv-loop μ-loop
-mul-nums-2 c = search needs
-
-array-write-nums : tie.Need-array-write-nums Inv-loop μ-loop
-array-write-nums c = search needs
-
-mul-nums-3 : tie.Need-mul-nums-3 Inv-loop μ-loop
-mul-nums-3 c = search needs
-
-add-nums : tie.Need-add-nums Inv-loop μ-loop
-add-nums c = search needs
-
-mul-nums-4 : tie.Need-mul-nums-4 Inv-loop μ-loop
-mul-nums-4 c = search needs
-
-array-write-nums-2 : tie.Need-array-write-nums-2 Inv-loop μ-loop
-array-write-nums-2 c = search needs
-
-mul-nums-5 : tie.Need-mul-nums-5 Inv-loop μ-loop
-mul-nums-5 c = search needs
-
-add-nums-2 : tie.Need-add-nums-2 Inv-loop μ-loop
-add-nums-2 c = search needs
-
-mul-nums-6 : tie.Need-mul-nums-6 Inv-loop μ-loop
-mul-nums-6 c = search needs
-
-array-write-nums-3 : tie.Need-array-write-nums-3 Inv-loop μ-loop
-array-write-nums-3 c = search needs
+put-hop-requires : tie.Need-put-hop-requires Inv-loop μ-loop
+put-hop-requires c κs = search needs
 
 add-i : tie.Need-add-i Inv-loop μ-loop
 add-i c = search needs
@@ -70,18 +45,9 @@ stairs-spec =
     Inv-loop
     μ-loop
     loop-holds
+    slice-aggregate-put-hop
     stair-requires
-    mul-nums
-    mul-nums-2
-    array-write-nums
-    mul-nums-3
-    add-nums
-    mul-nums-4
-    array-write-nums-2
-    mul-nums-5
-    add-nums-2
-    mul-nums-6
-    array-write-nums-3
+    put-hop-requires
     add-i
     loop-less
     loop-again

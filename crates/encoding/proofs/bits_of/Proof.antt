@@ -1,5 +1,5 @@
--- `encoding::bits_of` meets its contract: the code is the definition. Assumes nothing.
-use Rattle.encoding.specs.Encode.{bitsOf}
+-- `encoding::bits_of` meets its contract: the sum of the bits. Assumes nothing.
+use Rattle.encoding.proofs.Encoded.{bits-sum}
 use borrow.Author.Needs.{needs}
 use Rattle.encoding.proofs.bits_of.Statement.{statement}
 use Rattle.encoding.proofs.bits_of.Tie as tie
@@ -16,15 +16,22 @@ bit-of-requires-2 c κs = search needs
 bit-of-requires-3 : tie.Need-bit-of-requires-3
 bit-of-requires-3 c κs = search needs
 
+bit-of-requires-4 : tie.Need-bit-of-requires-4
+bit-of-requires-4 c κs = search needs
+
 add-result : tie.Need-add-result
 add-result c = search needs
 
 add-result-2 : tie.Need-add-result-2
 add-result-2 c = search needs
 
+add-result-3 : tie.Need-add-result-3
+add-result-3 c = search needs
+
 returns : tie.Need-returns
-unfolding bitsOf
-returns c = cc
+returns c =
+    let st = c .before .before .before .before .before .before .before .before in
+    bits-sum (st .args .shape) (st .args .hops .now) (st .args .names .now) (c .before .before .before .before .before .hop-count .ensures) (c .before .before .before .bit-of .ensures .0) (c .before .before .bit-of2 .ensures .0) (c .before .bit-of3 .ensures .0) (c .bit-of4 .ensures .0) (st .pre)
 
 pub bits-of-spec : {M : Type 1} → statement M
 bits-of-spec =
@@ -34,6 +41,8 @@ bits-of-spec =
     bit-of-requires
     bit-of-requires-2
     bit-of-requires-3
+    bit-of-requires-4
     add-result
     add-result-2
+    add-result-3
     returns)

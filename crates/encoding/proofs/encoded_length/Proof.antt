@@ -1,6 +1,6 @@
 -- `encoding::encoded_length` meets its contract: the sum of the parts' lengths. Assumes nothing.
 use native.Mathlib.Omega.{arith}
-use Rattle.encoding.proofs.Encoded.{initial-most, hop-bytes-most, length-encode}
+use Rattle.encoding.proofs.Encoded.{initial-most, hop-bytes-most, line-bytes-most, length-encode}
 use borrow.Author.Needs.{needs}
 use Rattle.encoding.proofs.encoded_length.Statement.{statement}
 use Rattle.encoding.proofs.encoded_length.Tie as tie
@@ -11,17 +11,29 @@ initial-length-requires c κs = search needs
 hops-length-requires : tie.Need-hops-length-requires
 hops-length-requires c κs = search needs
 
+lines-bytes-requires : tie.Need-lines-bytes-requires
+lines-bytes-requires c κs = search needs
+
 add-result : tie.Need-add-result
-add-result c = omega (arith, hop-bytes-most (c .before .before .before .before .args .hops .now))
+add-result c = omega (arith, line-bytes-most (c .before .before .before .before .before .args .hops .now))
 
 add-result-2 : tie.Need-add-result-2
-add-result-2 c = omega (arith, initial-most (c .before .before .before .before .args .shape), hop-bytes-most (c .before .before .before .before .args .hops .now))
+add-result-2 c = let st = c .before .before .before .before .before in omega (arith, hop-bytes-most (st .args .hops .now), line-bytes-most (st .args .hops .now))
 
 add-result-3 : tie.Need-add-result-3
-add-result-3 c = omega (arith, initial-most (c .before .before .before .before .args .shape), hop-bytes-most (c .before .before .before .before .args .hops .now))
+add-result-3 c =
+    let st = c .before .before .before .before .before in
+    omega (arith, initial-most (st .args .shape), hop-bytes-most (st .args .hops .now), line-bytes-most (st .args .hops .now))
+
+add-result-4 : tie.Need-add-result-4
+add-result-4 c =
+    let st = c .before .before .before .before .before in
+    omega (arith, initial-most (st .args .shape), hop-bytes-most (st .args .hops .now), line-bytes-most (st .args .hops .now))
 
 returns : tie.Need-returns
-returns c = omega (arith, length-encode (c .before .before .before .before .args .shape) (c .before .before .before .before .args .hops .now) (c .before .before .before .before .args .names .now))
+returns c =
+    let st = c .before .before .before .before .before in
+    omega (arith, length-encode (st .args .shape) (st .args .hops .now) (st .args .names .now))
 
 pub encoded-length-spec : {M : Type 1} → statement M
 encoded-length-spec =
@@ -29,7 +41,9 @@ encoded-length-spec =
     (tie.spec
     initial-length-requires
     hops-length-requires
+    lines-bytes-requires
     add-result
     add-result-2
     add-result-3
+    add-result-4
     returns)

@@ -22,6 +22,9 @@ has-hops-requires c κs = search needs
 has-names-requires : tie.Need-has-names-requires
 has-names-requires c κs = search needs
 
+idle-lines-requires : tie.Need-idle-lines-requires
+idle-lines-requires c κs = search needs
+
 returns : tie.Need-returns
 unfolding idleBit
 returns c = cc
@@ -36,4 +39,5 @@ idle-bit-spec =
     has-initial-requires
     has-hops-requires
     has-names-requires
+    idle-lines-requires
     returns)

@@ -1,7 +1,8 @@
 -- `format::format_answer` meets its contract: each way out is a case of the definition. Assumes nothing.
 use mathlib.Core.Path.{_∙_}
 use native.Mathlib.Omega.{arith}
-use Rattle.format.proofs.Answers.{over-length, high-bits, place-early, rest-part}
+use Rattle.format.proofs.Answers.{over-length, high-bits, place-early}
+use Rattle.fields.proofs.Laws.{rest-part}
 use borrow.Author.Needs.{needs}
 use Rattle.format.proofs.format_answer.Statement.{statement}
 use Rattle.format.proofs.format_answer.Tie as tie

@@ -24,6 +24,12 @@ new-to-at-requires c κs = search needs
 cast-to : tie.Need-cast-to
 cast-to c = search needs
 
+line-at-requires : tie.Need-line-at-requires
+line-at-requires c κs = search needs
+
+cast-source : tie.Need-cast-source
+cast-source c = search needs
+
 slice-aggregate-put-line : tie.Need-slice-aggregate-put-line
 slice-aggregate-put-line c = search needs
 
@@ -32,8 +38,8 @@ slice-aggregate-put-line-2 c = search needs
 
 put-line-requires : tie.Need-put-line-requires
 put-line-requires c κs =
-    let s = c .before .before .before .before .before .before .before .before .before .before .before in
-    let e = hop-parts (s .args .short .now) (s .args .i) (c .before .before .before .before .before .before .before .before .new-from-at .ensures) (c .before .before .before .before .before .before .label-at .ensures) (c .before .before .before .before .new-to-at .ensures) in
+    let s = c .before .before .before .before .before .before .before .before .before .before .before .before in
+    let e = hop-parts (s .args .short .now) (s .args .i) (c .before .before .before .before .before .before .before .before .before .new-from-at .ensures) (c .before .before .before .before .before .before .before .label-at .ensures) (c .before .before .before .before .before .new-to-at .ensures) (c .before .before .before .line-at .ensures) in
     room-same e (s .pre .1)
 
 same-length : tie.Need-same-length
@@ -41,8 +47,8 @@ same-length c = search needs
 
 returns : tie.Need-returns
 returns c =
-    let s = c .before .before .before .before .before .before .before .before .before .before .before .before .before .before in
-    let e = hop-parts (s .args .short .now) (s .args .i) (c .before .before .before .before .before .before .before .before .before .before .before .new-from-at .ensures) (c .before .before .before .before .before .before .before .before .before .label-at .ensures) (c .before .before .before .before .before .before .before .new-to-at .ensures) in
+    let s = c .before .before .before .before .before .before .before .before .before .before .before .before .before .before .before in
+    let e = hop-parts (s .args .short .now) (s .args .i) (c .before .before .before .before .before .before .before .before .before .before .before .before .new-from-at .ensures) (c .before .before .before .before .before .before .before .before .before .before .label-at .ensures) (c .before .before .before .before .before .before .before .before .new-to-at .ensures) (c .before .before .before .before .before .before .line-at .ensures) in
     put-same (sym e) (c .before .before .put-line .ensures)
 
 pub put-hop-line-spec : {M : Type 1} → statement M
@@ -55,6 +61,8 @@ put-hop-line-spec =
     cast-label
     new-to-at-requires
     cast-to
+    line-at-requires
+    cast-source
     slice-aggregate-put-line
     slice-aggregate-put-line-2
     put-line-requires

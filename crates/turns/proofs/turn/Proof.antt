@@ -51,7 +51,7 @@ reduce-marked-requires c κs =
     let red = seen-reducible q (st .pre .0) in
     let marked = c .before .before .before .before .before .look .ensures .1 in
     let many = red .admitted .hops-most in
-    (red .admitted, (held-settles red _, (left-marks (st .args .at .shape) _ _ _ _ marked (omega (arith, many)), (red .admitted .states-most, omega (arith, many, red .admitted .three-a-hop)))))
+    (red .admitted, (held-settles red _, (left-marks (st .args .at .shape) _ _ _ _ marked (omega (arith, many)), (red .admitted .states-most, omega (arith, many, red .admitted .whole-hops)))))
 
 cast-states : tie.Need-cast-states
 cast-states c = search needs

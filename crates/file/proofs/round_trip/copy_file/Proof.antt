@@ -4,7 +4,7 @@ use mathlib.Core.Path.{_≡_, _∙_}
 use native.Mathlib.Omega.{arith}
 use mathlib.Core.List.{List}
 use lib.ListN.{length, replicate, length-replicate}
-use Rattle.file.specs.RoundTrip.{most-numbers}
+use Rattle.graph.specs.Answers.{most-numbers}
 use Rattle.file.proofs.Both.{copy-unread, found-hops, found-block, copy-gives}
 use borrow.Author.Needs.{needs}
 use Rattle.file.proofs.round_trip.copy_file.Statement.{statement}

@@ -38,6 +38,18 @@ mul-hops-6 c = search needs
 slice-write-hops-3 : tie.Need-slice-write-hops-3
 slice-write-hops-3 c = simp length-set (omega arith)
 
+mul-hops-7 : tie.Need-mul-hops-7
+mul-hops-7 c = search needs
+
+add-hops-3 : tie.Need-add-hops-3
+add-hops-3 c = search needs
+
+mul-hops-8 : tie.Need-mul-hops-8
+mul-hops-8 c = search needs
+
+slice-write-hops-4 : tie.Need-slice-write-hops-4
+slice-write-hops-4 c = simp length-set (omega arith)
+
 same-length : tie.Need-same-length
 same-length c = search needs
 
@@ -59,5 +71,9 @@ put-hop-spec =
     add-hops-2
     mul-hops-6
     slice-write-hops-3
+    mul-hops-7
+    add-hops-3
+    mul-hops-8
+    slice-write-hops-4
     same-length
     returns)

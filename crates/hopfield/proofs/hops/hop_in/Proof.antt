@@ -28,8 +28,11 @@ add-number-in-2 c = search needs
 number-in-requires-3 : tie.Need-number-in-requires-3
 number-in-requires-3 c κs = search needs
 
-hop-of-requires : tie.Need-hop-of-requires
-hop-of-requires c κs = search needs
+line-in-requires : tie.Need-line-in-requires
+line-in-requires c κs = search needs
+
+lined-hop-requires : tie.Need-lined-hop-requires
+lined-hop-requires c κs = search needs
 
 returns : tie.Need-returns
 unfolding hopFrom
@@ -47,5 +50,6 @@ hop-in-spec =
     number-in-requires-2
     add-number-in-2
     number-in-requires-3
-    hop-of-requires
+    line-in-requires
+    lined-hop-requires
     returns)

@@ -3,16 +3,17 @@ use Prim.Native.Nat.{_+_, _*_, _-_, _≤_}
 use mathlib.Core.Path.{_≡_, refl}
 use native.Mathlib.Omega.{arith}
 use lib.ListN.{length}
-use Rattle.graph.specs.Hops.{count, front}
+use Rattle.graph.specs.Hops.{count}
 use Rattle.outputs.specs.Output.{overAt}
-use Rattle.hopfield.specs.Field.{bytes-a-hop, bytesOf}
-use Rattle.hopfield.proofs.Field.{hops-none, hops-more, hops-done}
+use Rattle.numbers.specs.Parts.{parts}
+use Rattle.hopfield.specs.Field.{bytes-a-hop}
+use Rattle.hopfield.proofs.Field.{hopBytesAt, hops-none, hops-more, hops-done}
 use borrow.Author.Needs.{needs}
 use Rattle.hopfield.proofs.hops.put_each_hop.Statement.{statement}
 use Rattle.hopfield.proofs.hops.put_each_hop.Tie as tie
 
 abbrev Inv-loop : tie.InvT-loop
-Inv-loop out₀ at hops n i₀ out i = (out ≡ overAt at (bytesOf (front i hops)) out₀) × (length out ≡ length out₀) × (i ≤ n) × (n ≡ count hops) × (at + bytes-a-hop * count hops ≤ length out₀)
+Inv-loop out₀ at hops n i₀ out i = (out ≡ overAt at (parts i (hopBytesAt hops)) out₀) × (length out ≡ length out₀) × (i ≤ n) × (n ≡ count hops) × (at + bytes-a-hop * count hops ≤ length out₀)
 
 abbrev μ-loop : tie.MeasureT-loop
 μ-loop out₀ at hops n i₀ out i = n - i

@@ -1,4 +1,4 @@
--- `hopfield::hops::put_hop_bytes` meets its contract: three numbers, one after the other. Assumes nothing.
+-- `hopfield::hops::put_hop_bytes` meets its contract: its first three numbers, one after the other. Assumes nothing.
 use Rattle.hopfield.proofs.Field.{hop-put}
 use borrow.Author.Needs.{needs}
 use Rattle.hopfield.proofs.hops.put_hop_bytes.Statement.{statement}

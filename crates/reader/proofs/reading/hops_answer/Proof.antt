@@ -1,6 +1,7 @@
 -- `reader::reading::hops_answer` meets its contract: what is checked is the list that stands in the file. Assumes nothing.
 use mathlib.Core.Path.{_∙_}
 use native.Mathlib.Omega.{arith}
+use Rattle.fields.proofs.Laws.{names-before-end, lines-lie}
 use Rattle.reader.proofs.Entry.{graph-many, hops-lie, graph-copied}
 use borrow.Author.Needs.{needs}
 use Rattle.reader.proofs.reading.hops_answer.Statement.{statement}
@@ -21,11 +22,17 @@ returns c = c .refuse .ensures ∙ graph-many _ (c .before .before .hops-in .ens
 hops-place-requires : tie.Need-hops-place-requires
 hops-place-requires c κs = search needs
 
+lines-in-requires : tie.Need-lines-in-requires
+lines-in-requires c κs = omega (arith, names-before-end (c .before .before .before .before .args .file .now))
+
 slice-aggregate-take-hops : tie.Need-slice-aggregate-take-hops
 slice-aggregate-take-hops c = search needs
 
 take-hops-requires : tie.Need-take-hops-requires
-take-hops-requires c κs = (hops-lie _ (c .before .before .before .before .before .pre) (c .before .hops-place .ensures) (c .before .before .before .hops-in .ensures), omega arith)
+take-hops-requires c κs =
+    let b = c .before .before .before .before .before .before .args .file .now in
+    let n = c .before .before .before .before .hops-in .ensures in
+    (hops-lie b (omega (arith, names-before-end b)) (c .before .before .hops-place .ensures) n, (lines-lie b (c .before .before .before .before .before .before .pre) (c .before .lines-in .ensures) n, omega arith))
 
 number-place-requires : tie.Need-number-place-requires
 number-place-requires c κs = search needs
@@ -48,7 +55,7 @@ check-requires c κs = search needs
 returns-2 : tie.Need-returns-2
 returns-2 c =
     c .check .ensures ∙
-    graph-copied _ (c .before .before .before .before .before .before .before .before .hops-place .ensures) (c .before .before .before .before .before .before .before .before .before .before .hops-in .ensures) _ _ (c .before .before .before .before .before .before .take-hops .ensures) (c .before .before .before .shape-in .ensures) (c .before .before .before .before .number-place .ensures)
+    graph-copied _ (c .before .before .before .before .before .before .before .before .before .hops-place .ensures) (c .before .before .before .before .before .before .before .before .lines-in .ensures) (c .before .before .before .before .before .before .before .before .before .before .before .hops-in .ensures) _ _ (c .before .before .before .before .before .before .take-hops .ensures) (c .before .before .before .shape-in .ensures) (c .before .before .before .before .number-place .ensures)
 
 pub hops-answer-spec : {M : Type 1} → statement M
 hops-answer-spec =
@@ -59,6 +66,7 @@ hops-answer-spec =
     refuse-requires
     returns
     hops-place-requires
+    lines-in-requires
     slice-aggregate-take-hops
     take-hops-requires
     number-place-requires

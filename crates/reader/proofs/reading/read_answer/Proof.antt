@@ -3,7 +3,7 @@ use mathlib.Core.Path.{sym, ap, _∙_}
 use native.Mathlib.Omega.{arith}
 use Rattle.graph.specs.Hops.{numberPlace}
 use Rattle.graph.specs.declared.Answer.{Answer}
-use Rattle.format.proofs.Sound.{format-sound, names-within}
+use Rattle.format.proofs.Sound.{format-sound}
 use Rattle.reader.proofs.Entry.{graph-few, format-speaks, graph-speaks, room-speaks, none-speaks}
 use borrow.Author.Needs.{needs}
 use Rattle.reader.proofs.reading.read_answer.Statement.{statement}
@@ -16,7 +16,9 @@ returns : tie.Need-returns
 returns c = format-speaks _ _ (c .before .before .format-answer .ensures) (c .if1 .taken)
 
 hops-answer-requires : tie.Need-hops-answer-requires
-hops-answer-requires c κs = names-within _ (format-sound _ (ap (λ (x : Answer). x .number) (sym (c .before .before .format-answer .ensures)) ∙ c .if1 .left))
+hops-answer-requires c κs =
+    let s = format-sound _ (ap (λ (x : Answer). x .number) (sym (c .before .before .format-answer .ensures)) ∙ c .if1 .left) in
+    omega (arith, s .exact)
 
 returns-2 : tie.Need-returns-2
 returns-2 c = graph-speaks _ _ (c .before .before .before .before .before .format-answer .ensures) (c .before .before .before .if1 .left) (c .before .before .hops-answer .ensures) (c .if2 .taken)

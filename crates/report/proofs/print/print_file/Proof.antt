@@ -11,8 +11,8 @@ returns c =
     let e = shown-none _ (printedOf (c .before .before .before .args .file .now)) (c .if1 .taken) in
     (rw e, (rw e, omega arith))
 
-print-contents-requires : tie.Need-print-contents-requires
-print-contents-requires c κs = search needs
+print-input-requires : tie.Need-print-input-requires
+print-input-requires c κs = search needs
 
 same-length : tie.Need-same-length
 same-length c = search needs
@@ -20,8 +20,8 @@ same-length c = search needs
 returns-2 : tie.Need-returns-2
 returns-2 c =
     let e = shown-whole _ (printedOf (c .before .before .before .before .before .before .before .args .file .now)) (c .before .before .before .before .if1 .left) in
-    let p = c .before .before .print-contents .ensures in
+    let p = c .before .before .print-input .ensures in
     (rw e (front-length p), (rw e (front-stands p), front-within p))
 
 pub print-file-spec : {M : Type 1} → statement M
-print-file-spec = tie.close (tie.spec returns print-contents-requires same-length returns-2)
+print-file-spec = tie.close (tie.spec returns print-input-requires same-length returns-2)

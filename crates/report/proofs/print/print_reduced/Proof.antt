@@ -36,7 +36,7 @@ reduce-marked-requires c κs =
     let st = c .before .before .before .before .before .before .before .before in
     let red = st .pre .0 in
     let e = c .before .before .before .before .mark-rounds .ensures .1 in
-    (red .admitted, (held-settles red _, (left-marks (st .args .shape) _ _ _ _ e (omega (arith, red .admitted .hops-most)), (omega (arith, red .admitted .states-most), omega (arith, red .admitted .hops-most, red .admitted .three-a-hop)))))
+    (red .admitted, (held-settles red _, (left-marks (st .args .shape) _ _ _ _ e (omega (arith, red .admitted .hops-most)), (omega (arith, red .admitted .states-most), omega (arith, red .admitted .hops-most, red .admitted .whole-hops)))))
 
 slice-aggregate-put-report : tie.Need-slice-aggregate-put-report
 slice-aggregate-put-report c = search needs
@@ -61,7 +61,7 @@ put-report-requires c κs =
     let red = st .pre .0 in
     let e = c .before .before .before .before .before .before .before .before .before .before .before .before .before .mark-rounds .ensures .1 in
     let r = c .before .before .before .before .before .before .before .before .reduce-marked .ensures in
-    (omega (arith, red .admitted .hops-most), (omega (arith, red .admitted .states-most), (red .admitted .states-most, room-same (sym (reduced-lines red (reduced-marks red (replicate most-hops 0) e) (reduced-map red (replicate most-hops 0) e (replicate most-states 0) (r .1 .0)) (reduced-shape red (replicate most-hops 0) e (r .0)) (reduced-short red (replicate most-hops 0) e (r .0) (replicate most-numbers 0) (r .1 .1) (c .before .part .ensures .0)))) (text-room (report-most red) (st .pre .1 .1)))))
+    (omega (arith, red .admitted .hops-most), (omega (arith, red .admitted .states-most), (red .admitted .states-most, room-same (sym (reduced-lines red (reduced-marks red (replicate most-hops 0) e) (reduced-map red (replicate most-hops 0) e (replicate most-states 0) (r .1 .0)) (reduced-shape red (replicate most-hops 0) e (r .0)) (reduced-short red (replicate most-hops 0) e (r .0) (replicate most-numbers 0) (r .1 .1) (c .before .part .ensures .0)))) (text-room (report-most red (λ i. omega (arith, c .before .before .before .before .before .before .before .before .before .before .before .before .before .before .before .before .shared-slice-known .given i))) (st .pre .1 .1)))))
 
 same-length : tie.Need-same-length
 same-length c = search needs

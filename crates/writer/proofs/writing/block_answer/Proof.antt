@@ -25,7 +25,7 @@ slice-aggregate-first-bad : tie.Need-slice-aggregate-first-bad
 slice-aggregate-first-bad c = search needs
 
 first-bad-requires : tie.Need-first-bad-requires
-first-bad-requires c κs = block-searchable _ _ (c .before .before .before .end-of .ensures) (omega arith) (c .before .before .before .before .before .pre) (omega (arith, c .before .before .before .before .before .pre))
+first-bad-requires c κs = block-searchable _ _ (c .before .before .before .end-of .ensures) (omega arith) (omega (arith, c .before .before .before .before .before .pre))
 
 refuse-requires-3 : tie.Need-refuse-requires-3
 refuse-requires-3 c κs = search needs

@@ -1,0 +1,1 @@
+pub mod LineField  -- the list of lines: its length, its lines, its bytes

@@ -1,0 +1,1 @@
+pub mod Lines  -- the smaller of two source lines that is not 0, and the smallest of many

@@ -1,0 +1,64 @@
+-- What is asked of a hop looks at no line: of graphs that differ in lines alone the round question and find answer the same, and the faster marking takes as
+-- many tests. Assumes nothing.
+use Prim.Native.Nat.{ℕ, zero, suc}
+use mathlib.Core.Path.{_≡_}
+use mathlib.Core.Bool.{not, _&&_}
+use mathlib.Core.List.{List}
+use lib.Dec.{eqb}
+use Rattle.below.specs.Tests.{any, tally, total}
+use Rattle.graph.specs.Hops.{hopOf}
+use Rattle.graph.specs.declared.Shape.{Shape}
+use Rattle.graph.proofs.Ordered.{alike-itself, before-alike}
+use Rattle.finding.specs.Finding.{hopsBefore, findOf}
+use Rattle.shrinking.specs.Pairs.{Pairs}
+use Rattle.due.specs.Due.{fell, standing, reached, shaken, due, testsIn, testsUpTo, testsOf}
+use Rattle.fast.specs.Fast.{countedOf}
+use Rattle.rounds.specs.Question.{silentPlace, questionAnswer, questionOf}
+use Rattle.unlined.specs.Unlined.{Unlined}
+use Rattle.unlined.proofs.Checks.{count-same, from-same, label-same, to-same, has-same, check-same}
+use Rattle.unlined.proofs.Marking.{answers-same, survives-same, mark-answer-same}
+
+module _ {hs hs' : List ℕ} (un : Unlined hs hs') where
+  -- where a hop would stand
+  before-same : (s a t : ℕ) → hopsBefore hs s a t ≡ hopsBefore hs' s a t
+  unfolding hopsBefore
+  before-same s a t = λ d. tally (count-same un d) (λ (i : ℕ). before-alike (un .alike i) (alike-itself (hopOf s a t)) d)
+
+  pub find-same : (sh : Shape) (s a t : ℕ) → findOf sh hs s a t ≡ findOf sh hs' s a t
+  unfolding findOf
+  find-same sh s a t = rw (check-same un sh, has-same un, before-same s a t)
+
+  question-answer-same : (sh : Shape) (i k : ℕ) → questionAnswer sh hs i k ≡ questionAnswer sh hs' i k
+  unfolding questionAnswer silentPlace
+  question-answer-same sh i k = rw (check-same un sh, count-same un, label-same un i)
+
+  pub question-same : (sh : Shape) (i k : ℕ) → questionOf sh hs i k ≡ questionOf sh hs' i k
+  unfolding questionOf
+  question-same sh i k = rw (question-answer-same sh i k, survives-same un, from-same un i, to-same un i)
+
+  -- the hops that a round tests
+  fell-same : (k : ℕ) → fell hs k ≡ fell hs' k
+  unfolding fell
+  fell-same k = λ d. λ (s t : ℕ). survives-same un d k s t && not (survives-same un d (suc k) s t)
+
+  standing-same : (k i : ℕ) → standing hs k i ≡ standing hs' k i
+  unfolding standing
+  standing-same k i = rw (label-same un i, survives-same un, from-same un i, to-same un i)
+
+  shaken-same : (v : Pairs) → shaken hs v ≡ shaken hs' v
+  unfolding shaken reached
+  shaken-same v = λ d. λ (s1 s2 : ℕ). any (count-same un d)
+      (λ (j : ℕ). eqb (from-same un j d) s1 && answers-same un v d s2 (label-same un j d) (to-same un j d))
+
+  due-same : (k i : ℕ) → due hs k i ≡ due hs' k i
+  unfolding due
+  due-same zero i = λ d. eqb (label-same un i d) 0
+  due-same (suc k) i = rw (standing-same (suc k) i, fell-same k, shaken-same, from-same un i, to-same un i)
+
+  pub tests-same : testsOf hs ≡ testsOf hs'
+  unfolding testsOf testsUpTo testsIn
+  tests-same = λ d. total (count-same un d) (λ (k : ℕ). tally (count-same un d) (λ (i : ℕ). due-same k i d))
+
+  pub counted-same : (sh : Shape) (out : List ℕ) → countedOf sh hs out ≡ countedOf sh hs' out
+  unfolding countedOf
+  counted-same sh out = rw (mark-answer-same un sh 1 out, tests-same)

@@ -1,0 +1,83 @@
+-- Faults look at no line: from and to graphs that differ in lines alone a map has the same faults, and the audit returns the same. Assumes nothing.
+use Prim.Native.Nat.{ℕ}
+use mathlib.Core.Path.{_≡_}
+use mathlib.Core.Bool.{not, _&&_, _||_}
+use mathlib.Core.List.{List}
+use lib.Dec.{eqb}
+use Rattle.below.specs.Tests.{any, least, tally, total}
+use Rattle.graph.specs.Map.{mapped}
+use Rattle.graph.specs.declared.Shape.{Shape}
+use Rattle.faults.specs.Faults.{kept, lostFaults, offers, backed, matched, madeUp, madeUpFaults, faultsOf}
+use Rattle.faults.specs.First.{lostPlace, firstLost, madeUpPlace, madeUpState, firstMadeUp, firstFault}
+use Rattle.fitting.specs.Fitting.{auditAnswer}
+use Rattle.bisimulation.specs.Auditing.{auditOf}
+use Rattle.unlined.specs.Unlined.{Unlined}
+use Rattle.unlined.proofs.Checks.{count-same, from-same, label-same, to-same, has-same, check-same}
+use Rattle.unlined.proofs.Walks.{leads-same}
+
+module _ {h1 h1' h2 h2' : List ℕ} (un1 : Unlined h1 h1') (un2 : Unlined h2 h2') (m : List ℕ) where
+  -- the hops that are lost
+  kept-same : kept h1 h2 m ≡ kept h1' h2' m
+  unfolding kept
+  kept-same = λ d. λ (i : ℕ).
+      (eqb (label-same un1 i d) 0 && eqb (mapped m (from-same un1 i d)) (mapped m (to-same un1 i d))) ||
+      has-same un2 d (mapped m (from-same un1 i d)) (label-same un1 i d) (mapped m (to-same un1 i d))
+
+  lost-same : lostFaults h1 h2 m ≡ lostFaults h1' h2' m
+  unfolding lostFaults
+  lost-same = λ d. tally (count-same un1 d) (λ (i : ℕ). not (kept-same d i))
+
+  place-same : lostPlace h1 h2 m ≡ lostPlace h1' h2' m
+  unfolding lostPlace
+  place-same = λ d. least (count-same un1 d) (λ (i : ℕ). not (kept-same d i))
+
+  first-lost-same : firstLost h1 h2 m ≡ firstLost h1' h2' m
+  unfolding firstLost
+  first-lost-same = rw (place-same, count-same un1)
+
+  -- the hops that are made up
+  offers-same : offers h1 m ≡ offers h1' m
+  unfolding offers
+  offers-same = λ d. λ (r a q u : ℕ). eqb (mapped m u) r && any (count-same un1 d)
+      (λ (i : ℕ). eqb (from-same un1 i d) u && (eqb (label-same un1 i d) a && eqb (mapped m (to-same un1 i d)) q))
+
+  module _ (sh1 : Shape) where
+    backed-same : backed sh1 h1 m ≡ backed sh1 h1' m
+    unfolding backed
+    backed-same = λ d. λ (s r a q : ℕ). any (sh1 .states) (λ (u : ℕ). leads-same un1 (sh1 .states) s u d && offers-same d r a q u)
+
+    made-up-same : madeUp sh1 h1 h2 m ≡ madeUp sh1 h1' h2' m
+    unfolding madeUp matched
+    made-up-same = λ d. λ (j s : ℕ). eqb (mapped m s) (from-same un2 j d) &&
+        not ((eqb (label-same un2 j d) 0 && eqb (from-same un2 j d) (to-same un2 j d)) ||
+        backed-same d s (from-same un2 j d) (label-same un2 j d) (to-same un2 j d))
+
+    made-up-faults-same : madeUpFaults sh1 h1 h2 m ≡ madeUpFaults sh1 h1' h2' m
+    unfolding madeUpFaults
+    made-up-faults-same = λ d. total (count-same un2 d) (λ (j : ℕ). tally (sh1 .states) (made-up-same d j))
+
+    made-up-place-same : madeUpPlace sh1 h1 h2 m ≡ madeUpPlace sh1 h1' h2' m
+    unfolding madeUpPlace
+    made-up-place-same = λ d. least (count-same un2 d) (λ (j : ℕ). any (sh1 .states) (made-up-same d j))
+
+    first-made-up-same : firstMadeUp sh1 h1 h2 m ≡ firstMadeUp sh1 h1' h2' m
+    unfolding firstMadeUp madeUpState
+    first-made-up-same = rw (made-up-place-same, made-up-same, count-same un2)
+
+    module _ (sh2 : Shape) where
+      pub faults-same : faultsOf sh1 sh2 h1 h2 m ≡ faultsOf sh1 sh2 h1' h2' m
+      unfolding faultsOf
+      faults-same = rw (lost-same, made-up-faults-same)
+
+      pub first-fault-same : firstFault sh1 sh2 h1 h2 m ≡ firstFault sh1 sh2 h1' h2' m
+      unfolding firstFault
+      first-fault-same = rw (first-lost-same, first-made-up-same)
+
+      audit-answer-same : auditAnswer sh1 sh2 h1 h2 m ≡ auditAnswer sh1 sh2 h1' h2' m
+      unfolding auditAnswer
+      audit-answer-same = rw (check-same un1 sh1, check-same un2 sh2)
+
+      -- all that the audit returns
+      pub audit-same : auditOf sh1 sh2 h1 h2 m ≡ auditOf sh1 sh2 h1' h2' m
+      unfolding auditOf
+      audit-same = rw (audit-answer-same, faults-same, first-fault-same)

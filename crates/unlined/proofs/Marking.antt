@@ -1,0 +1,89 @@
+-- Marking looks at no line: in graphs that differ in lines alone the same hops survive each number of rounds, and in each sense the marked set, the marks and
+-- mark's answer are the same. Assumes nothing.
+use Prim.Native.Nat.{ℕ}
+use mathlib.Core.Path.{_≡_, refl}
+use mathlib.Core.Bool.{cond, not, _&&_, _||_}
+use mathlib.Core.List.{List}
+use lib.Dec.{eqb}
+use Rattle.below.specs.Tests.{all, any, listed}
+use Rattle.graph.specs.declared.Shape.{Shape}
+use Rattle.lts.specs.Closes.{Reach, nowhere, single, walks, Sense}
+use Rattle.shrinking.specs.Pairs.{Pairs}
+use Rattle.shrinking.specs.Rounds.{leftAfter}
+use Rattle.confluence.specs.Rounds.{Trials, closing, answer, hopAnswers, answers, tried, closes, silentHops, survives}
+use Rattle.confluence.specs.Held.{markOf, marksOf}
+use Rattle.senses.specs.Senses.{setAt, comes, takes, meets, takesTo, answersFrom, answeredIn, closesIn, markedIn, markedBy, senseOf}
+use Rattle.marks.specs.Mark.{marksMade, markAnswer, markOutput}
+use Rattle.unlined.specs.Unlined.{Unlined}
+use Rattle.unlined.proofs.Checks.{count-same, from-same, label-same, to-same, labelled-same, has-same, check-same}
+use Rattle.unlined.proofs.Walks.{leads-by-same, ringless-same}
+
+module _ {hs hs' : List ℕ} (un : Unlined hs hs') where
+  pub answers-same : (z : Pairs) → answers hs z ≡ answers hs' z
+  unfolding answers hopAnswers answer
+  answers-same z = λ d. λ (s2 a s3 : ℕ). (eqb a 0 && z s3 s2) ||
+      any (count-same un d) (λ (j : ℕ). labelled-same un s2 a j d && z s3 (to-same un j d))
+
+  tried-same : {y y' : Trials} → y ≡ y' → (s1 s2 i : ℕ) → tried hs y s1 s2 i ≡ tried hs' y' s1 s2 i
+  unfolding tried
+  tried-same e s1 s2 i = λ d. not (eqb (from-same un i d) s1) || e d s2 (label-same un i d) (to-same un i d)
+
+  closes-same : closes hs ≡ closes hs'
+  unfolding closes
+  closes-same = λ d. λ (u : Pairs) (s1 s2 : ℕ). all (count-same un d) (λ (i : ℕ). tried-same (answers-same (closing u)) s1 s2 i d)
+
+  silent-hops-same : silentHops hs ≡ silentHops hs'
+  silent-hops-same = λ d. λ (s t : ℕ). has-same un d s 0 t
+
+  -- the rounds
+  pub survives-same : survives hs ≡ survives hs'
+  unfolding survives
+  survives-same = λ d. leftAfter (closes-same d) (silent-hops-same d)
+
+  module _ (n : ℕ) (u : Pairs) where
+    set-same : setAt hs u ≡ setAt hs' u
+    unfolding setAt
+    set-same = λ d. λ (i : ℕ). eqb (label-same un i d) 0 && u (from-same un i d) (to-same un i d)
+
+    comes-same : (r : Reach) (s t : ℕ) → comes hs n u r s t ≡ comes hs' n u r s t
+    unfolding comes
+    comes-same nowhere s t = refl
+    comes-same single s t = refl
+    comes-same walks s t = leads-by-same un set-same n s t
+
+    module _ (sense : Sense) where
+      answered-same : answeredIn sense hs n u ≡ answeredIn sense hs' n u
+      unfolding answeredIn answersFrom takesTo takes meets
+      answered-same = λ d. λ (s2 a s3 : ℕ). any n (λ (p : ℕ). comes-same (sense .before) s2 p d &&
+          any n (λ (q : ℕ). (has-same un d p a q || (eqb a 0 && eqb q p)) &&
+          any n (λ (s4 : ℕ). comes-same (sense .after) q s4 d && comes-same (sense .closing) s3 s4 d)))
+
+  module _ (sh : Shape) where
+    closes-in-same : (sense : Sense) → closesIn sense sh hs ≡ closesIn sense sh hs'
+    unfolding closesIn
+    closes-in-same sense = λ d. λ (u : Pairs) (s1 s2 : ℕ).
+        all (count-same un d) (λ (i : ℕ). tried-same (answered-same (sh .states) u sense) s1 s2 i d)
+
+    marked-in-same : (sense : Sense) → markedIn sense sh hs ≡ markedIn sense sh hs'
+    unfolding markedIn
+    marked-in-same sense = λ d. leftAfter (closes-in-same sense d) (silent-hops-same d) (count-same un d)
+
+    module _ (k : ℕ) where
+      -- the marked set of each sense
+      pub marked-same : markedBy k sh hs ≡ markedBy k sh hs'
+      marked-same = marked-in-same (senseOf k)
+
+      -- the marks
+      pub marks-same : marksMade sh hs k ≡ marksMade sh hs' k
+      unfolding marksOf markOf
+      marks-same = λ d. listed (count-same un d) (λ (i : ℕ). cond (eqb (label-same un i d) 0 && marked-same d (from-same un i d) (to-same un i d)) 1 0)
+
+      -- and what the entry answers and leaves
+      module _ (out : List ℕ) where
+        pub mark-answer-same : markAnswer sh hs k out ≡ markAnswer sh hs' k out
+        unfolding markAnswer
+        mark-answer-same = rw (check-same un sh, ringless-same un sh, count-same un)
+
+        pub mark-output-same : markOutput sh hs k out ≡ markOutput sh hs' k out
+        unfolding markOutput
+        mark-output-same = rw (mark-answer-same, marks-same)

@@ -1,0 +1,93 @@
+-- Reducing looks at no line but to hand lines on: of graphs that differ in lines alone the map, the short shape and what reduce returns are the same, and the
+-- short hops differ in lines alone. Assumes nothing.
+use Prim.Native.Nat.{ℕ, zero, suc}
+use mathlib.Core.Path.{_≡_, refl}
+use mathlib.Core.Bool.{cond, not, _&&_}
+use mathlib.Core.List.{List}
+use lib.ListN.{length}
+use lib.Dec.{eqb}
+use Rattle.below.specs.Tests.{any, least, tally, listed}
+use Rattle.graph.specs.Hops.{count, Alike, flat}
+use Rattle.graph.specs.declared.Shape.{Shape}
+use Rattle.shrinking.specs.Pairs.{Pairs}
+use Rattle.representatives.specs.Representative.{markedFrom, resting, onward, followed, repOf, newOf, mapOf}
+use Rattle.short.specs.Short.{image, gathered, shortHops, shortShape, mapList}
+use Rattle.quotient.specs.Reduce.{markedMap, markedHops, markedShape, reduceAnswer, reduceOf, mapOutput}
+use Rattle.unlined.specs.Unlined.{Unlined}
+use Rattle.unlined.proofs.Checks.{count-same, from-same, label-same, to-same, check-same}
+use Rattle.unlined.proofs.Walks.{ringless-same}
+use Rattle.unlined.proofs.Marking.{marked-same}
+use Rattle.unlined.proofs.Paired.{Paired, paired-length, paired-flat, paired-collected}
+
+-- the representatives along one set of hops, and their new numbers
+module _ {hs hs' : List ℕ} (un : Unlined hs hs') {u u' : Pairs} (e : u ≡ u') where
+  leaving-same : markedFrom hs u ≡ markedFrom hs' u'
+  unfolding markedFrom
+  leaving-same = λ d. λ (s i : ℕ). eqb (from-same un i d) s && (eqb (label-same un i d) 0 && e d (from-same un i d) (to-same un i d))
+
+  resting-same : resting hs u ≡ resting hs' u'
+  unfolding resting
+  resting-same = λ d. λ (s : ℕ). not (any (count-same un d) (leaving-same d s))
+
+  onward-same : (s : ℕ) → onward hs u s ≡ onward hs' u' s
+  unfolding onward
+  onward-same s = λ d. cond (resting-same d s) s (to-same un (least (count-same un d) (leaving-same d s)) d)
+
+  followed-same : (k s : ℕ) → followed hs u k s ≡ followed hs' u' k s
+  unfolding followed
+  followed-same zero s = refl
+  followed-same (suc k) s = λ d. followed-same k (onward-same s d) d
+
+  new-same : newOf hs u ≡ newOf hs' u'
+  unfolding newOf
+  new-same = λ d. λ (r : ℕ). tally r (resting-same d)
+
+  map-same : (sh : Shape) → mapOf sh hs u ≡ mapOf sh hs' u'
+  unfolding mapOf repOf
+  map-same sh = λ d. λ (s : ℕ). new-same d (followed-same (sh .states) s d)
+
+  list-same : (sh : Shape) → mapList sh hs u ≡ mapList sh hs' u'
+  unfolding mapList
+  list-same sh = λ d. listed (sh .states) (map-same sh d)
+
+  shape-same : (sh : Shape) → shortShape sh hs u ≡ shortShape sh hs' u'
+  unfolding shortShape
+  shape-same sh = rw (resting-same, map-same sh)
+
+  -- what the hop at a place becomes is alike
+  image-alike : (sh : Shape) (i : ℕ) → Alike (image sh hs u i) (image sh hs' u' i)
+  image-alike sh i = record {
+    same-from = λ d. new-same d (from-same un i d);
+    same-label = label-same un i;
+    same-to = λ d. map-same sh d (to-same un i d);
+  }
+
+module _ {hs hs' : List ℕ} (un : Unlined hs hs') (sh : Shape) where
+  paired-short : {u u' : Pairs} → u ≡ u' → Paired (shortHops sh hs u) (shortHops sh hs' u')
+  unfolding shortHops gathered
+  paired-short {u} {u'} e = rw (← count-same un) (paired-collected (λ i. λ d. resting-same un e d (from-same un i d)) (image-alike un e sh) (count hs))
+
+  module _ (k : ℕ) where
+    pub marked-map-same : markedMap sh hs k ≡ markedMap sh hs' k
+    marked-map-same = list-same un (marked-same un sh k) sh
+
+    pub marked-shape-same : markedShape sh hs k ≡ markedShape sh hs' k
+    marked-shape-same = shape-same un (marked-same un sh k) sh
+
+    -- the short hops differ in lines alone
+    pub marked-hops-unlined : Unlined (flat (markedHops sh hs k)) (flat (markedHops sh hs' k))
+    marked-hops-unlined = paired-flat _ _ (paired-short (marked-same un sh k))
+
+    -- what the entry answers, returns and leaves as the map
+    module _ (map-room short-room : ℕ) where
+      pub answer-same : reduceAnswer sh hs k map-room short-room ≡ reduceAnswer sh hs' k map-room short-room
+      unfolding reduceAnswer
+      answer-same = rw (check-same un sh, ringless-same un sh, un .as-long)
+
+      pub reduce-same : reduceOf sh hs k map-room short-room ≡ reduceOf sh hs' k map-room short-room
+      unfolding reduceOf
+      reduce-same = rw (answer-same, marked-shape-same, paired-length _ _ (paired-short (marked-same un sh k)))
+
+    pub map-output-same : (map short : List ℕ) → mapOutput sh hs k map short ≡ mapOutput sh hs' k map short
+    unfolding mapOutput
+    map-output-same map short = rw (answer-same (length map) (length short), marked-map-same)

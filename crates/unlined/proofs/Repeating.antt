@@ -1,0 +1,71 @@
+-- Repeated reduction looks at no line but to hand lines on: from graphs that differ in lines alone it goes by the same steps to graphs that differ in lines
+-- alone, with the same map and number of reductions. Assumes nothing.
+use Prim.Native.Nat.{ℕ, zero, suc}
+use mathlib.Core.Path.{_≡_, refl, sym, ap, _∙_, subst}
+use mathlib.Core.Bool.{Bool, true, false, cond, _&&_}
+use mathlib.Core.List.{List}
+use lib.ListN.{length}
+use lib.Dec.{eqb}
+use Rattle.below.specs.Tests.{any}
+use Rattle.graph.specs.Hops.{flat}
+use Rattle.graph.specs.declared.Shape.{Shape}
+use Rattle.senses.specs.Senses.{setAt}
+use Rattle.quotient.specs.Reduce.{markedMap, markedShape, markedHops}
+use Rattle.composing.specs.Chained.{chained}
+use Rattle.repeating.specs.Repeating.{Stage, firstStage, nextStage, someMarked, marksSome, repeated, lastOf, lastStage}
+use Rattle.last_graph.specs.Shrink.{shrinkOf, lastMap}
+use Rattle.unlined.specs.Unlined.{Unlined}
+use Rattle.unlined.proofs.Checks.{count-same, from-same, label-same, to-same}
+use Rattle.unlined.proofs.Marking.{marked-same}
+use Rattle.unlined.proofs.Reducing.{marked-map-same, marked-shape-same, marked-hops-unlined, answer-same}
+
+some-same : {hs hs' : List ℕ} → Unlined hs hs' → (k : ℕ) (sh : Shape) → someMarked k sh hs ≡ someMarked k sh hs'
+unfolding someMarked setAt
+some-same un k sh = λ d. any (count-same un d) (λ (i : ℕ). eqb (label-same un i d) 0 && marked-same un sh k d (from-same un i d) (to-same un i d))
+
+-- two stages that differ in lines alone
+pub record Beside (g g' : Stage) : Type 0 where
+  pub shapes : g .shape ≡ g' .shape
+  pub unlined : Unlined (g .hops) (g' .hops)
+  pub maps : g .map ≡ g' .map
+  pub counts : g .reductions ≡ g' .reductions
+
+module _ (k : ℕ) where
+  next-beside : (g g' : Stage) → Beside g g' → Beside (nextStage k g) (nextStage k g')
+  next-beside g g' b = record {
+    shapes = ap (λ (sh : Shape). markedShape sh (g .hops) k) (b .shapes) ∙ marked-shape-same (b .unlined) (g' .shape) k;
+    unlined =
+        subst (λ (sh : Shape). Unlined (flat (markedHops sh (g .hops) k)) (flat (markedHops (g' .shape) (g' .hops) k))) (sym (b .shapes))
+        (marked-hops-unlined (b .unlined) (g' .shape) k);
+    maps =
+        ap (λ (m : List ℕ). chained m (markedMap (g .shape) (g .hops) k)) (b .maps) ∙
+        ap (chained (g' .map)) (ap (λ (sh : Shape). markedMap sh (g .hops) k) (b .shapes) ∙ marked-map-same (b .unlined) (g' .shape) k);
+    counts = ap suc (b .counts);
+  }
+
+  some-beside : (g g' : Stage) → Beside g g' → marksSome k g ≡ marksSome k g'
+  some-beside g g' b = ap (λ (sh : Shape). someMarked k sh (g .hops)) (b .shapes) ∙ some-same (b .unlined) k (g' .shape)
+
+  repeated-beside : (n : ℕ) (g g' : Stage) → Beside g g' → Beside (repeated k n g) (repeated k n g')
+  unfolding repeated
+  repeated-beside zero g g' b = b
+  repeated-beside (suc n) g g' b = rw (some-beside g g' b) (go (marksSome k g') (repeated-beside n (nextStage k g) (nextStage k g') (next-beside g g' b))) where
+    go : (m : Bool) → Beside (repeated k n (nextStage k g)) (repeated k n (nextStage k g')) →
+        Beside (cond m (repeated k n (nextStage k g)) g) (cond m (repeated k n (nextStage k g')) g')
+    go true c = c
+    go false c = b
+
+-- the last stage, and what the entry returns and leaves as the map
+module _ {hs hs' : List ℕ} (un : Unlined hs hs') (sh : Shape) (k : ℕ) where
+  pub last-beside : Beside (lastStage k sh hs) (lastStage k sh hs')
+  unfolding lastOf
+  last-beside = repeated-beside k (sh .states) (firstStage sh hs) (firstStage sh hs') (record { shapes = refl; unlined = un; maps = refl; counts = refl })
+
+  pub shrink-same : (map-room short-room : ℕ) → shrinkOf sh hs k map-room short-room ≡ shrinkOf sh hs' k map-room short-room
+  unfolding shrinkOf
+  shrink-same map-room short-room =
+      rw (answer-same un sh k map-room short-room, last-beside .shapes, count-same (last-beside .unlined), last-beside .counts)
+
+  pub last-map-same : (map short : List ℕ) → lastMap sh hs k map short ≡ lastMap sh hs' k map short
+  unfolding lastMap
+  last-map-same map short = rw (answer-same un sh k (length map) (length short), last-beside .maps)

@@ -1,0 +1,1 @@
+pub mod Unlined  -- hop lists that differ in lines alone

@@ -1,0 +1,25 @@
+-- The definitions give every figure of the table: one proof, by computation. Assumes nothing.
+use mathlib.Core.Path.{_≡_, refl}
+use Rattle.below.specs.Tests.{all, any, least, listed, tally}
+use Rattle.graph.specs.Hops.{flat, is, labelled, has}
+use Rattle.graph.specs.Order.{before}
+use Rattle.limits.specs.Check.{checkOf, countsFit, inside, firstOutside, rises, firstFalling}
+use Rattle.reaching.specs.Reaching.{leadsBy}
+use Rattle.silent.specs.Silent.{onRing, lowestOnRing, ringless}
+use Rattle.shrinking.specs.Rounds.{leftAfter}
+use Rattle.confluence.specs.Rounds.{tried}
+use Rattle.confluence.specs.Held.{marksOf, markOf}
+use Rattle.senses.specs.Senses.{setAt, comes, takes, meets, takesTo, answersFrom, answeredIn, closesIn, markedIn, isSense, senseOf, senseAnswer}
+use Rattle.representatives.specs.Representative.{markedFrom, resting, onward, followed, repOf, newOf, mapOf}
+use Rattle.sources.specs.Lines.{lesserLine}
+use Rattle.insertion.specs.Insertion.{insert, collected}
+use Rattle.short.specs.Short.{gathered, shortHops, shortShape, mapList}
+use Rattle.quotient.specs.Reduce.{reduceAnswer}
+use Rattle.worked_lines.specs.Table.{tableOf, table}
+
+pub given : tableOf table ≡ table
+unfolding
+    all any least listed tally flat is labelled has before checkOf countsFit inside firstOutside rises firstFalling leadsBy onRing lowestOnRing ringless leftAfter tried marksOf markOf
+    setAt comes takes meets takesTo answersFrom answeredIn closesIn markedIn isSense senseOf senseAnswer markedFrom resting onward followed repOf newOf mapOf
+    lesserLine insert collected gathered shortHops shortShape mapList reduceAnswer
+given = refl
