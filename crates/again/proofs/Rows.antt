@@ -10,7 +10,7 @@ use borrow.Author.Tests.{ltb-false, le-ltb}
 use Rattle.graph.specs.Hops.{count, from, label, to, hopOf, hopAt}
 use Rattle.graph.specs.Order.{before, Ascending}
 use Rattle.graph.specs.Search.{firstOf, pastOf, labelledFrom}
-use Rattle.below.proofs.Bools.{clash, lt-or-le, no-test}
+use Rattle.base_bounded.proofs.Bools.{clash, lt-or-le, no-test}
 use Rattle.graph.proofs.Ordered.{Below, before-below, below-before}
 use Rattle.graph.proofs.Lookup.{lower-law, first-within, range-holds, range-only}
 use Rattle.starts.proofs.Rows.{first-labelled}

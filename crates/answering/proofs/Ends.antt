@@ -8,11 +8,11 @@ use native.Mathlib.Omega.{arith}
 use Rattle.graph.specs.Hops.{count, from, label, to, labelled, has}
 use Rattle.graph.specs.Order.{Ascending}
 use Rattle.graph.specs.Search.{firstOf, pastOf}
-use Rattle.below.proofs.Bools.{clash, no-test, lt-or-le}
+use Rattle.base_bounded.proofs.Bools.{clash, no-test, lt-or-le}
 use Rattle.graph.proofs.Places.{is-yes, is-from, is-label, is-to, labelled-yes, labelled-parts, has-at, has-place}
 use Rattle.graph.proofs.Lookup.{range-holds, range-only, past-within}
 use Rattle.starts.proofs.Firsts.{range-more}
-use Rattle.shrinking.specs.Pairs.{Pairs, In}
+use Rattle.base_fixpoint.specs.Pairs.{Pairs, In}
 use Rattle.confluence.specs.Rounds.{closing, hopAnswers}
 use Rattle.confluence.specs.Held.{isMarked, heldBy}
 use Rattle.confluence.proofs.Closing.{closing-yes, closing-says, hop-answers, none-answers}

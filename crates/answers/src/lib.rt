@@ -1,13 +1,13 @@
 // What an entry for C and Rust tells its caller, once for all entries: the figures at the front of the answer slice, and the number that is returned.
 // An answer slice too short gets nothing, and 6 is returned unless the entry itself refuses. The crates tells_* build the figures of their entries as a
 // small array and end with `tell`; where nothing else may be written either, they find the answer alone and end with `short_number`.
-// Stands on graph (answers) and outputs (what a lent slice holds afterwards).
+// Stands on graph (answers) and base_outputs (what a lent slice holds afterwards).
 use graph::Answer;
 ghost use mathlib.Core.Path.{_≡_};
 ghost use mathlib.Core.List.{[], _∷_};
 ghost use Prim.Native.Nat.{_<_, _≤_};
 ghost use lib.ListN.{length};
-ghost use Rattle.outputs.specs.Output.{onFront};
+ghost use Rattle.base_outputs.specs.Output.{onFront};
 ghost use Rattle.answers.specs.Numbers.{numbersOf, returned, told};
 
 // The number where the answer slice is too short for n figures: a refusal's own, else 6.

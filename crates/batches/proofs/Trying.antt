@@ -10,9 +10,9 @@ use native.Mathlib.Omega.{arith}
 use lib.ListN.{getD, drop}
 use lib.Dec.{eqb, ltb}
 use borrow.Author.Tests.{eqb-true, eq-eqb, lt-ltb, ltb-true}
-use Rattle.below.proofs.Bools.{and-yes, and-left, and-right, lt-or-le}
-use Rattle.below.proofs.Tests.{all-at, all-yes, any-found}
-use Rattle.outputs.specs.Output.{onFront}
+use Rattle.base_bounded.proofs.Bools.{and-yes, and-left, and-right, lt-or-le}
+use Rattle.base_bounded.proofs.Tests.{all-at, all-yes, any-found}
+use Rattle.base_outputs.specs.Output.{onFront}
 use Rattle.graph.specs.Hops.{count, from, label, to, is, has}
 use Rattle.graph.specs.Order.{Ascending}
 use Rattle.graph.specs.declared.Shape.{Shape}
@@ -20,7 +20,7 @@ use Rattle.graph.proofs.Places.{has-at, has-place, is-yes, is-from, is-to}
 use Rattle.limits.specs.Check.{InRange}
 use Rattle.lts.specs.Closes.{nowhere, Via, here, Sense, Answered, Closes}
 use Rattle.silent.specs.Silent.{HopOf}
-use Rattle.shrinking.specs.Pairs.{Pairs, In}
+use Rattle.base_fixpoint.specs.Pairs.{Pairs, In}
 use Rattle.confluence.specs.Held.{isMarked, heldBy, marksOf}
 use Rattle.confluence.proofs.Held.{held-says, held-yes}
 use Rattle.senses.specs.Senses.{closesIn, markedIn}
@@ -28,7 +28,7 @@ use Rattle.senses.proofs.Tests.{closes-says, closes-yes}
 use Rattle.senses.proofs.Marked.{in-kept, in-same}
 use Rattle.sweeps.specs.Sweep.{markCount, Marking, Swept}
 use Rattle.sweeps.proofs.Settling.{settled-marks}
-use Rattle.bits.specs.Bits.{inTable, word-bits}
+use Rattle.base_bitset.specs.Bits.{inTable, word-bits}
 use Rattle.spreading.specs.Spread.{Back, Forth}
 use Rattle.trials.specs.Trials.{Keyed, Answering}
 use Rattle.judging.specs.Judged.{fits, Judged}

@@ -10,7 +10,7 @@ use Rattle.starts.specs.Starts.{Ready}
 use Rattle.lining.specs.Line.{Line}
 use Rattle.lts.specs.Closes.{Sense, Answered}
 use Rattle.silent.specs.Silent.{HopOf}
-use Rattle.shrinking.specs.Pairs.{In}
+use Rattle.base_fixpoint.specs.Pairs.{In}
 use Rattle.confluence.specs.Held.{isMarked, heldBy}
 
 -- the hop at place j is answered from the end of the hop at place i, with the set that the marks are

@@ -2,7 +2,7 @@
 // batch's ends, who leads there, who answers by a hop, who leads to these (`spreading`, `trials`), and which marked hops are not answered then (`judging`).
 // Only here does code ask which sense it is. A mark that goes takes no hop of the marked set, since what is dropped does not close with a larger set. It stands
 // on `senses` (what is marked) and `sweeps` (what marks keep while they fall, for any condition).
-use bits::WORD_BITS;
+use base_bitset::WORD_BITS;
 use graph::MOST_HOPS;
 use graph::MOST_LABELS;
 use graph::MOST_STATES;
@@ -19,11 +19,11 @@ ghost use Prim.Native.Nat.{_+_, _<_, _≤_};
 ghost use lib.ListN.{length};
 ghost use Rattle.graph.specs.Hops.{count};
 ghost use Rattle.starts.specs.Starts.{Ready};
-ghost use Rattle.shrinking.specs.Pairs.{In};
+ghost use Rattle.base_fixpoint.specs.Pairs.{In};
 ghost use Rattle.confluence.specs.Held.{heldBy};
 ghost use Rattle.sweeps.specs.Sweep.{Marking, Swept};
 ghost use Rattle.senses.specs.Senses.{senseOf, markedBy};
-ghost use Rattle.bits.specs.Bits.{word-bits};
+ghost use Rattle.base_bitset.specs.Bits.{word-bits};
 ghost use Rattle.lining.specs.Line.{Line};
 ghost use Rattle.spreading.specs.Spread.{Back, Forth};
 ghost use Rattle.batches.specs.Batch.{Sweepable, TriedIn};

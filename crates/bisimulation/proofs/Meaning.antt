@@ -8,12 +8,12 @@ use mathlib.Core.Logic.{_⊎_, inl, inr, ⊎-elim, _↔_}
 use native.Mathlib.Omega.{arith}
 use borrow.Author.Tests.{eq-eqb, eqb-true, not-false}
 use lib.Dec.{eqb}
-use Rattle.below.specs.Tests.{tally}
+use Rattle.base_bounded.specs.Tests.{tally}
 use Rattle.graph.specs.Hops.{count, from, label, to}
 use Rattle.limits.specs.Check.{InRange, Admitted}
 use Rattle.graph.specs.declared.Shape.{Shape}
-use Rattle.below.proofs.Bools.{decided, not-yes, and-yes, and-left, and-right, and-no-left, and-no-right, or-left, or-right, or-yes}
-use Rattle.below.proofs.Tests.{any-found, any-at, tally-zero, tally-each, total-zero, total-each}
+use Rattle.base_bounded.proofs.Bools.{decided, not-yes, and-yes, and-left, and-right, and-no-left, and-no-right, or-left, or-right, or-yes}
+use Rattle.base_bounded.proofs.Tests.{any-found, any-at, tally-zero, tally-each, total-zero, total-each}
 use Rattle.graph.proofs.Places.{has-at, has-place, place-has}
 use Rattle.lts.specs.Star.{stay}
 use Rattle.lts.specs.Reduction.{Back, Reduces}

@@ -15,11 +15,11 @@ use Rattle.graph.specs.Order.{before, Ascending}
 use Rattle.graph.specs.Search.{placed, isAt, foundPlace, firstOf, pastOf}
 use Rattle.graph.specs.declared.Hop.{Hop}
 use Rattle.graph.specs.declared.Found.{Found}
-use Rattle.below.proofs.Bools.{and-left, and-right, lt-or-le}
-use Rattle.below.proofs.Tests.{all-yes, all-fails}
+use Rattle.base_bounded.proofs.Bools.{and-left, and-right, lt-or-le}
+use Rattle.base_bounded.proofs.Tests.{all-yes, all-fails}
 use Rattle.graph.proofs.Ordered.{Below, before-below, below-before, ascending-lt}
 use Rattle.graph.proofs.Lookup.{placed-has, found-lower, Onward, onward, first-within, range-holds, range-only}
-use Rattle.shrinking.specs.Pairs.{Pairs}
+use Rattle.base_fixpoint.specs.Pairs.{Pairs}
 use Rattle.confluence.specs.Rounds.{closing, hopAnswers, answers, answered, tried, closes}
 use Rattle.starts.proofs.Firsts.{first-below, first-next}
 use Rattle.starts.proofs.Rows.{row-bracket}

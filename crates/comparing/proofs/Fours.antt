@@ -5,7 +5,7 @@ use mathlib.Core.List.{List}
 use mathlib.Core.Logic.{⊎-elim}
 use native.Mathlib.Omega.{arith}
 use lib.ListN.{getD}
-use Rattle.below.proofs.Bools.{eq-or-not, lt-or-le}
+use Rattle.base_bounded.proofs.Bools.{eq-or-not, lt-or-le}
 use Rattle.numbers.proofs.TwoBytes.{Bytes}
 use Rattle.comparing.specs.Pair.{Agree, fourAt}
 

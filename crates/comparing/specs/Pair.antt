@@ -6,7 +6,7 @@ use mathlib.Core.Bool.{Bool, true, _&&_}
 use mathlib.Core.List.{List}
 use lib.ListN.{length, getD}
 use lib.Dec.{eqb}
-use Rattle.below.specs.Tests.{all}
+use Rattle.base_bounded.specs.Tests.{all}
 use Rattle.numbers.specs.Numbers.{numberAt}
 use Rattle.comparing.specs.declared.Order.{Order}
 use Rattle.comparing.specs.declared.Order.the-variants.{Before, Same, After}

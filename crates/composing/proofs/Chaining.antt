@@ -3,7 +3,7 @@ use Prim.Native.Nat.{ℕ, _<_}
 use mathlib.Core.Path.{_≡_}
 use mathlib.Core.List.{List}
 use lib.ListN.{length}
-use Rattle.below.proofs.Tests.{length-listed, getD-listed}
+use Rattle.base_bounded.proofs.Tests.{length-listed, getD-listed}
 use Rattle.graph.specs.Map.{mapped}
 use Rattle.graph.specs.declared.Shape.{Shape}
 use Rattle.fitting.specs.Fitting.{AdmittedMap}

@@ -2,7 +2,7 @@
 use Prim.Native.Nat.{ℕ, _<_}
 use mathlib.Core.List.{List}
 use lib.ListN.{length}
-use Rattle.below.specs.Tests.{listed}
+use Rattle.base_bounded.specs.Tests.{listed}
 use Rattle.graph.specs.Map.{mapped}
 
 -- "one after the other": m leads from graph 1 to graph 2, n from graph 2 to graph 3, and this from graph 1 to graph 3

@@ -9,8 +9,8 @@ use Rattle.graph.specs.Search.{placed}
 use Rattle.graph.specs.declared.Hop.{Hop}
 use Rattle.graph.specs.declared.Found.{Found}
 use Rattle.graph.specs.declared.Found.the-variants.{At, Gap}
-use Rattle.below.proofs.Bools.{clash, and-yes, and-left, and-right, same-test, no-test}
-use Rattle.below.proofs.Tests.{any-at, any-found}
+use Rattle.base_bounded.proofs.Bools.{clash, and-yes, and-left, and-right, same-test, no-test}
+use Rattle.base_bounded.proofs.Tests.{any-at, any-found}
 use Rattle.graph.proofs.Lookup.{one-place, at-place, gap-has}
 use Rattle.confluence.specs.Held.{isMarked, heldAt, heldBy}
 

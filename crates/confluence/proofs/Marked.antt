@@ -6,11 +6,11 @@ use mathlib.Core.Bool.{true, _&&_}
 use mathlib.Core.List.{List}
 use Rattle.lts.specs.Sense.{R1}
 use Rattle.graph.specs.Hops.{count, has}
-use Rattle.below.proofs.Bools.{and-left, and-right}
+use Rattle.base_bounded.proofs.Bools.{and-left, and-right}
 use Rattle.silent.specs.Silent.{HopOf}
-use Rattle.shrinking.specs.Pairs.{Pairs, In, Within}
-use Rattle.shrinking.specs.Rounds.{Kept}
-use Rattle.shrinking.proofs.Rounds.{left-fixed, kept-left, left-kept, left-every, left-same}
+use Rattle.base_fixpoint.specs.Pairs.{Pairs, In, Within}
+use Rattle.base_fixpoint.specs.Rounds.{Kept}
+use Rattle.base_fixpoint.proofs.Rounds.{left-fixed, kept-left, left-kept, left-every, left-same}
 use Rattle.confluence.specs.Rounds.{Trials, closing, answers, closes, Solution, silentHops, survives, marked, ConfluentSet}
 use Rattle.confluence.proofs.Closing.{closes-says, closes-yes, closed-mono, closing-mono, answers-mono}
 use Rattle.confluence.proofs.Rounds.{closes-monotone, silent-listed}

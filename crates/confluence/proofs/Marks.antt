@@ -9,13 +9,13 @@ use lib.ListN.{length, getD, take, drop, take-append-drop, length-append, length
 use lib.Seq.{drop-at, getD-take, length-take-le, ext-getD}
 use lib.Dec.{eqb}
 use borrow.Author.Tests.{eqb-true, eq-eqb}
-use Rattle.below.specs.Tests.{listed}
-use Rattle.below.proofs.Bools.{and-yes, and-left, and-right, same-test}
-use Rattle.below.proofs.Tests.{length-listed, getD-listed}
-use Rattle.outputs.specs.Output.{onFront}
+use Rattle.base_bounded.specs.Tests.{listed}
+use Rattle.base_bounded.proofs.Bools.{and-yes, and-left, and-right, same-test}
+use Rattle.base_bounded.proofs.Tests.{length-listed, getD-listed}
+use Rattle.base_outputs.specs.Output.{onFront}
 use Rattle.graph.specs.Hops.{count, from, label, to, has}
 use Rattle.graph.proofs.Places.{is-yes, is-from, is-to, has-place, place-has}
-use Rattle.shrinking.specs.Pairs.{Pairs, In, Within}
+use Rattle.base_fixpoint.specs.Pairs.{Pairs, In, Within}
 use Rattle.confluence.specs.Rounds.{silentHops}
 use Rattle.confluence.specs.Held.{isMarked, heldBy, markOf, marksOf, everyPair}
 use Rattle.confluence.proofs.Held.{held-says, held-yes}

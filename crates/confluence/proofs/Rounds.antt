@@ -5,9 +5,9 @@ use mathlib.Core.Bool.{true, _&&_}
 use mathlib.Core.List.{List}
 use Rattle.graph.specs.Hops.{count, from, to, has}
 use Rattle.graph.proofs.Places.{has-place}
-use Rattle.shrinking.specs.Pairs.{Listed}
-use Rattle.shrinking.specs.Rounds.{Monotone}
-use Rattle.shrinking.proofs.Rounds.{left-none, left-more, left-within}
+use Rattle.base_fixpoint.specs.Pairs.{Listed}
+use Rattle.base_fixpoint.specs.Rounds.{Monotone}
+use Rattle.base_fixpoint.proofs.Rounds.{left-none, left-more, left-within}
 use Rattle.confluence.specs.Rounds.{closes, silentHops, survives}
 use Rattle.confluence.proofs.Closing.{closes-mono}
 

@@ -4,9 +4,9 @@ use mathlib.Core.Bool.{Bool, true, cond, _&&_}
 use mathlib.Core.List.{List}
 use lib.ListN.{getD}
 use lib.Dec.{eqb}
-use Rattle.below.specs.Tests.{any, listed}
+use Rattle.base_bounded.specs.Tests.{any, listed}
 use Rattle.graph.specs.Hops.{count, from, label, to, is}
-use Rattle.shrinking.specs.Pairs.{Pairs}
+use Rattle.base_fixpoint.specs.Pairs.{Pairs}
 
 -- the hop at place i is marked: "Marks are 1 or 0"
 unfoldable pub isMarked : List ℕ → ℕ → Bool

@@ -5,10 +5,10 @@ use mathlib.Core.Bool.{Bool, true, not, _&&_, _||_}
 use mathlib.Core.Logic.{_⊎_}
 use mathlib.Core.List.{List}
 use lib.Dec.{eqb}
-use Rattle.below.specs.Tests.{all, any}
+use Rattle.base_bounded.specs.Tests.{all, any}
 use Rattle.graph.specs.Hops.{count, from, label, to, labelled, has}
-use Rattle.shrinking.specs.Pairs.{Pairs}
-use Rattle.shrinking.specs.Rounds.{leftAfter}
+use Rattle.base_fixpoint.specs.Pairs.{Pairs}
+use Rattle.base_fixpoint.specs.Rounds.{leftAfter}
 
 -- a set of trials: s2, a, s3 is the trial of a hop labelled a to s3 against a silent hop to s2
 abbrev pub Trials : Type 0

@@ -1,5 +1,5 @@
 // Confluent sets: document 01's condition, the equations X, Y and Z, the rounds, and the marked set, which is the greatest confluent set and the
-// greatest solution of the equations. The rounds come from `shrinking`, which knows nothing of the condition; here it is applied to `closes` once.
+// greatest solution of the equations. The rounds come from `base_fixpoint`, which knows nothing of the condition; here it is applied to `closes` once.
 // Beside them stands the set that a list of marks is, and what marks begin with. `closes` decides the condition, `sweeps` and `falling` find the set,
 // `cycle` asks the equations.
 use graph::hops::hop_count;
@@ -7,7 +7,7 @@ use graph::hops::label_at;
 ghost use mathlib.Core.Path.{_≡_};
 ghost use Prim.Native.Nat.{_≤_};
 ghost use lib.ListN.{length};
-ghost use Rattle.outputs.specs.Output.{onFront};
+ghost use Rattle.base_outputs.specs.Output.{onFront};
 ghost use Rattle.graph.specs.Hops.{count};
 ghost use Rattle.confluence.specs.Held.{marksOf, everyPair};
 

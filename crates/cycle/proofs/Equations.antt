@@ -8,8 +8,8 @@ use mathlib.Core.Logic.{_⊎_, inl, inr}
 use native.Mathlib.Numerals.{sub-one}
 use native.Mathlib.Omega.{arith}
 use borrow.Author.Tests.{not-true, not-false}
-use Rattle.below.proofs.Bools.{clash, no-test, eq-or-not}
-use Rattle.below.proofs.Tests.{all-fails}
+use Rattle.base_bounded.proofs.Bools.{clash, no-test, eq-or-not}
+use Rattle.base_bounded.proofs.Tests.{all-fails}
 use Rattle.graph.specs.Hops.{count, from, label, to, hopOf, has}
 use Rattle.graph.specs.Order.{Ascending}
 use Rattle.graph.specs.Search.{firstOf, pastOf, labelledFrom, labelledPast, placed}
@@ -19,7 +19,7 @@ use Rattle.graph.specs.declared.Found.the-variants.{At, Gap}
 use Rattle.graph.proofs.Places.{has-at, is-from, is-label, is-to}
 use Rattle.graph.proofs.Lookup.{range-holds, range-only, past-within, all-range, at-place, gap-has}
 use Rattle.starts.proofs.Rows.{labelled-holds, labelled-only}
-use Rattle.shrinking.specs.Pairs.{Pairs}
+use Rattle.base_fixpoint.specs.Pairs.{Pairs}
 use Rattle.confluence.specs.Rounds.{closing, hopAnswers, answers, answered, tried, closes, survives}
 use Rattle.confluence.proofs.Closing.{closing-is, closing-other, hop-answers, none-answers, answers-hop, answers-else, answers-last, answered-at, tried-own, tried-other}
 use Rattle.confluence.proofs.Rounds.{survives-none, survives-more, survives-silent}

@@ -9,7 +9,7 @@ use lib.ListN.{length, getD, set, replicate}
 use lib.Seq.{getD-set-same, getD-set-other}
 use Rattle.graph.specs.Hops.{from, to}
 use Rattle.graph.specs.Answers.{most-hops}
-use Rattle.below.proofs.Bools.{eq-or-not}
+use Rattle.base_bounded.proofs.Bools.{eq-or-not}
 use Rattle.confluence.specs.Rounds.{survives}
 use Rattle.cycle.specs.Known.{answerPlace, value, wordFor, Right}
 

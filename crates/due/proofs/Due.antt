@@ -8,13 +8,13 @@ use mathlib.Core.Logic.{_⊎_, inl, inr, ⊎-elim}
 use native.Mathlib.Omega.{arith}
 use lib.Dec.{eqb}
 use borrow.Author.Tests.{eq-eqb, eqb-true, not-true}
-use Rattle.below.specs.Tests.{any, tally, total}
+use Rattle.base_bounded.specs.Tests.{any, tally, total}
 use Rattle.graph.specs.Hops.{count, from, label, to, has}
-use Rattle.below.proofs.Bools.{clash, decided, and-yes, and-left, and-right, and-no-right, or-right, or-yes, same-test, no-test, not-no}
-use Rattle.below.proofs.Tests.{any-at, any-found, tally-within, tally-less, tally-zero}
+use Rattle.base_bounded.proofs.Bools.{clash, decided, and-yes, and-left, and-right, and-no-right, or-right, or-yes, same-test, no-test, not-no}
+use Rattle.base_bounded.proofs.Tests.{any-at, any-found, tally-within, tally-less, tally-zero}
 use Rattle.graph.proofs.Places.{has-at, has-place}
-use Rattle.shrinking.specs.Pairs.{Pairs, In}
-use Rattle.shrinking.proofs.Rounds.{left-meets, left-yes, left-falls, left-rests}
+use Rattle.base_fixpoint.specs.Pairs.{Pairs, In}
+use Rattle.base_fixpoint.proofs.Rounds.{left-meets, left-yes, left-falls, left-rests}
 use Rattle.confluence.specs.Rounds.{FirstPoint, answers, closes, silentHops, survives, marked}
 use Rattle.confluence.proofs.Closing.{Reaches, Closed, reaches-yes, reaches-says, closes-says, closes-yes}
 use Rattle.confluence.proofs.Rounds.{closes-monotone, silent-listed, survives-none, survives-silent}

@@ -4,9 +4,9 @@ use Prim.Native.Nat.{ℕ, zero, suc}
 use mathlib.Core.Bool.{Bool, not, _&&_}
 use mathlib.Core.List.{List}
 use lib.Dec.{eqb}
-use Rattle.below.specs.Tests.{any, tally, total}
+use Rattle.base_bounded.specs.Tests.{any, tally, total}
 use Rattle.graph.specs.Hops.{count, from, label, to}
-use Rattle.shrinking.specs.Pairs.{Pairs}
+use Rattle.base_fixpoint.specs.Pairs.{Pairs}
 use Rattle.confluence.specs.Rounds.{answers, survives}
 
 -- "fallen in the round": the silent hop s to t falls in round k + 1 when it survives k rounds and no more

@@ -11,9 +11,9 @@ use lib.Seq.{set-split}
 use lib.Dec.{eqb, ltb}
 use Rattle.graph.specs.Hops.{count}
 use Rattle.graph.specs.declared.Shape.{Shape}
-use Rattle.below.proofs.Bools.{decided, eq-or-not}
-use Rattle.below.proofs.Tests.{any-at}
-use Rattle.outputs.specs.Output.{onFront, overAt}
+use Rattle.base_bounded.proofs.Bools.{decided, eq-or-not}
+use Rattle.base_bounded.proofs.Tests.{any-at}
+use Rattle.base_outputs.specs.Output.{onFront, overAt}
 use Rattle.numbers.specs.Numbers.{number}
 use Rattle.linefield.specs.LineField.{linesLength, anyLine, lineList}
 use Rattle.linefield.proofs.Laws.{lined, length-lines}
@@ -21,7 +21,7 @@ use Rattle.hopfield.specs.Field.{fieldLength, fieldBytes}
 use Rattle.hopfield.proofs.Field.{length-field}
 use Rattle.fields.specs.Format.{states-place, labels-place, initial-place}
 use Rattle.encoding.specs.Encode.{initialBytes, hopsBytes, linesBytes, headBytes, bitsOf, encode}
-use Rattle.outputs.proofs.Front.{over-none, front-then, front-next}
+use Rattle.base_outputs.proofs.Front.{over-none, front-then, front-next}
 
 module _ (sh : Shape) where
   pub initial-none : sh .initial ≡ 0 → initialBytes sh ≡ []

@@ -1,6 +1,7 @@
 // The file of a graph, byte after byte: how long it is, and the file itself put to the front of an output. A bit is set, and a field put, only over
 // what absence does not mean. `writer` calls it once the graph and its names have passed every check. It stands on numbers, on the hop field and on
 // the places of the fields.
+use base_outputs::put_bytes;
 use fields::INITIAL_PLACE;
 use fields::LABELS_PLACE;
 use fields::STATES_PLACE;
@@ -12,14 +13,13 @@ use linefield::has_line;
 use linefield::lines_length;
 use linefield::put_lines;
 use numbers::put_number;
-use outputs::put_bytes;
 ghost use mathlib.Core.Path.{_≡_};
 ghost use Prim.Native.Nat.{_+_, _≤_};
 ghost use mathlib.Core.Bool.{cond};
 ghost use lib.ListN.{length};
 ghost use Rattle.graph.specs.Answers.{most-hops};
 ghost use Rattle.graph.specs.Hops.{count};
-ghost use Rattle.outputs.specs.Output.{onFront, overAt};
+ghost use Rattle.base_outputs.specs.Output.{onFront, overAt};
 ghost use Rattle.numbers.specs.Numbers.{most-number};
 ghost use Rattle.fields.specs.Format.{initial-place};
 ghost use Rattle.linefield.specs.LineField.{anyLine};

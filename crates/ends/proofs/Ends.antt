@@ -4,8 +4,8 @@ use mathlib.Core.Path.{_≡_}
 use mathlib.Core.List.{List}
 use native.Mathlib.Omega.{arith}
 use lib.ListN.{getD}
-use Rattle.below.specs.Slots.{slot}
-use Rattle.below.proofs.Slots.{slot-of}
+use Rattle.base_bounded.specs.Slots.{slot}
+use Rattle.base_bounded.proofs.Slots.{slot-of}
 use Rattle.graph.specs.Hops.{count, to}
 use Rattle.ends.specs.Ends.{beginOf, Filled}
 

@@ -11,14 +11,14 @@ use native.Mathlib.Omega.{arith}
 use lib.ListN.{length, getD, replicate, getD-replicate}
 use lib.Dec.{ltb}
 use borrow.Author.Tests.{lt-ltb, le-ltb}
-use Rattle.below.specs.Tests.{tally, total}
-use Rattle.below.proofs.Bools.{clash, decided, eq-or-not, lt-or-le, and-yes, and-left, and-right, same-test, no-test}
-use Rattle.below.proofs.Tests.{tally-same, tally-mono, tally-within, tally-less, total-more, total-most}
-use Rattle.outputs.specs.Output.{onFront}
+use Rattle.base_bounded.specs.Tests.{tally, total}
+use Rattle.base_bounded.proofs.Bools.{clash, decided, eq-or-not, lt-or-le, and-yes, and-left, and-right, same-test, no-test}
+use Rattle.base_bounded.proofs.Tests.{tally-same, tally-mono, tally-within, tally-less, total-more, total-most}
+use Rattle.base_outputs.specs.Output.{onFront}
 use Rattle.graph.specs.Hops.{count, from, label, to, has}
 use Rattle.graph.specs.Answers.{most-hops}
 use Rattle.graph.proofs.Places.{has-at}
-use Rattle.shrinking.specs.Pairs.{In}
+use Rattle.base_fixpoint.specs.Pairs.{In}
 use Rattle.confluence.specs.Rounds.{answered, closes, survives, marked}
 use Rattle.confluence.specs.Held.{isMarked, markOf, marksOf, everyPair}
 use Rattle.confluence.proofs.Rounds.{survives-none}

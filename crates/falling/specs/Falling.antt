@@ -3,7 +3,7 @@ use Prim.Native.Nat.{ℕ, suc, _≤_}
 use mathlib.Core.Path.{_≡_}
 use mathlib.Core.List.{List}
 use lib.ListN.{length}
-use Rattle.outputs.specs.Output.{onFront}
+use Rattle.base_outputs.specs.Output.{onFront}
 use Rattle.graph.specs.Answers.{most-hops}
 use Rattle.confluence.specs.Rounds.{survives}
 use Rattle.confluence.specs.Held.{marksOf}

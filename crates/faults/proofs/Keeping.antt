@@ -12,7 +12,7 @@ use Rattle.graph.specs.Map.{mapped}
 use Rattle.graph.specs.Search.{placed}
 use Rattle.graph.specs.declared.Found.{Found}
 use Rattle.graph.specs.declared.Found.the-variants.{At, Gap}
-use Rattle.below.proofs.Bools.{or-right}
+use Rattle.base_bounded.proofs.Bools.{or-right}
 use Rattle.graph.proofs.Lookup.{at-place, at-has, gap-has}
 use Rattle.starts.specs.Starts.{Ready}
 use Rattle.faults.specs.Faults.{initialFault, kept}

@@ -11,7 +11,7 @@ use lib.ListN.{length, take, drop, length-append, length-drop, take-append-drop}
 use lib.Seq.{drop-cons, drop-drop, drop-length}
 use lib.Dec.{eqb}
 use Rattle.graph.specs.Hops.{count}
-use Rattle.below.proofs.Bools.{decided}
+use Rattle.base_bounded.proofs.Bools.{decided}
 use Rattle.names.specs.Block.{nameAt}
 use Rattle.names.proofs.Blocks.{name-first, name-later}
 use Rattle.numbers.specs.Numbers.{number}

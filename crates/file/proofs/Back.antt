@@ -15,7 +15,7 @@ use Rattle.graph.specs.Answers.{most-hops, accepted}
 use Rattle.limits.specs.Check.{checkOf, Admitted}
 use Rattle.graph.specs.declared.Shape.{Shape}
 use Rattle.graph.specs.declared.Answer.{Answer}
-use Rattle.below.proofs.Bools.{decided, eq-or-not, lt-or-le, not-yes, and-no-left, and-no-right, or-no}
+use Rattle.base_bounded.proofs.Bools.{decided, eq-or-not, lt-or-le, not-yes, and-no-left, and-no-right, or-no}
 use Rattle.limits.proofs.Checked.{check-admitted, admitted-check}
 use Rattle.graph.proofs.Accepts.{both-accept}
 use Rattle.names.specs.Block.{most-name-bytes, nameAt, firstBad}

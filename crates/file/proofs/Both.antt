@@ -15,13 +15,13 @@ use Rattle.graph.specs.Answers.{most-numbers, accepted, refused, roomFor}
 use Rattle.limits.specs.Check.{Admitted}
 use Rattle.graph.specs.declared.Shape.{Shape}
 use Rattle.graph.specs.declared.Answer.{Answer}
-use Rattle.below.proofs.Bools.{decided}
+use Rattle.base_bounded.proofs.Bools.{decided}
 use Rattle.limits.proofs.Checked.{check-admitted, admitted-check}
 use Rattle.graph.proofs.Accepts.{both-accept}
 use Rattle.names.specs.Block.{nameAt, firstBad}
 use Rattle.names.proofs.Blocks.{name-later}
 use Rattle.names.proofs.Fronts.{name-same, first-bad-same}
-use Rattle.outputs.specs.Output.{onFront}
+use Rattle.base_outputs.specs.Output.{onFront}
 use Rattle.fields.specs.Format.{hasNames, labelsIn, hopsIn, namesIn, restOf, linesPlace, need, shapeIn, hopListIn, blockPlace, blockLength, blockIn}
 use Rattle.reader.specs.Read.{readAnswer, nothing, contentsOf, readOf, readHops}
 use Rattle.encoding.specs.Encode.{encode}

@@ -10,15 +10,15 @@ use native.Mathlib.Omega.{arith}
 use borrow.Author.Tests.{eq-eqb, ne-eqb, eqb-true, lt-ltb}
 use lib.ListN.{length, getD}
 use lib.Dec.{eqb, ltb}
-use Rattle.below.specs.Tests.{listed}
+use Rattle.base_bounded.specs.Tests.{listed}
 use Rattle.graph.specs.Hops.{numberPlace, count, from, label, to, lineAt, linedHop, hopAt, flat}
 use Rattle.graph.specs.Order.{before, Ascending}
 use Rattle.graph.specs.Answers.{most-states, most-labels, most-hops, accepted}
 use Rattle.graph.specs.declared.Hop.{Hop}
 use Rattle.limits.specs.Check.{Admitted}
 use Rattle.graph.specs.declared.Shape.{Shape}
-use Rattle.below.proofs.Bools.{not-no, and-right, or-right, lt-or-le, no-test}
-use Rattle.below.proofs.Tests.{length-listed, getD-listed, all-at, any-no, any-found, least-is}
+use Rattle.base_bounded.proofs.Bools.{not-no, and-right, or-right, lt-or-le, no-test}
+use Rattle.base_bounded.proofs.Tests.{length-listed, getD-listed, all-at, any-no, any-found, least-is}
 use Rattle.linefield.specs.LineField.{anyLine}
 use Rattle.linefield.proofs.Laws.{lined}
 use Rattle.hopfield.specs.Field.{hopsBy}

@@ -8,7 +8,7 @@ use Rattle.graph.specs.Hops.{count}
 use Rattle.graph.specs.Answers.{most-numbers, accepted, andThen, roomFor}
 use Rattle.graph.specs.declared.Shape.{Shape}
 use Rattle.graph.specs.declared.Answer.{Answer}
-use Rattle.outputs.specs.Output.{written}
+use Rattle.base_outputs.specs.Output.{written}
 use Rattle.reader.specs.Read.{readAnswer, nothing}
 use Rattle.reader.specs.declared.Contents.{Contents}
 use Rattle.encoding.specs.Encode.{linesBytes, encode}

@@ -13,7 +13,7 @@ use Rattle.graph.specs.Search.{lower}
 use Rattle.limits.specs.Check.{checkOf, Admitted}
 use Rattle.graph.specs.declared.Shape.{Shape}
 use Rattle.graph.specs.declared.Hop.{Hop}
-use Rattle.below.proofs.Bools.{clash, no-test, lt-or-le}
+use Rattle.base_bounded.proofs.Bools.{clash, no-test, lt-or-le}
 use Rattle.graph.proofs.Places.{Place, is-yes, has-place}
 use Rattle.graph.proofs.Lookup.{lower-within, lower-law, lower-at}
 use Rattle.limits.proofs.Checked.{admitted-check}

@@ -11,8 +11,8 @@ use Rattle.graph.specs.Hops.{count, from, label, to, hopOf, hopAt, is, has}
 use Rattle.graph.specs.Order.{before}
 use Rattle.limits.specs.Check.{Admitted}
 use Rattle.graph.specs.declared.Shape.{Shape}
-use Rattle.below.proofs.Bools.{lt-or-le}
-use Rattle.below.proofs.Tests.{any-same, tally-same}
+use Rattle.base_bounded.proofs.Bools.{lt-or-le}
+use Rattle.base_bounded.proofs.Tests.{any-same, tally-same}
 use Rattle.finding.specs.Finding.{hopsBefore, narrowed}
 
 -- the ways out of `narrow`

@@ -8,7 +8,7 @@ use native.Mathlib.Omega.{arith}
 use lib.ListN.{length, getD, take, List·getD-eq-default}
 use lib.Seq.{length-take-le, getD-take, getD-drop}
 use Rattle.graph.specs.Answers.{refused}
-use Rattle.below.proofs.Bools.{decided, lt-or-le}
+use Rattle.base_bounded.proofs.Bools.{decided, lt-or-le}
 use Rattle.names.specs.Block.{nameAt}
 use Rattle.names.proofs.Fronts.{name-same}
 use Rattle.numbers.specs.Numbers.{numberAt}

@@ -9,7 +9,7 @@ use borrow.Author.Tests.{ltb-false, leb-false, eqb-false}
 use lib.ListN.{length}
 use lib.Dec.{eqb, leb, ltb}
 use Rattle.graph.specs.declared.Answer.{Answer}
-use Rattle.below.proofs.Bools.{clash}
+use Rattle.base_bounded.proofs.Bools.{clash}
 use Rattle.names.specs.Block.{firstBad}
 use Rattle.linefield.specs.LineField.{zeroLines}
 use Rattle.fields.specs.Format.{bitMap, hasInitial, hasHops, hasNames, hasLines, labelsIn, initialIn, hopsIn, namesPlace, namesIn, restOf, linesPlace, need, idleBit}

@@ -12,7 +12,7 @@ use lib.Dec.{ltb, eqb}
 use Rattle.graph.specs.Hops.{count, hopAt, Alike}
 use Rattle.graph.specs.Order.{before, Ascending}
 use Rattle.graph.specs.declared.Hop.{Hop}
-use Rattle.below.proofs.Bools.{clash, and-yes, and-left, and-right, or-left, or-right, or-yes, no-test, lt-or-le}
+use Rattle.base_bounded.proofs.Bools.{clash, and-yes, and-left, and-right, or-left, or-right, or-yes, no-test, lt-or-le}
 
 -- the order as a statement
 abbrev pub Below : Hop → Hop → Type 0

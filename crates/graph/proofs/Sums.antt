@@ -7,7 +7,7 @@ use mathlib.Core.Logic.{_⊎_, inl, inr}
 use native.Mathlib.Omega.{arith}
 use borrow.Author.Tests.{ltb-true, lt-ltb, le-ltb, eqb-true, eq-eqb}
 use lib.Dec.{ltb, eqb}
-use Rattle.below.proofs.Bools.{same-test, decided}
+use Rattle.base_bounded.proofs.Bools.{same-test, decided}
 use Rattle.graph.specs.Hops.{hopOf, Alike, same}
 use Rattle.graph.specs.Order.{before}
 use Rattle.graph.specs.Sum.{sumOf, Narrow}

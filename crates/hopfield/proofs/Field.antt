@@ -9,8 +9,8 @@ use lib.ListN.{length, drop}
 use lib.Seq.{drop-drop}
 use Rattle.graph.specs.Hops.{numbers-a-hop, numberPlace, count, lineAt, linedHop, hopAt}
 use Rattle.graph.specs.declared.Hop.{Hop}
-use Rattle.outputs.specs.Output.{overAt}
-use Rattle.outputs.proofs.Front.{over-then}
+use Rattle.base_outputs.specs.Output.{overAt}
+use Rattle.base_outputs.proofs.Front.{over-then}
 use Rattle.numbers.specs.Numbers.{numberAt, number}
 use Rattle.numbers.specs.Parts.{parts}
 use Rattle.linefield.specs.LineField.{lineIn, anyLine}

@@ -13,7 +13,7 @@ ghost use mathlib.Core.Path.{_≡_};
 ghost use Prim.Native.Nat.{_+_, _*_, _≤_};
 ghost use lib.ListN.{length};
 ghost use Rattle.graph.specs.Hops.{count};
-ghost use Rattle.outputs.specs.Output.{onFront, overAt};
+ghost use Rattle.base_outputs.specs.Output.{onFront, overAt};
 ghost use Rattle.numbers.specs.Numbers.{most-number};
 ghost use Rattle.linefield.specs.LineField.{LinesLie};
 ghost use Rattle.hopfield.specs.Field.{bytes-a-hop, hopPlace, fieldLength, HopsLie, hopIn, hopsInField, hopBytes, eachHop, fieldBytes};

@@ -10,9 +10,9 @@ use borrow.Author.Tests.{eq-eqb, ne-eqb}
 use lib.ListN.{length, getD, set, drop, length-set}
 use lib.Dec.{eqb}
 use lib.Seq.{getD-set-same, getD-set-other, drop-set-lt}
-use Rattle.below.specs.Tests.{tally}
-use Rattle.below.proofs.Bools.{clash, eq-or-not, not-yes, not-no, and-yes, and-left, and-no-left, and-no-right}
-use Rattle.below.proofs.Tests.{tally-less, tally-within}
+use Rattle.base_bounded.specs.Tests.{tally}
+use Rattle.base_bounded.proofs.Bools.{clash, eq-or-not, not-yes, not-no, and-yes, and-left, and-no-left, and-no-right}
+use Rattle.base_bounded.proofs.Tests.{tally-less, tally-within}
 use Rattle.graph.specs.Hops.{count}
 use Rattle.confluence.specs.Held.{isMarked}
 use Rattle.judging.specs.Judged.{fits, falls, Judged}

@@ -4,10 +4,10 @@ use mathlib.Core.Path.{_≡_}
 use mathlib.Core.Bool.{Bool, not, cond, _&&_, _||_}
 use mathlib.Core.List.{List}
 use lib.ListN.{length, getD, drop}
-use Rattle.below.specs.Tests.{all, tally}
+use Rattle.base_bounded.specs.Tests.{all, tally}
 use Rattle.graph.specs.Hops.{count, from, to}
 use Rattle.confluence.specs.Held.{isMarked}
-use Rattle.bits.specs.Bits.{inTable, word-bits}
+use Rattle.base_bitset.specs.Bits.{inTable, word-bits}
 
 -- every bit that the state which the hop at place i leaves has in `froms`, the state that it leads to has in `answers`
 unfoldable pub fits : List ℕ → List ℕ → List ℕ → ℕ → Bool

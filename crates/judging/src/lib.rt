@@ -1,7 +1,7 @@
 // Judging marks by two tables of words: a marked hop keeps its mark if every bit of the state that it leaves, in the one table, is at the state that it leads
 // to, in the other. In the weaker senses a bit is a hop tried, `froms` has it where that hop begins, and `answers` where it is answered (`trials`).
-// It stands on `bits` and looks at hops by graph; what the bits mean is no matter of this crate.
-use bits::holds;
+// It stands on `base_bitset` and looks at hops by graph; what the bits mean is no matter of this crate.
+use base_bitset::holds;
 use graph::MOST_STATES;
 use graph::hops::hop_at;
 use graph::hops::hop_count;

@@ -5,7 +5,7 @@ use mathlib.Core.List.{List, _++_}
 use native.Mathlib.Omega.{arith}
 use lib.ListN.{length, drop}
 use lib.Seq.{take-at}
-use Rattle.outputs.specs.Output.{onFront}
+use Rattle.base_outputs.specs.Output.{onFront}
 use Rattle.graph.specs.Hops.{count, between, numberPlace}
 use Rattle.graph.specs.Answers.{accepted}
 use Rattle.graph.specs.declared.Shape.{Shape}

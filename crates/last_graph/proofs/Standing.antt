@@ -8,7 +8,7 @@ use native.Mathlib.Omega.{arith}
 use borrow.Author.Tests.{eqb-true, not-false}
 use lib.ListN.{length}
 use lib.Dec.{eqb}
-use Rattle.below.proofs.Bools.{clash, decided}
+use Rattle.base_bounded.proofs.Bools.{clash, decided}
 use Rattle.graph.specs.Hops.{count, between}
 use Rattle.graph.specs.Answers.{most-states}
 use Rattle.graph.specs.declared.Shape.{Shape}

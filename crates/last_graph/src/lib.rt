@@ -1,6 +1,7 @@
 // The entry `shrink`: reduces again and again in the sense asked, until no hop is marked, and gives the last graph and the map from first states to last.
 // It refuses as `reduce` does, and asks the rows once: no short graph breaks them. Stands on quotient (the rows), turns (one reduction, and its map behind
 // the map) and repeating (what it all means).
+use base_outputs::put_numbers;
 use composing::put_own;
 use graph::Answer;
 use graph::MOST_NUMBERS;
@@ -8,14 +9,13 @@ use graph::Shape;
 use graph::answers::accept;
 use graph::hops::hop_count;
 use graph::hops::part;
-use outputs::put_numbers;
 use quotient::entry::reduce_answer;
 use turns::Reached;
 use turns::turn;
 ghost use mathlib.Core.Path.{_≡_};
 ghost use Prim.Native.Nat.{_≤_};
 ghost use lib.ListN.{length};
-ghost use Rattle.outputs.specs.Output.{onFront};
+ghost use Rattle.base_outputs.specs.Output.{onFront};
 ghost use Rattle.graph.specs.Hops.{count, between};
 ghost use Rattle.graph.specs.Answers.{accepted};
 ghost use Rattle.representatives.specs.Tables.{Reducible};

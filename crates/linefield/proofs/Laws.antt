@@ -9,11 +9,11 @@ use borrow.Author.Tests.{eq-eqb, eqb-true}
 use lib.ListN.{length, drop}
 use lib.Seq.{drop-drop}
 use lib.Dec.{eqb}
-use Rattle.below.specs.Tests.{all, any}
-use Rattle.below.proofs.Bools.{clash, not-yes}
-use Rattle.below.proofs.Tests.{any-never, any-no}
+use Rattle.base_bounded.specs.Tests.{all, any}
+use Rattle.base_bounded.proofs.Bools.{clash, not-yes}
+use Rattle.base_bounded.proofs.Tests.{any-never, any-no}
 use Rattle.graph.specs.Hops.{count, lineAt}
-use Rattle.outputs.specs.Output.{overAt}
+use Rattle.base_outputs.specs.Output.{overAt}
 use Rattle.numbers.specs.Numbers.{numberAt, number}
 use Rattle.numbers.specs.Parts.{parts}
 use Rattle.numbers.proofs.TwoBytes.{Bytes, number-whole, number-drop, number-again}

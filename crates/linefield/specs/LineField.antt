@@ -6,7 +6,7 @@ use mathlib.Core.Bool.{Bool, true, not, cond}
 use mathlib.Core.List.{List}
 use lib.ListN.{length}
 use lib.Dec.{eqb}
-use Rattle.below.specs.Tests.{all, any}
+use Rattle.base_bounded.specs.Tests.{all, any}
 use Rattle.graph.specs.Hops.{count, lineAt}
 use Rattle.numbers.specs.Numbers.{numberAt, number}
 use Rattle.numbers.specs.Parts.{parts}

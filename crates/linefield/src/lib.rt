@@ -8,7 +8,7 @@ ghost use mathlib.Core.Path.{_≡_};
 ghost use Prim.Native.Nat.{_+_, _<_, _≤_};
 ghost use lib.ListN.{length};
 ghost use Rattle.graph.specs.Hops.{count};
-ghost use Rattle.outputs.specs.Output.{overAt};
+ghost use Rattle.base_outputs.specs.Output.{overAt};
 ghost use Rattle.linefield.specs.LineField.{linesLength, linePlace, lineIn, LinesLie, zeroLines, anyLine, lineList};
 
 // A line is one number.

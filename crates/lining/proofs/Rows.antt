@@ -7,10 +7,10 @@ use mathlib.Core.Logic.{_⊎_, inl, inr}
 use native.Mathlib.Omega.{arith}
 use lib.ListN.{length, getD, set, length-set}
 use lib.Seq.{getD-set-same, getD-set-other}
-use Rattle.below.specs.Tests.{tally}
-use Rattle.below.proofs.Bools.{lt-or-le}
-use Rattle.below.proofs.Tests.{tally-more}
-use Rattle.below.proofs.Tallies.{tally-past}
+use Rattle.base_bounded.specs.Tests.{tally}
+use Rattle.base_bounded.proofs.Bools.{lt-or-le}
+use Rattle.base_bounded.proofs.Tests.{tally-more}
+use Rattle.base_bounded.proofs.Tallies.{tally-past}
 use Rattle.graph.specs.Hops.{count, label, labelled}
 use Rattle.graph.specs.Order.{Ascending}
 use Rattle.graph.specs.Search.{firstOf, pastOf, labelledPast}

@@ -6,7 +6,7 @@ use mathlib.Core.Bool.{Bool, true, cond, _&&_}
 use mathlib.Core.List.{List}
 use lib.ListN.{length, getD}
 use lib.Dec.{eqb}
-use Rattle.below.specs.Tests.{tally}
+use Rattle.base_bounded.specs.Tests.{tally}
 use Rattle.graph.specs.Hops.{count, from, label, to, labelled}
 use Rattle.reaching.specs.Front.{noted}
 use Rattle.ranking.specs.Ranks.{endsNoted}

@@ -15,7 +15,7 @@ ghost use mathlib.Core.Path.{_≡_};
 ghost use Prim.Native.Nat.{_+_, _<_, _≤_};
 ghost use lib.ListN.{length};
 ghost use Rattle.graph.specs.Hops.{count, labelled};
-ghost use Rattle.below.specs.Tests.{tally};
+ghost use Rattle.base_bounded.specs.Tests.{tally};
 ghost use Rattle.silent.specs.Silent.{ringless};
 ghost use Rattle.starts.specs.Starts.{Tabled};
 ghost use Rattle.lining.specs.Line.{Line};

@@ -4,7 +4,7 @@ use mathlib.Core.Path.{_≡_, sym, _∙_}
 use mathlib.Core.List.{List}
 use lib.ListN.{length}
 use borrow.Author.Tests.{eq-eqb, ne-eqb, le-leb, lt-leb}
-use Rattle.outputs.specs.Output.{onFront}
+use Rattle.base_outputs.specs.Output.{onFront}
 use Rattle.graph.specs.Hops.{count}
 use Rattle.graph.specs.Answers.{accepted, refused, andThen, roomFor}
 use Rattle.limits.specs.Check.{checkOf, Admitted}

@@ -2,7 +2,7 @@
 use Prim.Native.Nat.{ℕ}
 use mathlib.Core.List.{List}
 use lib.ListN.{length}
-use Rattle.outputs.specs.Output.{written}
+use Rattle.base_outputs.specs.Output.{written}
 use Rattle.graph.specs.Hops.{count}
 use Rattle.graph.specs.Answers.{andThen, roomFor}
 use Rattle.limits.specs.Check.{checkOf}

@@ -14,7 +14,7 @@ use weaker::mark_by_sweeps;
 ghost use mathlib.Core.Path.{_≡_};
 ghost use Prim.Native.Nat.{_≤_};
 ghost use lib.ListN.{length};
-ghost use Rattle.outputs.specs.Output.{onFront};
+ghost use Rattle.base_outputs.specs.Output.{onFront};
 ghost use Rattle.graph.specs.Hops.{count};
 ghost use Rattle.graph.specs.Answers.{andThen, roomFor};
 ghost use Rattle.starts.specs.Starts.{Tabled};

@@ -9,10 +9,10 @@ use native.Mathlib.Nat.{eq-or-lt-of-le}
 use native.Mathlib.Omega.{arith}
 use Rattle.graph.specs.Hops.{count, from, label, to, labelled, hopAt}
 use Rattle.graph.specs.Order.{Ascending}
-use Rattle.below.proofs.Bools.{lt-or-le}
+use Rattle.base_bounded.proofs.Bools.{lt-or-le}
 use Rattle.graph.proofs.Places.{labelled-yes, labelled-parts}
 use Rattle.graph.proofs.Ordered.{Below, before-below, ascending-lt}
-use Rattle.shrinking.specs.Pairs.{Pairs}
+use Rattle.base_fixpoint.specs.Pairs.{Pairs}
 use Rattle.confluence.specs.Rounds.{closing, hopAnswers}
 use Rattle.confluence.proofs.Closing.{closing-is, hop-answers, none-answers}
 use Rattle.merging.specs.Row.{Row}

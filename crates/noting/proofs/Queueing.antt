@@ -9,10 +9,10 @@ use native.Mathlib.Omega.{arith}
 use lib.ListN.{length, getD, set, length-set}
 use lib.Seq.{getD-set-same, getD-set-other}
 use borrow.Author.Tests.{eq-eqb, ne-eqb, eqb-true}
-use Rattle.below.specs.Tests.{tally}
-use Rattle.below.proofs.Bools.{clash, eq-or-not, lt-or-le}
-use Rattle.below.proofs.Tests.{tally-within, tally-zero, tally-less}
-use Rattle.below.proofs.Tallies.{tally-one}
+use Rattle.base_bounded.specs.Tests.{tally}
+use Rattle.base_bounded.proofs.Bools.{clash, eq-or-not, lt-or-le}
+use Rattle.base_bounded.proofs.Tests.{tally-within, tally-zero, tally-less}
+use Rattle.base_bounded.proofs.Tallies.{tally-one}
 use Rattle.graph.specs.Hops.{count, from, label}
 use Rattle.confluence.specs.Held.{isMarked}
 use Rattle.noting.specs.Queue.{Among, Queue, Wanted, Noted, Only, Unset}

@@ -7,9 +7,9 @@ use mathlib.Core.List.{List}
 use mathlib.Core.Logic.{_⊎_, inl, inr, ⊎-elim}
 use native.Mathlib.Omega.{arith}
 use lib.ListN.{getD}
-use Rattle.below.specs.Slots.{slot}
-use Rattle.below.proofs.Bools.{clash, lt-or-le}
-use Rattle.below.proofs.Slots.{beginning-within, slot-in}
+use Rattle.base_bounded.specs.Slots.{slot}
+use Rattle.base_bounded.proofs.Bools.{clash, lt-or-le}
+use Rattle.base_bounded.proofs.Slots.{beginning-within, slot-in}
 use Rattle.graph.specs.Hops.{count, from, label, to, hopOf, is, has}
 use Rattle.graph.specs.Order.{Ascending}
 use Rattle.graph.specs.Search.{placed, firstOf, labelledFrom, labelledPast}

@@ -8,8 +8,8 @@ use native.Mathlib.Numerals.{add-one}
 use native.Mathlib.Omega.{arith}
 use lib.ListN.{length, drop, length-append}
 use lib.Seq.{drop-at}
-use Rattle.outputs.specs.Output.{overAt}
-use Rattle.outputs.proofs.Front.{over-none, over-then}
+use Rattle.base_outputs.specs.Output.{overAt}
+use Rattle.base_outputs.proofs.Front.{over-none, over-then}
 use Rattle.numbers.specs.Parts.{parts}
 
 module _ (f : ℕ → List ℕ) (w : ℕ) where

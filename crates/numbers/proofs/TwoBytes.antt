@@ -6,8 +6,8 @@ use native.Mathlib.Numerals.{add-one}
 use native.Mathlib.Omega.{arith}
 use lib.ListN.{length, getD, drop, set}
 use lib.Seq.{drop-cons, getD-drop, set-split}
-use Rattle.outputs.specs.Output.{overAt}
-use Rattle.outputs.proofs.Front.{over-more}
+use Rattle.base_outputs.specs.Output.{overAt}
+use Rattle.base_outputs.proofs.Front.{over-more}
 use Rattle.numbers.specs.Numbers.{numberAt, number}
 
 -- bytes are below 256

@@ -1,9 +1,9 @@
 // "All numbers are 16-bit, low byte first": a byte and a number among the bytes of a file, read and put. For the fields, the hop field and the names of a
-// file, and for what writes one. A missing byte reads 0, so that what a file says can be asked before its length is known. It stands on outputs.
+// file, and for what writes one. A missing byte reads 0, so that what a file says can be asked before its length is known. It stands on base_outputs.
 ghost use mathlib.Core.Path.{_≡_};
 ghost use Prim.Native.Nat.{_+_, _*_, _≤_};
 ghost use lib.ListN.{length, getD};
-ghost use Rattle.outputs.specs.Output.{overAt};
+ghost use Rattle.base_outputs.specs.Output.{overAt};
 ghost use Rattle.numbers.specs.Numbers.{most-number, numberAt, number};
 
 // The byte at a place, or 0 past the end.

@@ -9,7 +9,7 @@ use lib.Dec.{eqb, ltb}
 use Rattle.limits.specs.Check.{checkOf, Admitted}
 use Rattle.graph.specs.declared.Shape.{Shape}
 use Rattle.graph.specs.declared.Answer.{Answer}
-use Rattle.below.proofs.Bools.{and-left, and-right}
+use Rattle.base_bounded.proofs.Bools.{and-left, and-right}
 use Rattle.limits.proofs.Checked.{check-admitted}
 use Rattle.outgoing.specs.Outgoing.{bothPass, chosen}
 

@@ -8,13 +8,13 @@ use native.Mathlib.Omega.{arith}
 use borrow.Author.Tests.{ne-eqb, le-leb, lt-leb, ltb-true, ltb-false}
 use lib.ListN.{length}
 use lib.Dec.{eqb, ltb}
-use Rattle.outputs.specs.Output.{onFront, written}
+use Rattle.base_outputs.specs.Output.{onFront, written}
 use Rattle.graph.specs.Answers.{accepted, refused, andThen, roomFor}
 use Rattle.limits.specs.Check.{checkOf}
 use Rattle.graph.specs.Hops.{flat}
 use Rattle.graph.specs.declared.Shape.{Shape}
 use Rattle.graph.specs.declared.Answer.{Answer}
-use Rattle.below.proofs.Bools.{clash, or-yes, lt-or-le}
+use Rattle.base_bounded.proofs.Bools.{clash, or-yes, lt-or-le}
 use Rattle.limits.proofs.Checked.{check-admitted}
 use Rattle.silent.specs.Silent.{ringless}
 use Rattle.graph.proofs.Accepts.{then-first, then-next, both-accept, room-accepts}

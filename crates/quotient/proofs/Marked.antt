@@ -5,7 +5,7 @@ use mathlib.Core.Path.{_≡_, ap, _∙_}
 use mathlib.Core.List.{List}
 use native.Mathlib.Omega.{arith}
 use lib.ListN.{length}
-use Rattle.outputs.specs.Output.{onFront}
+use Rattle.base_outputs.specs.Output.{onFront}
 use Rattle.graph.specs.Hops.{count, flat}
 use Rattle.graph.specs.Answers.{accepted}
 use Rattle.graph.specs.declared.Answer.{Answer}
@@ -15,7 +15,7 @@ use Rattle.lts.specs.Closes.{Sense}
 use Rattle.lts.proofs.SenseForms.{set-confluent}
 use Rattle.silent.specs.Silent.{HopOf}
 use Rattle.silent.proofs.Rings.{rank}
-use Rattle.shrinking.specs.Pairs.{Pairs, In, Within}
+use Rattle.base_fixpoint.specs.Pairs.{Pairs, In, Within}
 use Rattle.confluence.specs.Rounds.{silentHops}
 use Rattle.confluence.specs.Held.{marksOf, heldBy}
 use Rattle.confluence.proofs.Marks.{marks-room, marks-silent, held-set}

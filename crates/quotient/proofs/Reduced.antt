@@ -8,7 +8,7 @@ use Rattle.graph.specs.declared.Shape.{Shape}
 use Rattle.lts.specs.Closes.{Sense}
 use Rattle.lts.specs.Reduction.{Reduces}
 use Rattle.silent.specs.Silent.{HopOf}
-use Rattle.shrinking.specs.Pairs.{In}
+use Rattle.base_fixpoint.specs.Pairs.{In}
 use Rattle.senses.specs.Senses.{markedIn}
 use Rattle.representatives.specs.Representative.{mapOf}
 use Rattle.representatives.specs.Tables.{Reducible}

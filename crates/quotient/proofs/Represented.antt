@@ -9,7 +9,7 @@ use lib.Dec.{eqb}
 use Rattle.graph.specs.declared.Shape.{Shape}
 use Rattle.lts.specs.Sense.{Normal}
 use Rattle.lts.specs.Closes.{Sense}
-use Rattle.shrinking.specs.Pairs.{In}
+use Rattle.base_fixpoint.specs.Pairs.{In}
 use Rattle.senses.specs.Senses.{markedIn}
 use Rattle.representatives.specs.Representative.{IsRepresentative, resting, onward, newOf, repOf, mapOf}
 use Rattle.representatives.specs.Tables.{Reducible}

@@ -5,7 +5,7 @@ use mathlib.Core.Bool.{cond}
 use mathlib.Core.List.{List}
 use lib.ListN.{length}
 use lib.Dec.{eqb}
-use Rattle.outputs.specs.Output.{written}
+use Rattle.base_outputs.specs.Output.{written}
 use Rattle.graph.specs.Hops.{flat}
 use Rattle.graph.specs.Answers.{andThen, roomFor}
 use Rattle.limits.specs.Check.{checkOf}

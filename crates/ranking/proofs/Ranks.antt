@@ -13,8 +13,8 @@ use Rattle.graph.specs.Order.{Ascending}
 use Rattle.graph.specs.Search.{firstOf, pastOf, labelledPast}
 use Rattle.limits.specs.Check.{InRange}
 use Rattle.graph.specs.declared.Shape.{Shape}
-use Rattle.below.proofs.Bools.{clash, decided, lt-or-le, or-left, or-right, or-no, or-yes, not-yes, not-no}
-use Rattle.below.proofs.Tests.{all-at, all-fails, tally-less, tally-within}
+use Rattle.base_bounded.proofs.Bools.{clash, decided, lt-or-le, or-left, or-right, or-no, or-yes, not-yes, not-no}
+use Rattle.base_bounded.proofs.Tests.{all-at, all-fails, tally-less, tally-within}
 use Rattle.graph.proofs.Lookup.{first-within, range-only, all-range}
 use Rattle.graph.proofs.Places.{labelled-yes, labelled-parts}
 use Rattle.lts.specs.Star.{stay, go}

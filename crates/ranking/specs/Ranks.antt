@@ -5,7 +5,7 @@ use mathlib.Core.Path.{_≡_}
 use mathlib.Core.Bool.{Bool, true, not, _||_}
 use mathlib.Core.List.{List}
 use lib.ListN.{length}
-use Rattle.below.specs.Tests.{all, tally}
+use Rattle.base_bounded.specs.Tests.{all, tally}
 use Rattle.graph.specs.Hops.{count, to, labelled}
 use Rattle.reaching.specs.Front.{noted}
 use Rattle.silent.specs.Silent.{OnRing}

@@ -9,11 +9,11 @@ use native.Mathlib.Omega.{arith}
 use lib.Dec.{eqb}
 use lib.ListN.{length, getD, set, take, drop, replicate, length-set, length-replicate, take-append-drop, List·getD-append, getD-replicate}
 use lib.Seq.{ext-getD, length-take-le, getD-take, drop-at, drop-set-lt}
-use Rattle.below.specs.Tests.{listed}
+use Rattle.base_bounded.specs.Tests.{listed}
 use Rattle.limits.specs.Check.{InRange}
 use Rattle.graph.specs.declared.Shape.{Shape}
-use Rattle.below.proofs.Bools.{clash, eq-or-not, no-test}
-use Rattle.below.proofs.Tests.{length-listed, getD-listed, tally-within}
+use Rattle.base_bounded.proofs.Bools.{clash, eq-or-not, no-test}
+use Rattle.base_bounded.proofs.Tests.{length-listed, getD-listed, tally-within}
 use Rattle.lts.specs.Star.{Star, stay, go}
 use Rattle.lts.proofs.Star.{one, join}
 use Rattle.reaching.specs.Reaching.{ChosenOf, leadsBy}

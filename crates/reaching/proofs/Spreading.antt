@@ -12,7 +12,7 @@ use Rattle.graph.specs.Hops.{count, to}
 use Rattle.graph.specs.Search.{firstOf, pastOf}
 use Rattle.limits.specs.Check.{Admitted}
 use Rattle.graph.specs.declared.Shape.{Shape}
-use Rattle.below.proofs.Bools.{clash, eq-or-not}
+use Rattle.base_bounded.proofs.Bools.{clash, eq-or-not}
 use Rattle.graph.proofs.Lookup.{range-holds, range-only, first-within}
 use Rattle.reaching.specs.Reaching.{ChosenOf, chosenIn}
 use Rattle.reaching.specs.Front.{noted, seenWith, queueWith, tailWith, Front, Grown, Spread}

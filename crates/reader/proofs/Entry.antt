@@ -14,7 +14,7 @@ use Rattle.graph.specs.Answers.{most-states, most-labels, most-hops, accepted, 
 use Rattle.limits.specs.Check.{countsFit, checkOf}
 use Rattle.graph.specs.declared.Shape.{Shape}
 use Rattle.graph.specs.declared.Answer.{Answer}
-use Rattle.below.proofs.Bools.{and-no-left, and-no-right, not-no, decided}
+use Rattle.base_bounded.proofs.Bools.{and-no-left, and-no-right, not-no, decided}
 use Rattle.limits.proofs.Checked.{check-counts, check-admitted}
 use Rattle.graph.proofs.Accepts.{both-accept, second-accepts, room-accepts}
 use Rattle.linefield.specs.declared.Lines.{Lines}
@@ -24,7 +24,7 @@ use Rattle.fields.proofs.Laws.{hops-on, hops-off, length-hop-list, count-hop-li
 use Rattle.format.specs.Rows.{formatAnswer}
 use Rattle.format.proofs.Sound.{Sound, format-sound}
 use Rattle.format.proofs.Cut.{front-refused}
-use Rattle.outputs.specs.Output.{onFront}
+use Rattle.base_outputs.specs.Output.{onFront}
 use Rattle.reader.specs.Read.{readAnswer, readOf, readHops, nothing, contentsOf}
 
 -- a graph with too many hops is refused whatever they are

@@ -10,7 +10,7 @@ use Rattle.limits.specs.Check.{checkOf}
 use Rattle.graph.specs.declared.Answer.{Answer}
 use Rattle.fields.specs.Format.{hopsIn, shapeIn, hopListIn, blockPlace, blockLength}
 use Rattle.format.specs.Rows.{formatAnswer}
-use Rattle.outputs.specs.Output.{written}
+use Rattle.base_outputs.specs.Output.{written}
 use Rattle.reader.specs.declared.Contents.{Contents}
 
 -- "then 1 to 4, then 6": the output takes four numbers a hop

@@ -16,7 +16,7 @@ use Rattle.graph.specs.Answers.{most-states, most-labels, most-hops, refused}
 use Rattle.limits.specs.Check.{countsFit, checkOf}
 use Rattle.graph.specs.declared.Hop.{Hop}
 use Rattle.graph.specs.declared.Shape.{Shape}
-use Rattle.below.proofs.Bools.{not-no, and-no-left, and-no-right}
+use Rattle.base_bounded.proofs.Bools.{not-no, and-no-left, and-no-right}
 use Rattle.limits.proofs.Checked.{check-counts}
 use Rattle.graph.proofs.Fronts.{length-front, over-front, put-over, length-over, front-over, over-over}
 use Rattle.graph.proofs.Places.{count-flat}

@@ -4,16 +4,16 @@ use mathlib.Core.Path.{_≡_, ap, _∙_}
 use mathlib.Core.List.{List, _++_}
 use native.Mathlib.Omega.{arith}
 use lib.ListN.{length, getD, drop, List·getD-append}
-use Rattle.below.specs.Tests.{listed}
-use Rattle.outputs.specs.Output.{onFront}
+use Rattle.base_bounded.specs.Tests.{listed}
+use Rattle.base_outputs.specs.Output.{onFront}
 use Rattle.graph.specs.Hops.{count, from, to, flat, over}
 use Rattle.graph.specs.Map.{mapped}
 use Rattle.graph.specs.Answers.{most-states}
 use Rattle.graph.specs.declared.Hop.{Hop}
 use Rattle.graph.specs.declared.Shape.{Shape}
-use Rattle.below.proofs.Tests.{tally-within, length-listed, getD-listed}
+use Rattle.base_bounded.proofs.Tests.{tally-within, length-listed, getD-listed}
 use Rattle.limits.specs.Check.{Admitted}
-use Rattle.shrinking.specs.Pairs.{Pairs}
+use Rattle.base_fixpoint.specs.Pairs.{Pairs}
 use Rattle.representatives.specs.Representative.{Settles, resting, mapOf}
 use Rattle.representatives.specs.Tables.{Onward, Numbers, numbered}
 use Rattle.representatives.proofs.Mapped.{map-in}

@@ -3,11 +3,11 @@
 use Prim.Native.Nat.{ℕ}
 use mathlib.Core.List.{List}
 use lib.ListN.{length, getD}
-use Rattle.outputs.specs.Output.{onFront}
+use Rattle.base_outputs.specs.Output.{onFront}
 use Rattle.graph.specs.Hops.{flat}
 use Rattle.graph.specs.Map.{mapped}
 use Rattle.graph.specs.declared.Shape.{Shape}
-use Rattle.shrinking.specs.Pairs.{Pairs}
+use Rattle.base_fixpoint.specs.Pairs.{Pairs}
 use Rattle.confluence.specs.Held.{heldBy}
 use Rattle.short.specs.Short.{shortHops, shortShape, mapList}
 use Rattle.reducing.specs.declared.ShortGraph.{ShortGraph}

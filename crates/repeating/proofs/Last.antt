@@ -6,9 +6,9 @@ use mathlib.Core.Bool.{true, false}
 use mathlib.Core.List.{List}
 use mathlib.Core.Logic.{_⊎_, inl, inr}
 use native.Mathlib.Omega.{arith}
-use Rattle.below.proofs.Bools.{decided}
+use Rattle.base_bounded.proofs.Bools.{decided}
 use Rattle.graph.specs.declared.Shape.{Shape}
-use Rattle.shrinking.specs.Pairs.{In}
+use Rattle.base_fixpoint.specs.Pairs.{In}
 use Rattle.representatives.specs.Tables.{Reducible}
 use Rattle.bisimulation.specs.Auditing.{auditOf, faultless}
 use Rattle.repeating.specs.Repeating.{Stage, firstStage, nextStage, markedAt, marksSome, repeated, lastOf, lastStage, Ends, still, again}

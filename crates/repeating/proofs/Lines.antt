@@ -6,14 +6,14 @@ use mathlib.Core.Bool.{Bool, true, false, cond, _&&_}
 use mathlib.Core.List.{List}
 use native.Mathlib.Nat.{le-refl}
 use native.Mathlib.Omega.{arith}
-use Rattle.below.proofs.Bools.{and-yes, and-left, and-right}
+use Rattle.base_bounded.proofs.Bools.{and-yes, and-left, and-right}
 use Rattle.graph.specs.Hops.{count, from, lineAt, hopAt, Alike, same, flat}
 use Rattle.graph.specs.Order.{Ascending}
 use Rattle.graph.specs.declared.Hop.{Hop}
 use Rattle.graph.specs.declared.Shape.{Shape}
 use Rattle.graph.proofs.Places.{same-alike, alike-same, has-place, has-at}
 use Rattle.graph.proofs.Ordered.{alike-itself, alike-back, alike-then, ascending-place}
-use Rattle.shrinking.specs.Pairs.{Pairs}
+use Rattle.base_fixpoint.specs.Pairs.{Pairs}
 use Rattle.sources.specs.Lines.{smallestLine, Smallest}
 use Rattle.sources.proofs.Lines.{smallest-is, smallest-only}
 use Rattle.representatives.specs.Representative.{resting, newOf, mapOf}

@@ -6,12 +6,12 @@ use mathlib.Core.Bool.{true, false}
 use mathlib.Core.List.{List}
 use mathlib.Core.Logic.{⊎-elim}
 use native.Mathlib.Omega.{arith}
-use Rattle.below.proofs.Bools.{decided, no-test}
+use Rattle.base_bounded.proofs.Bools.{decided, no-test}
 use Rattle.graph.specs.Hops.{flat}
 use Rattle.graph.specs.declared.Shape.{Shape}
 use Rattle.lts.specs.Closes.{r8}
 use Rattle.lts.proofs.Once.{once}
-use Rattle.shrinking.specs.Pairs.{Pairs, In}
+use Rattle.base_fixpoint.specs.Pairs.{Pairs, In}
 use Rattle.senses.specs.Senses.{markedIn, senseOf}
 use Rattle.senses.proofs.Marked.{marked-of, holds-every}
 use Rattle.representatives.specs.Representative.{mapOf}

@@ -8,12 +8,12 @@ use native.Mathlib.Omega.{arith}
 use borrow.Author.Tests.{eq-eqb}
 use lib.ListN.{length}
 use lib.Dec.{eqb}
-use Rattle.below.proofs.Bools.{clash, and-yes, and-right}
-use Rattle.below.proofs.Tests.{any-at, any-found}
+use Rattle.base_bounded.proofs.Bools.{clash, and-yes, and-right}
+use Rattle.base_bounded.proofs.Tests.{any-at, any-found}
 use Rattle.graph.specs.Hops.{count, from, label, to}
 use Rattle.graph.specs.declared.Shape.{Shape}
 use Rattle.graph.proofs.Places.{has-place, length-flat}
-use Rattle.shrinking.specs.Pairs.{In}
+use Rattle.base_fixpoint.specs.Pairs.{In}
 use Rattle.senses.specs.Senses.{senseOf, setAt}
 use Rattle.senses.proofs.Marked.{marked-of}
 use Rattle.representatives.specs.Tables.{Reducible}

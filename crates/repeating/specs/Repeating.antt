@@ -3,11 +3,11 @@
 use Prim.Native.Nat.{ℕ, zero, suc}
 use mathlib.Core.Bool.{Bool, cond, _&&_}
 use mathlib.Core.List.{List}
-use Rattle.below.specs.Tests.{any}
+use Rattle.base_bounded.specs.Tests.{any}
 use Rattle.graph.specs.Hops.{count, same, flat}
 use Rattle.graph.specs.declared.Hop.{Hop}
 use Rattle.graph.specs.declared.Shape.{Shape}
-use Rattle.shrinking.specs.Pairs.{Pairs, In}
+use Rattle.base_fixpoint.specs.Pairs.{Pairs, In}
 use Rattle.senses.specs.Senses.{setAt, markedBy}
 use Rattle.representatives.specs.Representative.{resting}
 use Rattle.short.specs.Short.{becomes}

@@ -10,16 +10,16 @@ use native.Mathlib.Omega.{arith}
 use borrow.Author.Tests.{lt-ltb, eq-eqb}
 use lib.ListN.{length, getD, length-append}
 use lib.Dec.{ltb, eqb}
-use Rattle.below.specs.Tests.{tally}
-use Rattle.below.proofs.Bools.{eq-or-not, and-yes}
-use Rattle.below.proofs.Tests.{any-found, tally-within}
-use Rattle.below.proofs.Tallies.{tally-full, tally-both}
+use Rattle.base_bounded.specs.Tests.{tally}
+use Rattle.base_bounded.proofs.Bools.{eq-or-not, and-yes}
+use Rattle.base_bounded.proofs.Tests.{any-found, tally-within}
+use Rattle.base_bounded.proofs.Tallies.{tally-full, tally-both}
 use Rattle.graph.specs.Hops.{count, from, label, to, lineAt, flat, numberPlace}
 use Rattle.graph.proofs.Places.{count-flat}
 use Rattle.limits.specs.Check.{Admitted}
 use Rattle.graph.specs.declared.Shape.{Shape}
 use Rattle.graph.specs.declared.Answer.{Answer}
-use Rattle.shrinking.specs.Pairs.{Pairs}
+use Rattle.base_fixpoint.specs.Pairs.{Pairs}
 use Rattle.confluence.specs.Rounds.{marked}
 use Rattle.confluence.specs.Held.{markOf}
 use Rattle.confluence.proofs.Marked.{marked-confluent}

@@ -8,9 +8,9 @@ use borrow.Author.Tests.{eq-eqb, ne-eqb, eqb-true, le-leb, lt-leb, lt-ltb, le-lt
 use lib.ListN.{length, getD, drop, length-append, List·getD-append}
 use lib.Seq.{take-at}
 use lib.Dec.{eqb}
-use Rattle.below.specs.Tests.{listed}
-use Rattle.below.proofs.Tests.{length-listed, getD-listed}
-use Rattle.outputs.specs.Output.{onFront}
+use Rattle.base_bounded.specs.Tests.{listed}
+use Rattle.base_bounded.proofs.Tests.{length-listed, getD-listed}
+use Rattle.base_outputs.specs.Output.{onFront}
 use Rattle.graph.specs.Hops.{numberPlace, count, flat, between}
 use Rattle.graph.specs.Answers.{most-hops, most-numbers, andThen, roomFor, refused}
 use Rattle.graph.specs.declared.Shape.{Shape}
@@ -20,7 +20,7 @@ use Rattle.graph.proofs.Fronts.{flat-front}
 use Rattle.limits.specs.Check.{checkOf, Admitted}
 use Rattle.limits.proofs.Checked.{check-admitted, admitted-check}
 use Rattle.silent.specs.Silent.{ringless}
-use Rattle.shrinking.specs.Pairs.{In, Within}
+use Rattle.base_fixpoint.specs.Pairs.{In, Within}
 use Rattle.confluence.specs.Rounds.{silentHops, marked}
 use Rattle.confluence.specs.Held.{heldBy, markOf, marksOf}
 use Rattle.confluence.proofs.Marked.{marked-confluent}

@@ -19,7 +19,7 @@ ghost use lib.ListN.{length};
 ghost use Rattle.limits.specs.Check.{Admitted};
 ghost use Rattle.starts.specs.Starts.{Table};
 ghost use Rattle.representatives.specs.Tables.{Reducible};
-ghost use Rattle.outputs.specs.Output.{onFront};
+ghost use Rattle.base_outputs.specs.Output.{onFront};
 ghost use Rattle.text.specs.Text.{Put};
 ghost use Rattle.report.specs.Report.{most-text, reportOf, printedGraph, printedFile, printedOf, shownIn};
 

@@ -3,10 +3,10 @@ use Prim.Native.Nat.{ℕ, _<_}
 use mathlib.Core.Path.{_≡_, ap}
 use mathlib.Core.Bool.{true}
 use mathlib.Core.List.{List}
-use Rattle.below.specs.Tests.{tally}
+use Rattle.base_bounded.specs.Tests.{tally}
 use Rattle.limits.specs.Check.{InRange}
 use Rattle.graph.specs.declared.Shape.{Shape}
-use Rattle.shrinking.specs.Pairs.{Pairs}
+use Rattle.base_fixpoint.specs.Pairs.{Pairs}
 use Rattle.representatives.specs.Representative.{Settles, resting, newOf, repOf, mapOf}
 use Rattle.representatives.proofs.Resting.{rests-onward, followed-rest, followed-in, rep-resting}
 use Rattle.representatives.proofs.Numbers.{new-over}

@@ -11,12 +11,12 @@ use lib.Dec.{eqb}
 use Rattle.graph.specs.Hops.{count, from, label, to, is, has}
 use Rattle.graph.specs.Order.{Ascending}
 use Rattle.graph.specs.declared.Shape.{Shape}
-use Rattle.below.proofs.Bools.{no-test, eq-or-not}
-use Rattle.below.proofs.Tests.{any-found, tally-within}
+use Rattle.base_bounded.proofs.Bools.{no-test, eq-or-not}
+use Rattle.base_bounded.proofs.Tests.{any-found, tally-within}
 use Rattle.graph.proofs.Places.{is-yes}
 use Rattle.silent.specs.Silent.{HopOf, leads}
 use Rattle.silent.proofs.Rings.{rank, rank-falls-accepted}
-use Rattle.shrinking.specs.Pairs.{Pairs, In}
+use Rattle.base_fixpoint.specs.Pairs.{Pairs, In}
 use Rattle.confluence.specs.Held.{isMarked, heldBy}
 use Rattle.confluence.proofs.Held.{held-says, held-at}
 use Rattle.representatives.specs.Representative.{Settles}

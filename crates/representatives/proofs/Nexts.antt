@@ -12,9 +12,9 @@ use lib.ListN.{length, getD, set, length-set}
 use lib.Seq.{getD-set-same, getD-set-other}
 use lib.Dec.{eqb}
 use Rattle.graph.specs.Hops.{count, from, label, to}
-use Rattle.below.proofs.Bools.{eq-or-not, not-yes, not-no, and-yes, and-no-left, and-no-right}
-use Rattle.below.proofs.Tests.{any-no, any-found, least-is}
-use Rattle.shrinking.specs.Pairs.{Pairs}
+use Rattle.base_bounded.proofs.Bools.{eq-or-not, not-yes, not-no, and-yes, and-no-left, and-no-right}
+use Rattle.base_bounded.proofs.Tests.{any-no, any-found, least-is}
+use Rattle.base_fixpoint.specs.Pairs.{Pairs}
 use Rattle.confluence.specs.Held.{isMarked}
 use Rattle.representatives.specs.Representative.{markedFrom, resting, onward}
 use Rattle.representatives.specs.Tables.{Closed, entered, stepped}

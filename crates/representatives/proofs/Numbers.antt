@@ -5,10 +5,10 @@ use mathlib.Core.Bool.{true}
 use mathlib.Core.List.{List}
 use mathlib.Core.Logic.{_⊎_, inl, inr}
 use native.Mathlib.Omega.{arith}
-use Rattle.below.specs.Tests.{tally}
-use Rattle.below.proofs.Bools.{lt-or-le}
-use Rattle.below.proofs.Tallies.{tally-past}
-use Rattle.shrinking.specs.Pairs.{Pairs}
+use Rattle.base_bounded.specs.Tests.{tally}
+use Rattle.base_bounded.proofs.Bools.{lt-or-le}
+use Rattle.base_bounded.proofs.Tallies.{tally-past}
+use Rattle.base_fixpoint.specs.Pairs.{Pairs}
 use Rattle.representatives.specs.Representative.{resting, newOf}
 
 module _ (hs : List ℕ) (u : Pairs) where

@@ -8,12 +8,12 @@ use mathlib.Core.Logic.{_⊎_, inl, inr, ⊎-elim, _↔_}
 use native.Mathlib.Omega.{arith}
 use borrow.Author.Tests.{eqb-true, eq-eqb, ne-eqb, not-true, not-false}
 use lib.Dec.{eqb}
-use Rattle.below.specs.Tests.{any, least}
+use Rattle.base_bounded.specs.Tests.{any, least}
 use Rattle.graph.specs.Hops.{count, from, label, to}
 use Rattle.limits.specs.Check.{InRange}
 use Rattle.graph.specs.declared.Shape.{Shape}
-use Rattle.below.proofs.Bools.{clash, decided, and-yes, and-left, and-right, lt-or-le}
-use Rattle.below.proofs.Tests.{any-at, any-found, least-passes, least-before, least-within}
+use Rattle.base_bounded.proofs.Bools.{clash, decided, and-yes, and-left, and-right, lt-or-le}
+use Rattle.base_bounded.proofs.Tests.{any-at, any-found, least-passes, least-before, least-within}
 use Rattle.graph.proofs.Places.{has-place}
 use Rattle.lts.specs.Star.{Star, stay, go}
 use Rattle.lts.specs.Sense.{Normal}
@@ -21,7 +21,7 @@ use Rattle.lts.specs.Reduction.{Confluent, Rests}
 use Rattle.lts.proofs.Star.{star→joined}
 use Rattle.lts.proofs.Confluence.{rep-normal, joined→rep}
 use Rattle.silent.specs.Silent.{HopOf}
-use Rattle.shrinking.specs.Pairs.{Pairs, In}
+use Rattle.base_fixpoint.specs.Pairs.{Pairs, In}
 use Rattle.representatives.specs.Representative.{Settles, IsRepresentative, markedFrom, resting, onward, followed, repOf}
 
 module _ (hs : List ℕ) (u : Pairs) (s i : ℕ) where

@@ -7,7 +7,7 @@ use mathlib.Core.Logic.{_⊎_, inl, inr, ⊎-elim}
 use native.Mathlib.Omega.{arith}
 use lib.ListN.{length, getD, set, length-set}
 use lib.Seq.{getD-set-same, getD-set-other}
-use Rattle.below.proofs.Bools.{eq-or-not}
+use Rattle.base_bounded.proofs.Bools.{eq-or-not}
 use Rattle.representatives.specs.Tables.{Closed, Falls, Sinks, Noted, stepped}
 use Rattle.representatives.proofs.Nexts.{stepped-rest, stepped-in}
 

@@ -5,13 +5,13 @@ use mathlib.Core.Path.{_≡_}
 use mathlib.Core.Bool.{Bool, true, cond, not, _&&_}
 use mathlib.Core.List.{List}
 use lib.Dec.{eqb}
-use Rattle.below.specs.Tests.{any, least, tally}
+use Rattle.base_bounded.specs.Tests.{any, least, tally}
 use Rattle.graph.specs.Hops.{count, from, label, to}
 use Rattle.graph.specs.declared.Shape.{Shape}
 use Rattle.lts.specs.Star.{Joined}
 use Rattle.lts.specs.Sense.{Normal}
 use Rattle.silent.specs.Silent.{HopOf}
-use Rattle.shrinking.specs.Pairs.{Pairs, In}
+use Rattle.base_fixpoint.specs.Pairs.{Pairs, In}
 
 -- walks along the hops of u come to rest: u is a set of silent hops of the graph, and a rank of at most the state count falls along each, so that they
 -- make no ring. This is all that the map and the short graph need to be made

@@ -9,8 +9,8 @@ use graph::map::map_at;
 ghost use mathlib.Core.Path.{_≡_};
 ghost use Prim.Native.Nat.{_≤_};
 ghost use lib.ListN.{length};
-ghost use Rattle.below.specs.Tests.{listed};
-ghost use Rattle.outputs.specs.Output.{onFront};
+ghost use Rattle.base_bounded.specs.Tests.{listed};
+ghost use Rattle.base_outputs.specs.Output.{onFront};
 ghost use Rattle.graph.specs.Answers.{most-states};
 ghost use Rattle.representatives.specs.Tables.{Closed, Sinks, Numbers, numbered};
 

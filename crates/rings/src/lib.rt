@@ -18,7 +18,7 @@ use starts::STARTS;
 ghost use mathlib.Core.Path.{_≡_};
 ghost use Prim.Native.Nat.{_<_, _≤_};
 ghost use lib.ListN.{length};
-ghost use Rattle.below.specs.Tests.{any};
+ghost use Rattle.base_bounded.specs.Tests.{any};
 ghost use Rattle.graph.specs.Hops.{count};
 ghost use Rattle.limits.specs.Check.{Admitted};
 ghost use Rattle.starts.specs.Starts.{Tabled};

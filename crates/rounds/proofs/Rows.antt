@@ -12,7 +12,7 @@ use Rattle.graph.specs.Answers.{accepted, refused}
 use Rattle.limits.specs.Check.{checkOf, Admitted}
 use Rattle.graph.specs.declared.Shape.{Shape}
 use Rattle.graph.specs.declared.Answer.{Answer}
-use Rattle.below.proofs.Bools.{and-left, and-right, and-no-right}
+use Rattle.base_bounded.proofs.Bools.{and-left, and-right, and-no-right}
 use Rattle.limits.proofs.Checked.{check-admitted}
 use Rattle.graph.proofs.Accepts.{both-accept}
 use Rattle.confluence.specs.Rounds.{survives}

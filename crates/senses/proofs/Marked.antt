@@ -5,7 +5,7 @@ use mathlib.Core.Path.{_≡_, ap, _∙_}
 use mathlib.Core.Bool.{true}
 use mathlib.Core.List.{List}
 use mathlib.Core.Logic.{_↔_}
-use Rattle.below.proofs.Bools.{same-test}
+use Rattle.base_bounded.proofs.Bools.{same-test}
 use Rattle.graph.specs.Hops.{count}
 use Rattle.graph.specs.declared.Shape.{Shape}
 use Rattle.limits.specs.Check.{InRange}
@@ -13,9 +13,9 @@ use Rattle.lts.specs.Closes.{Sense, r1, r2, r3, r8, SetOf, Greatest, Implies}
 use Rattle.lts.proofs.Closes.{r1→r2, r1→r3, weakest, set-among}
 use Rattle.lts.proofs.SenseForms.{r1-iff}
 use Rattle.silent.specs.Silent.{HopOf}
-use Rattle.shrinking.specs.Pairs.{Pairs, In, Within}
-use Rattle.shrinking.specs.Rounds.{Monotone, Kept}
-use Rattle.shrinking.proofs.Rounds.{left-within, left-greatest, left-kept, left-same}
+use Rattle.base_fixpoint.specs.Pairs.{Pairs, In, Within}
+use Rattle.base_fixpoint.specs.Rounds.{Monotone, Kept}
+use Rattle.base_fixpoint.proofs.Rounds.{left-within, left-greatest, left-kept, left-same}
 use Rattle.confluence.specs.Rounds.{silentHops, marked, ConfluentSet}
 use Rattle.confluence.proofs.Rounds.{silent-listed}
 use Rattle.confluence.proofs.Marked.{marked-confluent, marked-greatest}

@@ -6,7 +6,7 @@ use mathlib.Core.Logic.{_⊎_, inl, inr, ⊎-elim, _↔_}
 use lib.Dec.{eqb}
 use native.Mathlib.Omega.{arith}
 use borrow.Author.Tests.{eqb-true, eq-eqb, ne-eqb}
-use Rattle.below.proofs.Bools.{clash, or-left, or-right, or-yes}
+use Rattle.base_bounded.proofs.Bools.{clash, or-left, or-right, or-yes}
 use Rattle.graph.specs.Answers.{accepted, refused}
 use Rattle.lts.specs.Closes.{nowhere, single, walks, Sense, r1, r2, r3, r8}
 use Rattle.senses.specs.Senses.{isSense, senseOf, senseAnswer}

@@ -7,8 +7,8 @@ use mathlib.Core.List.{List}
 use mathlib.Core.Logic.{_⊎_, inl, inr, ⊎-elim}
 use lib.Dec.{eqb}
 use borrow.Author.Tests.{eq-eqb, ne-eqb, eqb-true}
-use Rattle.below.proofs.Bools.{and-yes, and-left, and-right, or-left, or-right, or-yes, eq-or-not}
-use Rattle.below.proofs.Tests.{all-at, all-yes, any-at, any-found}
+use Rattle.base_bounded.proofs.Bools.{and-yes, and-left, and-right, or-left, or-right, or-yes, eq-or-not}
+use Rattle.base_bounded.proofs.Tests.{all-at, all-yes, any-at, any-found}
 use Rattle.graph.specs.Hops.{count, from, label, to, has}
 use Rattle.graph.specs.declared.Shape.{Shape}
 use Rattle.graph.proofs.Places.{has-at, has-place}
@@ -21,7 +21,7 @@ use Rattle.reaching.specs.Reaching.{ChosenOf, leadsBy}
 use Rattle.reaching.proofs.Leads.{leads-self, leads-step, leads-cases, leads-walk, walk-leads}
 use Rattle.silent.specs.Silent.{HopOf}
 use Rattle.silent.proofs.Hops.{silent-end}
-use Rattle.shrinking.specs.Pairs.{Pairs, In, Within}
+use Rattle.base_fixpoint.specs.Pairs.{Pairs, In, Within}
 use Rattle.confluence.specs.Rounds.{Trials, tried}
 use Rattle.senses.specs.Senses.{setAt, comes, takes, meets, takesTo, answersFrom, answeredIn, closesIn}
 

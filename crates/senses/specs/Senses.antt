@@ -4,15 +4,15 @@ use Prim.Native.Nat.{ℕ}
 use mathlib.Core.Bool.{Bool, cond, _&&_, _||_}
 use mathlib.Core.List.{List}
 use lib.Dec.{eqb}
-use Rattle.below.specs.Tests.{all, any}
+use Rattle.base_bounded.specs.Tests.{all, any}
 use Rattle.graph.specs.Hops.{count, from, label, to, has}
 use Rattle.graph.specs.Answers.{accepted, refused}
 use Rattle.graph.specs.declared.Answer.{Answer}
 use Rattle.graph.specs.declared.Shape.{Shape}
 use Rattle.lts.specs.Closes.{Reach, nowhere, single, walks, Sense, r1, r2, r3, r8}
 use Rattle.reaching.specs.Reaching.{leadsBy}
-use Rattle.shrinking.specs.Pairs.{Pairs}
-use Rattle.shrinking.specs.Rounds.{leftAfter}
+use Rattle.base_fixpoint.specs.Pairs.{Pairs}
+use Rattle.base_fixpoint.specs.Rounds.{leftAfter}
 use Rattle.confluence.specs.Rounds.{Trials, tried, silentHops}
 
 -- the hop at place i is silent, and in the set u

@@ -1,6 +1,6 @@
 // The senses of confluence: R1, R2, R3 and R8 as one condition with the sense as an argument, the marked set of a sense, and the answer of row 19. What
 // holds in all four is shown here once: the condition grows with the set, the marked set is of the sense and holds every set of it. It stands on `lts`
-// (what a sense is, over any relation), `confluence` (document 01's condition, which is sense 1) and `shrinking` (rounds of any condition).
+// (what a sense is, over any relation), `confluence` (document 01's condition, which is sense 1) and `base_fixpoint` (rounds of any condition).
 use graph::Answer;
 use graph::answers::accept;
 use graph::answers::refuse;

@@ -5,9 +5,9 @@ use mathlib.Core.Path.{_≡_, refl, _∙_}
 use mathlib.Core.Bool.{true}
 use mathlib.Core.List.{List}
 use native.Mathlib.Omega.{arith}
-use Rattle.below.proofs.Bools.{no-test}
-use Rattle.below.proofs.Tests.{tally-within, tally-less}
-use Rattle.below.proofs.Tallies.{tally-full}
+use Rattle.base_bounded.proofs.Bools.{no-test}
+use Rattle.base_bounded.proofs.Tests.{tally-within, tally-less}
+use Rattle.base_bounded.proofs.Tallies.{tally-full}
 use Rattle.graph.specs.Hops.{flat}
 use Rattle.graph.specs.declared.Shape.{Shape}
 use Rattle.limits.specs.Check.{Admitted}
@@ -16,7 +16,7 @@ use Rattle.lts.proofs.Left.{left-ringless}
 use Rattle.silent.specs.Silent.{HopOf, OnRing}
 use Rattle.silent.proofs.Rings.{ringless-iff}
 use Rattle.silent.proofs.Hops.{silent-start}
-use Rattle.shrinking.specs.Pairs.{Pairs, In}
+use Rattle.base_fixpoint.specs.Pairs.{Pairs, In}
 use Rattle.representatives.specs.Representative.{Settles, resting, mapOf}
 use Rattle.representatives.specs.Tables.{Reducible}
 use Rattle.representatives.proofs.Resting.{resting-normal, normal-resting, rep-rests}

@@ -6,7 +6,7 @@ use Rattle.graph.specs.Hops.{count, from, lineAt, hopAt, flat}
 use Rattle.graph.specs.declared.Hop.{Hop}
 use Rattle.graph.specs.declared.Shape.{Shape}
 use Rattle.graph.proofs.Places.{count-flat, flat-at}
-use Rattle.shrinking.specs.Pairs.{Pairs}
+use Rattle.base_fixpoint.specs.Pairs.{Pairs}
 use Rattle.sources.specs.Lines.{smallestLine, Smallest}
 use Rattle.sources.proofs.Lines.{smallest-is}
 use Rattle.insertion.proofs.Lined.{collected-line}

@@ -3,17 +3,17 @@ use Prim.Native.Nat.{ℕ, _<_}
 use mathlib.Core.Path.{refl, ap, subst}
 use mathlib.Core.List.{List}
 use native.Mathlib.Omega.{arith}
-use Rattle.below.specs.Tests.{tally}
+use Rattle.base_bounded.specs.Tests.{tally}
 use Rattle.graph.specs.Hops.{count, from, label, to, flat}
 use Rattle.limits.specs.Check.{Admitted}
 use Rattle.graph.specs.declared.Shape.{Shape}
-use Rattle.below.proofs.Tests.{tally-within}
+use Rattle.base_bounded.proofs.Tests.{tally-within}
 use Rattle.graph.proofs.Places.{has-at, has-place, length-flat, count-flat}
 use Rattle.lts.specs.Reduction.{Confluent, Reduces}
 use Rattle.lts.specs.Left.{Left}
 use Rattle.lts.proofs.Left.{left-reduces}
 use Rattle.silent.specs.Silent.{HopOf}
-use Rattle.shrinking.specs.Pairs.{Pairs, In}
+use Rattle.base_fixpoint.specs.Pairs.{Pairs, In}
 use Rattle.representatives.specs.Representative.{Settles, resting, newOf, repOf, mapOf}
 use Rattle.representatives.proofs.Resting.{rep-resting, rep-rests}
 use Rattle.representatives.proofs.Numbers.{new-over, new-injective}

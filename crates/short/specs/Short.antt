@@ -3,11 +3,11 @@
 use Prim.Native.Nat.{ℕ}
 use mathlib.Core.Bool.{Bool, _&&_}
 use mathlib.Core.List.{List}
-use Rattle.below.specs.Tests.{tally, listed}
+use Rattle.base_bounded.specs.Tests.{tally, listed}
 use Rattle.graph.specs.Hops.{count, from, linedHop, hopAt, same}
 use Rattle.graph.specs.declared.Hop.{Hop}
 use Rattle.graph.specs.declared.Shape.{Shape}
-use Rattle.shrinking.specs.Pairs.{Pairs}
+use Rattle.base_fixpoint.specs.Pairs.{Pairs}
 use Rattle.insertion.specs.Insertion.{collected}
 use Rattle.representatives.specs.Representative.{resting, newOf, mapOf}
 

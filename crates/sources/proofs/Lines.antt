@@ -7,7 +7,7 @@ use native.Mathlib.Nat.{eq-or-lt-of-le, le-of-suc-le-suc, not-suc-le-zero}
 use native.Mathlib.Omega.{arith}
 use borrow.Author.Tests.{eq-eqb, ne-eqb, lt-ltb, le-ltb}
 use lib.Dec.{ltb}
-use Rattle.below.proofs.Bools.{clash, decided, lt-or-le, eq-or-not}
+use Rattle.base_bounded.proofs.Bools.{clash, decided, lt-or-le, eq-or-not}
 use Rattle.graph.specs.Hops.{Alike}
 use Rattle.graph.specs.declared.Hop.{Hop}
 use Rattle.sources.specs.Lines.{lesserLine, joined, smallestLine, Smallest}

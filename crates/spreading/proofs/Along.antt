@@ -8,16 +8,16 @@ use mathlib.Core.Logic.{inl, inr, ⊎-elim}
 use native.Mathlib.Omega.{arith}
 use lib.ListN.{length, getD, length-set}
 use lib.Dec.{eqb}
-use Rattle.below.proofs.Bools.{clash, eq-or-not}
+use Rattle.base_bounded.proofs.Bools.{clash, eq-or-not}
 use Rattle.graph.specs.Hops.{from, to}
 use Rattle.graph.proofs.Places.{is-yes, is-from, is-label, is-to}
-use Rattle.shrinking.specs.Pairs.{In}
+use Rattle.base_fixpoint.specs.Pairs.{In}
 use Rattle.lts.specs.Closes.{Reach, single, walks}
 use Rattle.confluence.specs.Held.{isMarked, heldBy}
 use Rattle.confluence.proofs.Held.{held-says, held-yes}
 use Rattle.lining.specs.Line.{Line}
-use Rattle.bits.specs.Bits.{inTable}
-use Rattle.bits.proofs.Laws.{table-or, word-of}
+use Rattle.base_bitset.specs.Bits.{inTable}
+use Rattle.base_bitset.proofs.Laws.{table-or, word-of}
 use Rattle.spreading.specs.Spread.{Back, Forth}
 use Rattle.spreading.specs.Given.{given}
 use Rattle.spreading.proofs.Steps.{More, Gave, forth-none, forth-same, forth-back, walks-more, single-more}

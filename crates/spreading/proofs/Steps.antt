@@ -7,12 +7,12 @@ use mathlib.Core.List.{List}
 use mathlib.Core.Logic.{_⊎_, inl, inr, ⊎-elim}
 use lib.Dec.{eqb}
 use borrow.Author.Tests.{eqb-true, eq-eqb}
-use Rattle.below.proofs.Bools.{and-yes, and-left, and-right, or-left, or-right, or-yes}
+use Rattle.base_bounded.proofs.Bools.{and-yes, and-left, and-right, or-left, or-right, or-yes}
 use Rattle.lts.specs.Star.{Star, stay, go}
 use Rattle.lts.specs.Closes.{Reach, single, walks, Via, here, hop, walk}
 use Rattle.lts.proofs.Star.{one, join, wider}
 use Rattle.lts.proofs.Closes.{via-grows, via-walk}
-use Rattle.bits.specs.Bits.{inTable}
+use Rattle.base_bitset.specs.Bits.{inTable}
 use Rattle.spreading.specs.Spread.{Back, Forth}
 
 -- the steps E are D and one more, from g to t

@@ -5,7 +5,7 @@ use mathlib.Core.Bool.{true}
 use mathlib.Core.List.{List}
 use mathlib.Core.Logic.{_↔_}
 use Rattle.lts.specs.Closes.{Reach, Via}
-use Rattle.bits.specs.Bits.{inTable}
+use Rattle.base_bitset.specs.Bits.{inTable}
 
 -- a state has afterwards what those that it comes to had before
 abbrev pub Back : (ℕ → ℕ → Type 0) → Reach → List ℕ → List ℕ → Type 0

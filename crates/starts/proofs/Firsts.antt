@@ -13,7 +13,7 @@ use Rattle.graph.specs.Answers.{most-states}
 use Rattle.limits.specs.Check.{Admitted}
 use Rattle.graph.specs.Search.{firstOf}
 use Rattle.graph.specs.declared.Shape.{Shape}
-use Rattle.below.proofs.Bools.{lt-or-le}
+use Rattle.base_bounded.proofs.Bools.{lt-or-le}
 use Rattle.graph.proofs.Lookup.{first-law, first-within}
 use Rattle.starts.specs.Starts.{Table, Ready}
 

@@ -13,7 +13,7 @@ use Rattle.graph.specs.Order.{before, Ascending}
 use Rattle.graph.specs.Search.{Bracket, Ended, firstOf, pastOf, labelledFrom, labelledPast}
 use Rattle.graph.specs.Answers.{most-states}
 use Rattle.graph.specs.declared.Hop.{Hop}
-use Rattle.below.proofs.Bools.{clash, lt-or-le, no-test}
+use Rattle.base_bounded.proofs.Bools.{clash, lt-or-le, no-test}
 use Rattle.graph.proofs.Places.{is-from, labelled-yes, labelled-parts}
 use Rattle.graph.proofs.Ordered.{Below, before-below, below-before}
 use Rattle.graph.proofs.Lookup.{lower-law, lower-within, lower-rises, first-law, first-within, first-past, range-holds}

@@ -8,14 +8,14 @@ use mathlib.Core.Logic.{_⊎_, inl, inr, ⊎-elim}
 use native.Mathlib.Omega.{arith}
 use lib.ListN.{length, getD, drop}
 use borrow.Author.Tests.{eqb-true, eq-eqb}
-use Rattle.below.proofs.Bools.{and-yes}
-use Rattle.below.proofs.Tests.{any-found, tally-within}
-use Rattle.outputs.specs.Output.{onFront}
+use Rattle.base_bounded.proofs.Bools.{and-yes}
+use Rattle.base_bounded.proofs.Tests.{any-found, tally-within}
+use Rattle.base_outputs.specs.Output.{onFront}
 use Rattle.graph.specs.Hops.{count, from, to, is, has}
 use Rattle.graph.specs.Order.{Ascending}
 use Rattle.graph.proofs.Places.{is-yes, is-from, is-to}
-use Rattle.shrinking.specs.Pairs.{Pairs, In, Within}
-use Rattle.shrinking.specs.Rounds.{Operator}
+use Rattle.base_fixpoint.specs.Pairs.{Pairs, In, Within}
+use Rattle.base_fixpoint.specs.Rounds.{Operator}
 use Rattle.confluence.specs.Rounds.{silentHops}
 use Rattle.confluence.specs.Held.{isMarked, heldBy, markOf, marksOf, everyPair}
 use Rattle.confluence.proofs.Held.{held-says, held-yes, held-at}

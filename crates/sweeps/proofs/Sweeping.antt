@@ -9,9 +9,9 @@ use native.Mathlib.Omega.{arith}
 use lib.ListN.{getD, set, drop, length-set}
 use lib.Seq.{getD-set-same, getD-set-other, drop-set-lt}
 use borrow.Author.Tests.{eqb-true}
-use Rattle.below.proofs.Bools.{clash, eq-or-not}
-use Rattle.below.proofs.Tests.{tally-less}
-use Rattle.outputs.specs.Output.{onFront}
+use Rattle.base_bounded.proofs.Bools.{clash, eq-or-not}
+use Rattle.base_bounded.proofs.Tests.{tally-less}
+use Rattle.base_outputs.specs.Output.{onFront}
 use Rattle.graph.specs.Hops.{count, from, to, is}
 use Rattle.graph.specs.Order.{Ascending}
 use Rattle.graph.proofs.Places.{is-from, is-to}

@@ -5,9 +5,9 @@ use mathlib.Core.Bool.{true}
 use mathlib.Core.Logic.{_⊎_}
 use mathlib.Core.List.{List}
 use lib.ListN.{length, getD, drop}
-use Rattle.below.specs.Tests.{tally}
+use Rattle.base_bounded.specs.Tests.{tally}
 use Rattle.graph.specs.Hops.{count, label}
-use Rattle.shrinking.specs.Pairs.{Pairs}
+use Rattle.base_fixpoint.specs.Pairs.{Pairs}
 use Rattle.confluence.specs.Rounds.{closesAt}
 use Rattle.confluence.specs.Held.{isMarked, heldBy}
 

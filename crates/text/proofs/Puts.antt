@@ -9,8 +9,8 @@ use native.Mathlib.Omega.{arith}
 use borrow.Author.Tests.{lt-ltb, le-ltb}
 use lib.ListN.{length, getD, set, length-append, length-drop}
 use lib.Seq.{set-split, length-take-le}
-use Rattle.outputs.specs.Output.{overAt}
-use Rattle.outputs.proofs.Front.{over-none, over-then}
+use Rattle.base_outputs.specs.Output.{overAt}
+use Rattle.base_outputs.proofs.Front.{over-none, over-then}
 use Rattle.text.specs.Text.{digits, decimal, spaced, numbered, line, lines, Room, Put}
 
 length-over : (at : ℕ) (text old : List ℕ) → at + length text ≤ length old → length (overAt at text old) ≡ length old

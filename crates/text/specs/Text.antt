@@ -6,7 +6,7 @@ use mathlib.Core.Bool.{cond}
 use mathlib.Core.List.{List, [], _∷_, _++_}
 use lib.ListN.{length}
 use lib.Dec.{ltb}
-use Rattle.outputs.specs.Output.{overAt}
+use Rattle.base_outputs.specs.Output.{overAt}
 
 -- the last k digits of a number at most, and no zero in front (48 is the digit 0)
 unfoldable pub digits : ℕ → ℕ → List ℕ

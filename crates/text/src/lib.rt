@@ -1,7 +1,7 @@
 // Text put into a buffer, for the program's report: numbers in decimal, and lines of a word and numbers. Each function puts one text at a place, over what
 // was there and over nothing else, and returns the place behind it; the caller shows that there is room.
-// Stands on outputs (what a lent slice holds afterwards).
-use outputs::put_bytes;
+// Stands on base_outputs (what a lent slice holds afterwards).
+use base_outputs::put_bytes;
 ghost use mathlib.Core.List.{[], _∷_};
 ghost use Rattle.text.specs.Text.{digits, spaced, numbered, line, Room, Put};
 

@@ -12,7 +12,7 @@ use Rattle.graph.specs.Hops.{count, flat, between}
 use Rattle.graph.specs.Answers.{accepted}
 use Rattle.graph.specs.declared.Shape.{Shape}
 use Rattle.graph.specs.declared.Answer.{Answer}
-use Rattle.below.proofs.Tests.{length-listed}
+use Rattle.base_bounded.proofs.Tests.{length-listed}
 use Rattle.graph.proofs.Fronts.{flat-front}
 use Rattle.short.specs.Short.{mapList}
 use Rattle.senses.specs.Senses.{senseOf}

@@ -5,10 +5,10 @@ use mathlib.Core.Path.{_≡_, refl}
 use mathlib.Core.List.{List}
 use Rattle.graph.specs.Hops.{flat}
 use Rattle.graph.specs.declared.Shape.{Shape}
-use Rattle.below.proofs.Tests.{length-listed, getD-listed}
+use Rattle.base_bounded.proofs.Tests.{length-listed, getD-listed}
 use Rattle.representatives.specs.Tables.{Reducible}
 use Rattle.lts.specs.Closes.{Sense}
-use Rattle.shrinking.specs.Pairs.{Pairs}
+use Rattle.base_fixpoint.specs.Pairs.{Pairs}
 use Rattle.senses.specs.Senses.{markedIn}
 use Rattle.representatives.specs.Representative.{mapOf}
 use Rattle.short.specs.Short.{shortHops, shortShape, mapList}

@@ -11,14 +11,14 @@ use lib.Bits.{bitAnd, bitOr}
 use lib.Dec.{eqb}
 use lib.ListN.{length, getD, set}
 use lib.Seq.{getD-set-same, getD-set-other}
-use Rattle.below.specs.Tests.{any}
-use Rattle.below.proofs.Bools.{lt-or-le, eq-or-not, and-yes, and-left, and-right, and-no-left, or-left, or-right, or-yes}
-use Rattle.below.proofs.Tests.{any-found, any-at}
+use Rattle.base_bounded.specs.Tests.{any}
+use Rattle.base_bounded.proofs.Bools.{lt-or-le, eq-or-not, and-yes, and-left, and-right, and-no-left, or-left, or-right, or-yes}
+use Rattle.base_bounded.proofs.Tests.{any-found, any-at}
 use Rattle.graph.specs.Hops.{count, from, label, to}
 use Rattle.graph.proofs.Places.{has-place, place-has}
 use Rattle.silent.specs.Silent.{HopOf}
-use Rattle.bits.specs.Bits.{inTable, bitAt}
-use Rattle.bits.proofs.Laws.{bit-and, table-or, table-out, word-of, or-nothing}
+use Rattle.base_bitset.specs.Bits.{inTable, bitAt}
+use Rattle.base_bitset.proofs.Laws.{bit-and, table-or, table-out, word-of, or-nothing}
 use Rattle.trials.specs.Trials.{Still, Answering}
 
 -- two words cut, as tables have them

@@ -9,9 +9,9 @@ use borrow.Author.Tests.{lt-ltb, le-ltb, eq-eqb, ne-eqb}
 use lib.Bits.{bitOr}
 use lib.Dec.{eqb, ltb}
 use lib.ListN.{length, getD, set, replicate, length-set}
-use Rattle.below.proofs.Bools.{lt-or-le, eq-or-not}
-use Rattle.bits.specs.Bits.{inTable}
-use Rattle.bits.proofs.Laws.{bit-one, table-none, table-or, or-nothing}
+use Rattle.base_bounded.proofs.Bools.{lt-or-le, eq-or-not}
+use Rattle.base_bitset.specs.Bits.{inTable}
+use Rattle.base_bitset.proofs.Laws.{bit-one, table-none, table-or, or-nothing}
 use Rattle.trials.specs.Trials.{Keyed}
 
 eqb-swap : (a b : ℕ) → eqb a b ≡ eqb b a

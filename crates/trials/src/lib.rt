@@ -1,9 +1,9 @@
 // A batch of hops tried together, for the weaker senses: bit b of a word stands for the hop at place base + b, so that what is asked of 64 hops tried is
 // asked once. Tables hold one word a state or a label: where the hops tried begin, end and how they are labelled (`put_froms`, `put_ends`, `put_labels`), who
 // answers them (`put_answers`). How bits go along marked hops in between, and which marks go by what the tables then have, is no matter of this crate.
-// It stands on `bits` and looks at hops by graph.
-use bits::bit_of;
-use bits::sized;
+// It stands on `base_bitset` and looks at hops by graph.
+use base_bitset::bit_of;
+use base_bitset::sized;
 use graph::MOST_LABELS;
 use graph::MOST_STATES;
 use graph::Shape;
@@ -21,7 +21,7 @@ ghost use Rattle.graph.specs.Hops.{count, from, label, to};
 ghost use Rattle.graph.specs.Answers.{most-states};
 ghost use Rattle.limits.specs.Check.{Admitted};
 ghost use Rattle.starts.specs.Starts.{Ready};
-ghost use Rattle.bits.specs.Bits.{word-bits};
+ghost use Rattle.base_bitset.specs.Bits.{word-bits};
 ghost use Rattle.trials.specs.Trials.{Keyed, Still, Answering};
 
 // No bit anywhere.

@@ -4,12 +4,12 @@ use mathlib.Core.Path.{_≡_, refl, sym, ap, _∙_}
 use mathlib.Core.Bool.{Bool, true, false, cond, not, _&&_}
 use mathlib.Core.List.{List}
 use lib.Dec.{eqb}
-use Rattle.below.specs.Tests.{any}
-use Rattle.below.proofs.Tests.{any-same}
-use Rattle.outputs.specs.Output.{onFront}
+use Rattle.base_bounded.specs.Tests.{any}
+use Rattle.base_bounded.proofs.Tests.{any-same}
+use Rattle.base_outputs.specs.Output.{onFront}
 use Rattle.graph.specs.Hops.{count, from, label, to}
 use Rattle.graph.specs.declared.Shape.{Shape}
-use Rattle.shrinking.specs.Pairs.{Pairs}
+use Rattle.base_fixpoint.specs.Pairs.{Pairs}
 use Rattle.confluence.specs.Held.{isMarked, markOf, marksOf}
 use Rattle.confluence.proofs.Marks.{marks-at}
 use Rattle.senses.specs.Senses.{setAt, markedBy}

@@ -7,12 +7,12 @@ use native.Mathlib.Numerals.{add-one}
 use native.Mathlib.Omega.{arith}
 use lib.ListN.{length, take}
 use lib.Seq.{take-at}
-use Rattle.below.proofs.Tests.{length-listed}
-use Rattle.outputs.specs.Output.{onFront}
+use Rattle.base_bounded.proofs.Tests.{length-listed}
+use Rattle.base_outputs.specs.Output.{onFront}
 use Rattle.graph.specs.Hops.{count, flat, between}
 use Rattle.graph.proofs.Fronts.{flat-front, between-count}
 use Rattle.graph.proofs.Places.{length-flat}
-use Rattle.shrinking.specs.Pairs.{Pairs, In, Within}
+use Rattle.base_fixpoint.specs.Pairs.{Pairs, In, Within}
 use Rattle.confluence.specs.Rounds.{silentHops}
 use Rattle.confluence.specs.Held.{marksOf, heldBy}
 use Rattle.senses.specs.Senses.{senseOf, markedBy}

@@ -1,6 +1,7 @@
 // One turn of the repeated reduction: the graph is marked in the sense asked, and where something is marked it is reduced, the short hops take the place
 // of the hops, and the map to them goes behind the map. For `shrink`, which turns until nothing is marked; it stands on quotient (the marking), reducing and
 // composing.
+use base_outputs::put_numbers;
 use composing::put_behind;
 use graph::MOST_HOPS;
 use graph::MOST_NUMBERS;
@@ -8,7 +9,6 @@ use graph::MOST_STATES;
 use graph::Shape;
 use graph::hops::hop_count;
 use graph::hops::part;
-use outputs::put_numbers;
 use quotient::entry::mark_in;
 use reducing::reduce_marked;
 use starts::starts_of;
@@ -17,8 +17,8 @@ ghost use mathlib.Core.Bool.{cond, not, _&&_};
 ghost use Prim.Native.Nat.{_<_, _≤_};
 ghost use lib.ListN.{length};
 ghost use lib.Dec.{eqb};
-ghost use Rattle.below.specs.Tests.{any};
-ghost use Rattle.outputs.specs.Output.{onFront};
+ghost use Rattle.base_bounded.specs.Tests.{any};
+ghost use Rattle.base_outputs.specs.Output.{onFront};
 ghost use Rattle.graph.specs.Hops.{count, between};
 ghost use Rattle.graph.specs.Answers.{most-states};
 ghost use Rattle.confluence.specs.Held.{isMarked, marksOf};

@@ -5,12 +5,12 @@ use mathlib.Core.Path.{_≡_}
 use mathlib.Core.Bool.{not, _&&_}
 use mathlib.Core.List.{List}
 use lib.Dec.{eqb}
-use Rattle.below.specs.Tests.{any, tally, total}
+use Rattle.base_bounded.specs.Tests.{any, tally, total}
 use Rattle.graph.specs.Hops.{hopOf}
 use Rattle.graph.specs.declared.Shape.{Shape}
 use Rattle.graph.proofs.Ordered.{alike-itself, before-alike}
 use Rattle.finding.specs.Finding.{hopsBefore, findOf}
-use Rattle.shrinking.specs.Pairs.{Pairs}
+use Rattle.base_fixpoint.specs.Pairs.{Pairs}
 use Rattle.due.specs.Due.{fell, standing, reached, shaken, due, testsIn, testsUpTo, testsOf}
 use Rattle.fast.specs.Fast.{countedOf}
 use Rattle.rounds.specs.Question.{silentPlace, questionAnswer, questionOf}

@@ -5,11 +5,11 @@ use mathlib.Core.Path.{_≡_, refl}
 use mathlib.Core.Bool.{cond, not, _&&_, _||_}
 use mathlib.Core.List.{List}
 use lib.Dec.{eqb}
-use Rattle.below.specs.Tests.{all, any, listed}
+use Rattle.base_bounded.specs.Tests.{all, any, listed}
 use Rattle.graph.specs.declared.Shape.{Shape}
 use Rattle.lts.specs.Closes.{Reach, nowhere, single, walks, Sense}
-use Rattle.shrinking.specs.Pairs.{Pairs}
-use Rattle.shrinking.specs.Rounds.{leftAfter}
+use Rattle.base_fixpoint.specs.Pairs.{Pairs}
+use Rattle.base_fixpoint.specs.Rounds.{leftAfter}
 use Rattle.confluence.specs.Rounds.{Trials, closing, answer, hopAnswers, answers, tried, closes, silentHops, survives}
 use Rattle.confluence.specs.Held.{markOf, marksOf}
 use Rattle.senses.specs.Senses.{setAt, comes, takes, meets, takesTo, answersFrom, answeredIn, closesIn, markedIn, markedBy, senseOf}

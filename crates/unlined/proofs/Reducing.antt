@@ -6,10 +6,10 @@ use mathlib.Core.Bool.{cond, not, _&&_}
 use mathlib.Core.List.{List}
 use lib.ListN.{length}
 use lib.Dec.{eqb}
-use Rattle.below.specs.Tests.{any, least, tally, listed}
+use Rattle.base_bounded.specs.Tests.{any, least, tally, listed}
 use Rattle.graph.specs.Hops.{count, Alike, flat}
 use Rattle.graph.specs.declared.Shape.{Shape}
-use Rattle.shrinking.specs.Pairs.{Pairs}
+use Rattle.base_fixpoint.specs.Pairs.{Pairs}
 use Rattle.representatives.specs.Representative.{markedFrom, resting, onward, followed, repOf, newOf, mapOf}
 use Rattle.short.specs.Short.{image, gathered, shortHops, shortShape, mapList}
 use Rattle.quotient.specs.Reduce.{markedMap, markedHops, markedShape, reduceAnswer, reduceOf, mapOutput}

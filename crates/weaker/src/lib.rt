@@ -2,10 +2,10 @@
 // takes nothing (`batches`). Between two sweeps only those batches are run again that what fell can have touched; which these are is a guess that nothing
 // rests on, since the last sweep runs all. When that takes nothing the marks are the marked set's, in whatever order the others fell.
 // It stands on `senses` (what is marked), `sweeps` (what marks keep while they fall, for any condition) and `lining` (the order of silent hops).
+use base_bitset::WORD_BITS;
+use base_bitset::bit_of;
 use batches::batch_len;
 use batches::try_batch;
-use bits::WORD_BITS;
-use bits::bit_of;
 use confluence::start_marks;
 use graph::MOST_HOPS;
 use graph::MOST_STATES;
@@ -18,7 +18,7 @@ use starts::wide;
 ghost use mathlib.Core.Path.{_≡_};
 ghost use Prim.Native.Nat.{_+_, _*_, _<_, _≤_};
 ghost use lib.ListN.{length};
-ghost use Rattle.outputs.specs.Output.{onFront};
+ghost use Rattle.base_outputs.specs.Output.{onFront};
 ghost use Rattle.graph.specs.Hops.{count};
 ghost use Rattle.graph.specs.Answers.{most-hops};
 ghost use Rattle.starts.specs.Starts.{Ready, Tabled};
@@ -26,7 +26,7 @@ ghost use Rattle.silent.specs.Silent.{ringless};
 ghost use Rattle.confluence.specs.Held.{marksOf};
 ghost use Rattle.sweeps.specs.Sweep.{Marking, Swept};
 ghost use Rattle.senses.specs.Senses.{senseOf, markedBy};
-ghost use Rattle.bits.specs.Bits.{word-bits};
+ghost use Rattle.base_bitset.specs.Bits.{word-bits};
 ghost use Rattle.batches.specs.Batch.{Anything, Sweepable, TriedIn};
 
 // Every bit: all batches, or all places of a word.

@@ -5,7 +5,7 @@ use mathlib.Core.Bool.{cond, not, _&&_}
 use mathlib.Core.List.{List, [], _∷_, map}
 use lib.ListN.{length}
 use lib.Dec.{eqb}
-use Rattle.below.specs.Tests.{least, listed}
+use Rattle.base_bounded.specs.Tests.{least, listed}
 use Rattle.graph.specs.Hops.{count, from, label, to, hopOf, flat}
 use Rattle.graph.specs.Answers.{accepted, refused}
 use Rattle.graph.specs.declared.Hop.{Hop}

@@ -8,14 +8,14 @@ use native.Mathlib.Omega.{arith}
 use borrow.Author.Tests.{leb-true}
 use lib.ListN.{length}
 use lib.Dec.{leb}
-use Rattle.below.specs.Tests.{all, any, least, listed, tally}
+use Rattle.base_bounded.specs.Tests.{all, any, least, listed, tally}
 use Rattle.graph.specs.Hops.{count, flat, is, labelled, has}
 use Rattle.graph.specs.Order.{before}
 use Rattle.limits.specs.Check.{checkOf, countsFit, inside, firstOutside, rises, firstFalling}
 use Rattle.reaching.specs.Reaching.{leadsBy}
 use Rattle.silent.specs.Silent.{onRing, lowestOnRing, ringless}
-use Rattle.shrinking.specs.Rounds.{leftAfter}
-use Rattle.shrinking.specs.Pairs.{Pairs}
+use Rattle.base_fixpoint.specs.Rounds.{leftAfter}
+use Rattle.base_fixpoint.specs.Pairs.{Pairs}
 use Rattle.confluence.specs.Rounds.{tried}
 use Rattle.confluence.specs.Held.{isMarked, heldAt, heldBy, markOf, marksOf}
 use Rattle.senses.specs.Senses.{setAt, comes, takes, meets, takesTo, answersFrom, answeredIn, closesIn, markedIn, isSense, senseOf, senseAnswer}
@@ -26,7 +26,7 @@ use Rattle.quotient.specs.Reduce.{reduceAnswer}
 use Rattle.composing.specs.Chained.{chained, ownMap}
 use Rattle.repeating.specs.Repeating.{Stage, firstStage, nextStage, markedAt, someMarked, marksSome, repeated, lastOf, lastStage}
 use Rattle.last_graph.specs.Shrink.{shrinkOf, lastMap, lastHops}
-use Rattle.outputs.specs.Output.{onFront}
+use Rattle.base_outputs.specs.Output.{onFront}
 use Rattle.graph.specs.Answers.{accepted}
 use Rattle.last_graph.specs.declared.Shrinking.{Shrinking}
 use Rattle.worked_repeats.specs.Table.{Turn, Shrunk, turnsOf, shrunkOf, refusedOf, tableOf, chain-r1, chain-r2, chain-r3, chain-r8, p1-r1, p2-r1, twice-r2, table}

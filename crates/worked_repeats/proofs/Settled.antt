@@ -6,15 +6,15 @@ use mathlib.Core.Bool.{Bool, true, cond, _&&_}
 use mathlib.Core.List.{List}
 use borrow.Author.Tests.{eq-eqb, eqb-true}
 use lib.Dec.{eqb}
-use Rattle.below.specs.Tests.{all}
-use Rattle.below.proofs.Bools.{and-yes, and-left, and-right}
-use Rattle.below.proofs.Tests.{all-at}
+use Rattle.base_bounded.specs.Tests.{all}
+use Rattle.base_bounded.proofs.Bools.{and-yes, and-left, and-right}
+use Rattle.base_bounded.proofs.Tests.{all-at}
 use Rattle.graph.specs.Hops.{count, from, label, to}
 use Rattle.graph.specs.declared.Shape.{Shape}
 use Rattle.graph.proofs.Places.{has-at, has-place, is-yes, is-from, is-label, is-to}
-use Rattle.shrinking.specs.Pairs.{In, Within}
-use Rattle.shrinking.specs.Rounds.{leftAfter}
-use Rattle.shrinking.proofs.Rounds.{kept-left}
+use Rattle.base_fixpoint.specs.Pairs.{In, Within}
+use Rattle.base_fixpoint.specs.Rounds.{leftAfter}
+use Rattle.base_fixpoint.proofs.Rounds.{kept-left}
 use Rattle.lts.specs.Closes.{Sense}
 use Rattle.confluence.specs.Rounds.{silentHops}
 use Rattle.confluence.specs.Held.{isMarked, heldBy}

@@ -6,7 +6,7 @@ use mathlib.Core.Logic.{inl, ⊎-elim}
 use native.Mathlib.Omega.{arith}
 use borrow.Author.Tests.{lt-ltb, le-ltb, lt-leb, le-leb, eq-eqb, ne-eqb}
 use lib.ListN.{length}
-use Rattle.below.proofs.Bools.{eq-or-not}
+use Rattle.base_bounded.proofs.Bools.{eq-or-not}
 use Rattle.graph.specs.Hops.{count}
 use Rattle.graph.specs.Answers.{most-labels, most-hops, accepted, refused, roomFor}
 use Rattle.limits.specs.Check.{checkOf, Admitted}
@@ -16,7 +16,7 @@ use Rattle.limits.proofs.Checked.{check-admitted, admitted-check}
 use Rattle.graph.proofs.Accepts.{both-accept, second-accepts, room-accepts}
 use Rattle.names.specs.Block.{nameAt, firstBad, Searchable}
 use Rattle.names.proofs.Blocks.{name-less, name-least}
-use Rattle.outputs.specs.Output.{onFront}
+use Rattle.base_outputs.specs.Output.{onFront}
 use Rattle.encoding.specs.Encode.{encode, Writable}
 use Rattle.writer.specs.Write.{blockAnswer, namesGiven, givenAnswer, writeAnswer, nothingWritten, writeOf, writeBytes}
 use Rattle.writer.specs.declared.Written.{Written}

@@ -9,7 +9,7 @@ use Rattle.limits.specs.Check.{checkOf}
 use Rattle.graph.specs.declared.Shape.{Shape}
 use Rattle.graph.specs.declared.Answer.{Answer}
 use Rattle.names.specs.Block.{nameAt, firstBad}
-use Rattle.outputs.specs.Output.{written}
+use Rattle.base_outputs.specs.Output.{written}
 use Rattle.encoding.specs.Encode.{encode}
 use Rattle.writer.specs.declared.Written.{Written}
 

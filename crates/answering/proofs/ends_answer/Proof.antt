@@ -6,7 +6,7 @@ use native.Mathlib.Omega.{arith}
 use borrow.Author.Needs.{needs}
 use borrow.Author.Tests.{eq-eqb, ne-eqb}
 use Rattle.confluence.specs.Held.{isMarked}
-use Rattle.below.proofs.Bools.{clash}
+use Rattle.base_bounded.proofs.Bools.{clash}
 use Rattle.starts.proofs.Firsts.{start-is}
 use Rattle.answering.proofs.Ends.{leads-is, Passed, itself-answers, passed-start, passed-in, marked-answers, passed-next, passed-ends}
 use Rattle.answering.proofs.ends_answer.Statement.{statement}

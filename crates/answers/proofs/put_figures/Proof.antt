@@ -4,8 +4,8 @@ use mathlib.Core.Path.{_≡_, refl}
 use native.Mathlib.Omega.{arith}
 use borrow.Author.Needs.{needs}
 use lib.ListN.{length, take, length-set}
-use Rattle.outputs.specs.Output.{onFront}
-use Rattle.outputs.proofs.Front.{numbers-more, numbers-done}
+use Rattle.base_outputs.specs.Output.{onFront}
+use Rattle.base_outputs.proofs.Front.{numbers-more, numbers-done}
 use Rattle.answers.proofs.put_figures.Statement.{statement}
 use Rattle.answers.proofs.put_figures.Tie as tie
 

@@ -5,12 +5,12 @@ use mathlib.Core.List.{List}
 use native.Mathlib.Omega.{arith}
 use borrow.Author.Needs.{needs}
 use lib.ListN.{length, length-set}
-use Rattle.below.specs.Tests.{listed}
-use Rattle.below.proofs.Tests.{length-listed}
+use Rattle.base_bounded.specs.Tests.{listed}
+use Rattle.base_bounded.proofs.Tests.{length-listed}
 use Rattle.graph.specs.Answers.{most-states}
 use Rattle.graph.specs.Map.{mapped}
-use Rattle.outputs.specs.Output.{onFront}
-use Rattle.outputs.proofs.Front.{front-past, front-all, listed-none, listed-more, listed-done}
+use Rattle.base_outputs.specs.Output.{onFront}
+use Rattle.base_outputs.proofs.Front.{front-past, front-all, listed-none, listed-more, listed-done}
 use Rattle.composing.specs.Chained.{chained, Into}
 use Rattle.composing.proofs.put_behind.Statement.{statement}
 use Rattle.composing.proofs.put_behind.Tie as tie

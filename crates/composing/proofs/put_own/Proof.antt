@@ -4,11 +4,11 @@ use mathlib.Core.Path.{_≡_, refl, _∙_}
 use native.Mathlib.Omega.{arith}
 use borrow.Author.Needs.{needs}
 use lib.ListN.{length, length-set}
-use Rattle.below.specs.Tests.{listed}
-use Rattle.below.proofs.Tests.{length-listed}
+use Rattle.base_bounded.specs.Tests.{listed}
+use Rattle.base_bounded.proofs.Tests.{length-listed}
 use Rattle.graph.specs.Answers.{most-states}
-use Rattle.outputs.specs.Output.{onFront}
-use Rattle.outputs.proofs.Front.{front-all, listed-none, listed-more, listed-done}
+use Rattle.base_outputs.specs.Output.{onFront}
+use Rattle.base_outputs.proofs.Front.{front-all, listed-none, listed-more, listed-done}
 use Rattle.composing.specs.Chained.{ownMap}
 use Rattle.composing.proofs.put_own.Statement.{statement}
 use Rattle.composing.proofs.put_own.Tie as tie

@@ -5,10 +5,10 @@ use mathlib.Core.Logic.{⊎-elim}
 use native.Mathlib.Omega.{arith}
 use borrow.Author.Needs.{needs}
 use lib.ListN.{length}
-use Rattle.below.specs.Tests.{listed}
+use Rattle.base_bounded.specs.Tests.{listed}
 use Rattle.graph.specs.Hops.{count}
-use Rattle.outputs.specs.Output.{onFront}
-use Rattle.outputs.proofs.Front.{listed-none, listed-more, listed-done}
+use Rattle.base_outputs.specs.Output.{onFront}
+use Rattle.base_outputs.proofs.Front.{listed-none, listed-more, listed-done}
 use Rattle.confluence.specs.Held.{markOf, marksOf, everyPair}
 use Rattle.confluence.proofs.Marks.{first-silent, first-visible, length-so-far}
 use Rattle.confluence.proofs.start_marks.Statement.{statement}

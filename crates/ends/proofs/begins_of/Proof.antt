@@ -5,8 +5,8 @@ use native.Mathlib.Omega.{arith}
 use borrow.Author.Needs.{needs}
 use lib.ListN.{length, getD, length-set}
 use lib.Seq.{getD-set-other}
-use Rattle.below.specs.Slots.{keyed}
-use Rattle.below.proofs.Slots.{beginning-zero, beginning-step, beginning-within}
+use Rattle.base_bounded.specs.Slots.{keyed}
+use Rattle.base_bounded.proofs.Slots.{beginning-zero, beginning-step, beginning-within}
 use Rattle.graph.specs.Hops.{count, to}
 use Rattle.graph.specs.Answers.{most-states}
 use Rattle.starts.proofs.Firsts.{filled-more}

@@ -5,8 +5,8 @@ use mathlib.Core.List.{List}
 use native.Mathlib.Omega.{arith}
 use borrow.Author.Needs.{needs}
 use lib.ListN.{length, getD, length-set, length-replicate}
-use Rattle.below.specs.Slots.{keyed, slot}
-use Rattle.below.proofs.Slots.{keyed-none, keyed-turn, slot-next, slot-turn}
+use Rattle.base_bounded.specs.Slots.{keyed, slot}
+use Rattle.base_bounded.proofs.Slots.{keyed-none, keyed-turn, slot-next, slot-turn}
 use Rattle.graph.specs.Hops.{count, to}
 use Rattle.graph.specs.Answers.{most-states, most-hops}
 use Rattle.starts.specs.Starts.{Ready}

@@ -3,7 +3,7 @@ use Prim.Native.Nat.{ℕ}
 use mathlib.Core.Path.{refl}
 use native.Mathlib.Omega.{arith}
 use lib.ListN.{length-replicate}
-use Rattle.below.proofs.Bools.{clash}
+use Rattle.base_bounded.proofs.Bools.{clash}
 use Rattle.confluence.specs.Rounds.{survives, marked}
 use Rattle.confluence.proofs.Marks.{marks-over}
 use Rattle.graph.specs.Answers.{most-hops}

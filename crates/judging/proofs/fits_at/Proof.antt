@@ -5,11 +5,11 @@ use mathlib.Core.Bool.{not, _||_}
 use native.Mathlib.Omega.{arith}
 use borrow.Author.Needs.{needs}
 use lib.ListN.{getD}
-use Rattle.below.specs.Tests.{all}
+use Rattle.base_bounded.specs.Tests.{all}
 use Rattle.graph.specs.Answers.{most-states}
 use Rattle.graph.specs.Hops.{from, to}
 use Rattle.graph.specs.declared.Hop.{Hop}
-use Rattle.bits.specs.Bits.{bitAt, inTable, word-bits}
+use Rattle.base_bitset.specs.Bits.{bitAt, inTable, word-bits}
 use Rattle.judging.specs.Judged.{fits}
 use Rattle.judging.proofs.fits_at.Statement.{statement}
 use Rattle.judging.proofs.fits_at.Tie as tie

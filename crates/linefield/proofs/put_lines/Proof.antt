@@ -5,7 +5,7 @@ use native.Mathlib.Omega.{arith}
 use borrow.Author.Needs.{needs}
 use lib.ListN.{length}
 use Rattle.graph.specs.Hops.{count}
-use Rattle.outputs.specs.Output.{overAt}
+use Rattle.base_outputs.specs.Output.{overAt}
 use Rattle.numbers.specs.Parts.{parts}
 use Rattle.linefield.specs.LineField.{linePlace}
 use Rattle.linefield.proofs.Laws.{lineBytes, lines-none, lines-more, lines-done}

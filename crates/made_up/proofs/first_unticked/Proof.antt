@@ -4,10 +4,10 @@ use Prim.Native.Nat.{ℕ, _+_, _≤_, _-_}
 use mathlib.Core.Path.{_≡_, sym, ap, _∙_}
 use mathlib.Core.Bool.{Bool}
 use native.Mathlib.Omega.{arith}
-use Rattle.below.specs.Tests.{least}
+use Rattle.base_bounded.specs.Tests.{least}
 use Rattle.graph.specs.Hops.{count}
 use Rattle.graph.specs.Search.{firstOf}
-use Rattle.below.proofs.Tests.{least-more, least-found}
+use Rattle.base_bounded.proofs.Tests.{least-more, least-found}
 use Rattle.graph.proofs.Lookup.{first-within}
 use Rattle.starts.proofs.Firsts.{first-next, start-is}
 use Rattle.made_up.specs.States.{unticked}

@@ -2,7 +2,7 @@
 use mathlib.Core.Path.{sym, _∙_}
 use borrow.Author.Needs.{needs}
 use Rattle.reaching.proofs.Front.{noted-yes}
-use Rattle.below.specs.Tests.{any}
+use Rattle.base_bounded.specs.Tests.{any}
 use Rattle.graph.specs.Hops.{count}
 use Rattle.rings.specs.Ring.{leadsBackAt}
 use Rattle.silent.proofs.Rings.{no-ring-test}

@@ -4,9 +4,9 @@ use mathlib.Core.Path.{_≡_, sym}
 use mathlib.Core.Bool.{false}
 use native.Mathlib.Omega.{arith}
 use borrow.Author.Needs.{needs}
-use Rattle.below.specs.Tests.{any}
+use Rattle.base_bounded.specs.Tests.{any}
 use Rattle.graph.specs.Hops.{count}
-use Rattle.below.proofs.Tests.{any-none, any-more, any-found, any-done}
+use Rattle.base_bounded.proofs.Tests.{any-none, any-more, any-found, any-done}
 use Rattle.rings.specs.Ring.{leadsBackAt}
 use Rattle.rings.proofs.returns.Statement.{statement}
 use Rattle.rings.proofs.returns.Tie as tie

@@ -10,7 +10,7 @@ use lib.Dec.{eqb}
 use Rattle.graph.specs.Hops.{count}
 use Rattle.graph.specs.Search.{firstOf}
 use Rattle.graph.specs.Answers.{most-states}
-use Rattle.below.proofs.Bools.{and-yes, and-left, and-right}
+use Rattle.base_bounded.proofs.Bools.{and-yes, and-left, and-right}
 use Rattle.graph.proofs.Lookup.{first-within}
 use Rattle.starts.proofs.Firsts.{first-next, start-is}
 use Rattle.graph.specs.Map.{mapped}

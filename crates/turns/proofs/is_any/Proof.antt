@@ -5,8 +5,8 @@ use mathlib.Core.Bool.{false}
 use native.Mathlib.Omega.{arith}
 use borrow.Author.Tests.{eq-eqb, ne-eqb}
 use lib.ListN.{length}
-use Rattle.below.specs.Tests.{any}
-use Rattle.below.proofs.Tests.{any-none, any-more, any-found, any-done}
+use Rattle.base_bounded.specs.Tests.{any}
+use Rattle.base_bounded.proofs.Tests.{any-none, any-more, any-found, any-done}
 use Rattle.confluence.specs.Held.{isMarked}
 use Rattle.turns.proofs.is_any.Statement.{statement}
 use Rattle.turns.proofs.is_any.Tie as tie

@@ -6,7 +6,7 @@ use borrow.Author.Needs.{needs}
 use lib.ListN.{length}
 use Rattle.graph.specs.Hops.{count}
 use Rattle.senses.specs.Senses.{markedBy}
-use Rattle.bits.specs.Bits.{word-bits}
+use Rattle.base_bitset.specs.Bits.{word-bits}
 use Rattle.sweeps.specs.Sweep.{Swept}
 use Rattle.sweeps.proofs.Settling.{count-within, swept-none, swept-then}
 use Rattle.batches.specs.Batch.{Anything}

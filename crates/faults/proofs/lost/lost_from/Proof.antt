@@ -5,10 +5,10 @@ use mathlib.Core.Path.{_≡_, sym, _∙_}
 use mathlib.Core.Bool.{Bool, not}
 use mathlib.Core.Logic.{⊎-elim}
 use native.Mathlib.Omega.{arith}
-use Rattle.below.specs.Tests.{tally}
+use Rattle.base_bounded.specs.Tests.{tally}
 use Rattle.graph.specs.Hops.{count}
-use Rattle.below.proofs.Tests.{least-within, tally-more, tally-skip, tally-done, tally-within}
-use Rattle.below.proofs.Least.{tally-least}
+use Rattle.base_bounded.proofs.Tests.{least-within, tally-more, tally-skip, tally-done, tally-within}
+use Rattle.base_bounded.proofs.Least.{tally-least}
 use Rattle.faults.specs.Faults.{kept, lostFaults}
 use Rattle.faults.specs.First.{lostPlace}
 use Rattle.faults.proofs.lost.lost_from.Statement.{statement}

@@ -4,7 +4,7 @@ use mathlib.Core.Path.{_≡_, refl}
 use native.Mathlib.Omega.{arith}
 use lib.ListN.{length}
 use Rattle.graph.specs.Hops.{count}
-use Rattle.outputs.specs.Output.{overAt}
+use Rattle.base_outputs.specs.Output.{overAt}
 use Rattle.numbers.specs.Parts.{parts}
 use Rattle.hopfield.specs.Field.{bytes-a-hop}
 use Rattle.hopfield.proofs.Field.{hopBytesAt, hops-none, hops-more, hops-done}

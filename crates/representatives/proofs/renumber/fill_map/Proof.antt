@@ -4,11 +4,11 @@ use Prim.Native.Nat.{ℕ, _≤_, _-_}
 use mathlib.Core.Path.{_≡_, refl, ap, _∙_}
 use native.Mathlib.Omega.{arith}
 use lib.ListN.{length, getD, length-set}
-use Rattle.below.specs.Tests.{listed}
+use Rattle.base_bounded.specs.Tests.{listed}
 use Rattle.graph.specs.Answers.{most-states}
 use Rattle.representatives.specs.Tables.{Noted, numbered}
-use Rattle.outputs.specs.Output.{onFront}
-use Rattle.outputs.proofs.Front.{listed-none, listed-more, listed-done}
+use Rattle.base_outputs.specs.Output.{onFront}
+use Rattle.base_outputs.proofs.Front.{listed-none, listed-more, listed-done}
 use Rattle.representatives.proofs.Nexts.{stepped-in}
 use Rattle.representatives.proofs.Ways.{noted-none, noted-then, noted-sinks}
 use borrow.Author.Needs.{needs}
