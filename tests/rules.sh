@@ -33,7 +33,7 @@ none "a hop's line looked at elsewhere" "$(grep -nE '(^|[^A-Za-z_])(lineAt|line_
 none "hops compared by their numbers" "$(grep -nE '\.(from|label|to)\>[^;⌜]*([<>]|[=!]=)[^;⌜]*\.(from|label|to)\>' crates/*/src/*.rt | grep -vE ':[0-9]+: *//' || true)"
 
 # a hop is looked for by the search of graph, and by nothing else: sums are compared there, and in row 4 of check
-none "hops looked for elsewhere than in graph" "$(grep -nE '(^|[^a-z_])(sum_of|is_below|is_same|is_hop_at)([^a-z_]|$)' crates/*/src/*.rt | grep -vE '^crates/(graph|limits)/' |
+none "hops looked for elsewhere than in graph" "$(grep -nE '(^|[^a-z_])(sum_of|is_below|is_same|is_hop_at)([^a-z_]|$)' crates/*/src/*.rt | grep -vE '^crates/(graph|graph_check)/' |
     grep -vE ':[0-9]+: *//' || true)"
 
 # every module of a list has a word on it

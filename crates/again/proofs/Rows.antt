@@ -13,7 +13,7 @@ use Rattle.graph.specs.Search.{firstOf, pastOf, labelledFrom}
 use Rattle.base_bounded.proofs.Bools.{clash, lt-or-le, no-test}
 use Rattle.graph.proofs.Ordered.{Below, before-below, below-before}
 use Rattle.graph.proofs.Lookup.{lower-law, first-within, range-holds, range-only}
-use Rattle.starts.proofs.Rows.{first-labelled}
+use Rattle.graph_successors.proofs.Rows.{first-labelled}
 use Rattle.confluence.specs.Rounds.{answered}
 use Rattle.confluence.specs.Held.{heldBy, isMarked}
 use Rattle.merging.specs.Row.{Row}

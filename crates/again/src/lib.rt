@@ -1,6 +1,6 @@
 // Whether a silent hop that closed before still closes with the set that a list of marks is: the test of a later round of marking. Of the hops from its start
 // only those to shed states, which lost a silent hop in the round before, are tried again; the others are answered as they were.
-// It stands on `confluence` (what closing is, and the set that marks are), `graph` (hops and their order), `starts` (where a state's hops begin, and the
+// It stands on `confluence` (what closing is, and the set that marks are), `graph` (hops and their order), `graph_successors` (where a state's hops begin, and the
 // search among them), `merging` (the hops of a state from a label on), `answering` (whether a state has a hop) and `closes` (one trial).
 use answering::leads_to;
 use closes::is_answered;
@@ -9,11 +9,11 @@ use graph::OldState;
 use graph::hops::from_at;
 use graph::hops::label_at;
 use graph::hops::to_at;
+use graph_successors::STARTS;
+use graph_successors::labelled_from;
+use graph_successors::start_of;
+use graph_successors::wide;
 use merging::Rest;
-use starts::STARTS;
-use starts::labelled_from;
-use starts::start_of;
-use starts::wide;
 ghost use mathlib.Core.Path.{_≡_};
 ghost use Prim.Native.Nat.{_<_, _≤_};
 ghost use lib.ListN.{length};
@@ -22,7 +22,7 @@ ghost use Rattle.graph.specs.Hops.{count};
 ghost use Rattle.graph.specs.Answers.{most-states};
 ghost use Rattle.confluence.specs.Rounds.{answered, closesAt};
 ghost use Rattle.confluence.specs.Held.{heldBy};
-ghost use Rattle.starts.specs.Starts.{Table, Ready};
+ghost use Rattle.graph_successors.specs.Starts.{Table, Ready};
 ghost use Rattle.again.specs.Again.{Unshed};
 
 // Y of the hop at place j against a silent hop to s2. The walk that `closes` goes side by side would pass over most of s2's hops here, so the like hop and

@@ -11,7 +11,7 @@ use Rattle.graph.specs.Search.{firstOf, pastOf}
 use Rattle.base_bounded.proofs.Bools.{clash, no-test, lt-or-le}
 use Rattle.graph.proofs.Places.{is-yes, is-from, is-label, is-to, labelled-yes, labelled-parts, has-at, has-place}
 use Rattle.graph.proofs.Lookup.{range-holds, range-only, past-within}
-use Rattle.starts.proofs.Firsts.{range-more}
+use Rattle.graph_successors.proofs.Firsts.{range-more}
 use Rattle.base_fixpoint.specs.Pairs.{Pairs, In}
 use Rattle.confluence.specs.Rounds.{closing, hopAnswers}
 use Rattle.confluence.specs.Held.{isMarked, heldBy}

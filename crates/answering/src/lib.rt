@@ -1,7 +1,7 @@
 // Whether a hop labelled a to s3 is answered by a hop of s2, with the set that a list of marks is: what one trial of document 01's condition asks. Three ways
 // lead to it: where s2's hops of that label are far fewer than s3's silent hops, or far more, each of the few is searched for among the many, and else
 // `merging` walks both side by side. `closes` asks it of each hop that is tried.
-// It stands on `confluence` (what closing is, and the set that marks are), `graph` (hops and the search), `starts` (where a state's hops begin) and
+// It stands on `confluence` (what closing is, and the set that marks are), `graph` (hops and the search), `graph_successors` (where a state's hops begin) and
 // `merging` (a state's hops from a place on, which of two such rows is far shorter, and the walk side by side).
 use graph::Found;
 use graph::Label;
@@ -9,13 +9,13 @@ use graph::OldState;
 use graph::hops::hop_of;
 use graph::hops::label_at;
 use graph::hops::to_at;
+use graph_successors::STARTS;
+use graph_successors::find_row;
+use graph_successors::start_of;
+use graph_successors::wide;
 use merging::Rest;
 use merging::is_fewer;
 use merging::row_answers;
-use starts::STARTS;
-use starts::find_row;
-use starts::start_of;
-use starts::wide;
 ghost use mathlib.Core.Path.{_≡_};
 ghost use Prim.Native.Nat.{_<_, _≤_};
 ghost use lib.ListN.{length};
@@ -23,7 +23,7 @@ ghost use Rattle.graph.specs.Hops.{count, has};
 ghost use Rattle.graph.specs.Answers.{most-states};
 ghost use Rattle.confluence.specs.Rounds.{closing, hopAnswers};
 ghost use Rattle.confluence.specs.Held.{heldBy};
-ghost use Rattle.starts.specs.Starts.{Table, Ready};
+ghost use Rattle.graph_successors.specs.Starts.{Table, Ready};
 ghost use Rattle.merging.specs.Row.{Row};
 
 // Whether the silent hop from x to y is marked.

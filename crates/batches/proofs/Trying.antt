@@ -17,7 +17,7 @@ use Rattle.graph.specs.Hops.{count, from, label, to, is, has}
 use Rattle.graph.specs.Order.{Ascending}
 use Rattle.graph.specs.declared.Shape.{Shape}
 use Rattle.graph.proofs.Places.{has-at, has-place, is-yes, is-from, is-to}
-use Rattle.limits.specs.Check.{InRange}
+use Rattle.graph_check.specs.Check.{InRange}
 use Rattle.lts.specs.Closes.{nowhere, Via, here, Sense, Answered, Closes}
 use Rattle.silent.specs.Silent.{HopOf}
 use Rattle.base_fixpoint.specs.Pairs.{Pairs, In}

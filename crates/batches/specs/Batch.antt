@@ -5,8 +5,8 @@ use mathlib.Core.Bool.{true}
 use mathlib.Core.List.{List}
 use Rattle.graph.specs.Hops.{count, from, label, to}
 use Rattle.graph.specs.declared.Shape.{Shape}
-use Rattle.limits.specs.Check.{Admitted}
-use Rattle.starts.specs.Starts.{Ready}
+use Rattle.graph_check.specs.Check.{Admitted}
+use Rattle.graph_successors.specs.Starts.{Ready}
 use Rattle.lining.specs.Line.{Line}
 use Rattle.lts.specs.Closes.{Sense, Answered}
 use Rattle.silent.specs.Silent.{HopOf}

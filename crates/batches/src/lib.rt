@@ -18,7 +18,7 @@ use trials::put_labels;
 ghost use Prim.Native.Nat.{_+_, _<_, _≤_};
 ghost use lib.ListN.{length};
 ghost use Rattle.graph.specs.Hops.{count};
-ghost use Rattle.starts.specs.Starts.{Ready};
+ghost use Rattle.graph_successors.specs.Starts.{Ready};
 ghost use Rattle.base_fixpoint.specs.Pairs.{In};
 ghost use Rattle.confluence.specs.Held.{heldBy};
 ghost use Rattle.sweeps.specs.Sweep.{Marking, Swept};

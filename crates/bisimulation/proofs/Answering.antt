@@ -7,7 +7,7 @@ use native.Mathlib.Omega.{arith}
 use borrow.Author.Tests.{eq-eqb, ne-eqb}
 use Rattle.graph.specs.declared.Shape.{Shape}
 use Rattle.graph.specs.declared.Answer.{Answer}
-use Rattle.starts.proofs.Firsts.{admitted-ready}
+use Rattle.graph_successors.proofs.Firsts.{admitted-ready}
 use Rattle.faults.specs.Faults.{faultsOf}
 use Rattle.faults.specs.First.{noFault, firstFault}
 use Rattle.faults.specs.Images.{Auditable}

@@ -10,7 +10,7 @@ use borrow.Author.Tests.{eq-eqb, eqb-true, not-false}
 use lib.Dec.{eqb}
 use Rattle.base_bounded.specs.Tests.{tally}
 use Rattle.graph.specs.Hops.{count, from, label, to}
-use Rattle.limits.specs.Check.{InRange, Admitted}
+use Rattle.graph_check.specs.Check.{InRange, Admitted}
 use Rattle.graph.specs.declared.Shape.{Shape}
 use Rattle.base_bounded.proofs.Bools.{decided, not-yes, and-yes, and-left, and-right, and-no-left, and-no-right, or-left, or-right, or-yes}
 use Rattle.base_bounded.proofs.Tests.{any-found, any-at, tally-zero, tally-each, total-zero, total-each}

@@ -1,9 +1,9 @@
 // A program for tests: graphs at the limits, and bad input, through `check`. What it answers is printed and held to the file stdout.
 use graph::Answer;
 use graph::Shape;
+use graph_check::check;
 use io::print_decimal;
 use libc::STDOUT_FILENO;
-use limits::check;
 
 fn print_answer(a: Answer) {
     print_decimal(STDOUT_FILENO, a.number as u64);

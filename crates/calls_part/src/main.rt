@@ -1,7 +1,7 @@
 // A program for tests: hops of a state as a part of its table, `hops_of`, of P1 with lines as graph 1 and its short graph as graph 2. The numbers of each part are
-// printed and held to the file stdout. Stands on outgoing (the entry) and show (how it is printed).
+// printed and held to the file stdout. Stands on graph_hops_of (the entry) and show (how it is printed).
 use graph::Shape;
-use outgoing::hops_of;
+use graph_hops_of::hops_of;
 use show::number;
 use show::numbers;
 use show::shape_of;

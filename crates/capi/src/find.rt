@@ -2,8 +2,8 @@
 use tells_finding::tell_find;
 ghost use mathlib.Core.Path.{_≡_};
 ghost use lib.ListN.{length};
-ghost use Rattle.limits.specs.Check.{checkOf};
-ghost use Rattle.finding.specs.Finding.{findOf};
+ghost use Rattle.graph_check.specs.Check.{checkOf};
+ghost use Rattle.graph_find.specs.Finding.{findOf};
 ghost use Rattle.answers.specs.Numbers.{shapeOf, returned, told};
 ghost use Rattle.tells_finding.specs.Numbers.{findingNumbers};
 

@@ -3,7 +3,7 @@ use tells_span::tell_hops_of;
 ghost use mathlib.Core.Path.{_≡_};
 ghost use lib.ListN.{length};
 ghost use Rattle.graph.specs.Answers.{accepted};
-ghost use Rattle.outgoing.specs.Outgoing.{chosen, spanOf};
+ghost use Rattle.graph_hops_of.specs.Outgoing.{chosen, spanOf};
 ghost use Rattle.answers.specs.Numbers.{shapeOf, returned, told};
 ghost use Rattle.tells_span.specs.Numbers.{spanNumbers};
 

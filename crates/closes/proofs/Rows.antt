@@ -21,8 +21,8 @@ use Rattle.graph.proofs.Ordered.{Below, before-below, below-before, ascending-l
 use Rattle.graph.proofs.Lookup.{placed-has, found-lower, Onward, onward, first-within, range-holds, range-only}
 use Rattle.base_fixpoint.specs.Pairs.{Pairs}
 use Rattle.confluence.specs.Rounds.{closing, hopAnswers, answers, answered, tried, closes}
-use Rattle.starts.proofs.Firsts.{first-below, first-next}
-use Rattle.starts.proofs.Rows.{row-bracket}
+use Rattle.graph_successors.proofs.Firsts.{first-below, first-next}
+use Rattle.graph_successors.proofs.Rows.{row-bracket}
 use Rattle.merging.specs.Row.{Row}
 use Rattle.merging.proofs.Rows.{ascending-label}
 use Rattle.closes.specs.Walk.{Skipped}

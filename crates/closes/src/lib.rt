@@ -2,7 +2,7 @@
 // first round; `again` asks one trial, where only some of the hops need be tried.
 // Each hop of the one end is tried once. The hops of both ends are walked side by side, in the order of the list: the like hop of the other end is searched
 // for from the place of the one before on. Where it is there, there is no more to ask, and else `answering` is asked for one that closes.
-// It stands on `confluence` (what closing is, and the set that marks are), `graph` (hops and the search), `starts` (where a state's hops begin),
+// It stands on `confluence` (what closing is, and the set that marks are), `graph` (hops and the search), `graph_successors` (where a state's hops begin),
 // `merging` (a state's hops from a place on) and `answering` (what one trial asks).
 use answering::hop_answers;
 use answering::is_closed;
@@ -15,10 +15,10 @@ use graph::hops::to_at;
 use graph::search::find_ahead;
 use graph::search::is_at;
 use graph::search::place_of;
+use graph_successors::STARTS;
+use graph_successors::start_of;
+use graph_successors::wide;
 use merging::Rest;
-use starts::STARTS;
-use starts::start_of;
-use starts::wide;
 ghost use mathlib.Core.Path.{_≡_};
 ghost use Prim.Native.Nat.{_<_, _≤_};
 ghost use lib.ListN.{length};
@@ -28,7 +28,7 @@ ghost use Rattle.graph.specs.Hops.{count, label, to, has};
 ghost use Rattle.graph.specs.Answers.{most-states};
 ghost use Rattle.confluence.specs.Rounds.{answered, closesAt};
 ghost use Rattle.confluence.specs.Held.{heldBy};
-ghost use Rattle.starts.specs.Starts.{Table, Ready};
+ghost use Rattle.graph_successors.specs.Starts.{Table, Ready};
 ghost use Rattle.merging.specs.Row.{Row};
 ghost use Rattle.closes.specs.Walk.{Skipped};
 

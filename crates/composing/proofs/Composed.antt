@@ -5,7 +5,7 @@ use mathlib.Core.Path.{_≡_, refl, ap, _∙_}
 use mathlib.Core.List.{List}
 use Rattle.graph.specs.Map.{mapped}
 use Rattle.graph.specs.declared.Shape.{Shape}
-use Rattle.limits.specs.Check.{Admitted}
+use Rattle.graph_check.specs.Check.{Admitted}
 use Rattle.lts.proofs.Compose.{composes, Reduces·refl}
 use Rattle.faults.specs.Faults.{faultsOf}
 use Rattle.fitting.proofs.Fits.{Audited}

@@ -18,7 +18,7 @@ use Rattle.graph.specs.declared.Found.{Found}
 use Rattle.graph.specs.declared.Found.the-variants.{At, Gap}
 use Rattle.graph.proofs.Places.{has-at, is-from, is-label, is-to}
 use Rattle.graph.proofs.Lookup.{range-holds, range-only, past-within, all-range, at-place, gap-has}
-use Rattle.starts.proofs.Rows.{labelled-holds, labelled-only}
+use Rattle.graph_successors.proofs.Rows.{labelled-holds, labelled-only}
 use Rattle.base_fixpoint.specs.Pairs.{Pairs}
 use Rattle.confluence.specs.Rounds.{closing, hopAnswers, answers, answered, tried, closes, survives}
 use Rattle.confluence.proofs.Closing.{closing-is, closing-other, hop-answers, none-answers, answers-hop, answers-else, answers-last, answered-at, tried-own, tried-other}

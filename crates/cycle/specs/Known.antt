@@ -6,7 +6,7 @@ use mathlib.Core.Path.{_≡_}
 use lib.ListN.{length, getD}
 use Rattle.graph.specs.Hops.{count, from, label, to}
 use Rattle.graph.specs.Answers.{most-labels, most-hops}
-use Rattle.starts.specs.Starts.{Table, Ready}
+use Rattle.graph_successors.specs.Starts.{Table, Ready}
 use Rattle.confluence.specs.Rounds.{survives}
 
 -- where the answer for k rounds and the hop at place i stands: one after the other for the hops, then for the next number of rounds

@@ -1,7 +1,7 @@
 // The equations X, Y and Z of the marking, asked of one silent hop: does it survive k rounds? They call on one another, cut off by the number of rounds.
 // What is known already stands in a table that is lent down the cycle, so that each hop is judged once for each number of rounds. `rounds` asks X for
 // the entry; the equations themselves ask no limit of k but the room that the table has.
-// It stands on `confluence` (what the equations are, and the rounds), `graph` (hops) and `starts` (a state's hops, by label and by hop).
+// It stands on `confluence` (what the equations are, and the rounds), `graph` (hops) and `graph_successors` (a state's hops, by label and by hop).
 use graph::Found;
 use graph::MOST_HOPS;
 use graph::OldState;
@@ -9,12 +9,12 @@ use graph::hops::from_at;
 use graph::hops::hop_of;
 use graph::hops::label_at;
 use graph::hops::to_at;
-use starts::STARTS;
-use starts::find_row;
-use starts::labelled_from;
-use starts::labelled_past;
-use starts::start_of;
-use starts::wide;
+use graph_successors::STARTS;
+use graph_successors::find_row;
+use graph_successors::labelled_from;
+use graph_successors::labelled_past;
+use graph_successors::start_of;
+use graph_successors::wide;
 ghost use mathlib.Core.Path.{_≡_};
 ghost use Prim.Native.Nat.{_<_};
 ghost use Rattle.graph.specs.Hops.{count, from, label, to};

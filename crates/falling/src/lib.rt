@@ -3,13 +3,13 @@
 // were when it began, and takes the marks of what fell at its end. Whoever has refused already calls `mark_rounds`: `mark`, `mark_fast`, `reduce`, the program.
 // It stands on `due` (which hops a round tests, and that the others survive it), `retests` (which finds them) and `testing` (the parts of a round).
 use confluence::start_marks;
-use ends::begins_of;
-use ends::places_of;
 use graph::MOST_HOPS;
 use graph::MOST_STATES;
+use graph_predecessors::begins_of;
+use graph_predecessors::places_of;
+use graph_successors::STARTS;
 use retests::leaving_of;
 use retests::next_due;
-use starts::STARTS;
 use testing::list_silent;
 use testing::shed_of;
 use testing::take_fallen;
@@ -21,7 +21,7 @@ ghost use Rattle.base_outputs.specs.Output.{onFront};
 ghost use Rattle.graph.specs.Hops.{count};
 ghost use Rattle.confluence.specs.Rounds.{marked};
 ghost use Rattle.confluence.specs.Held.{marksOf};
-ghost use Rattle.starts.specs.Starts.{Table, Ready};
+ghost use Rattle.graph_successors.specs.Starts.{Table, Ready};
 ghost use Rattle.due.specs.Due.{testsOf};
 ghost use Rattle.noting.specs.Queue.{Queue};
 ghost use Rattle.falling.specs.Falling.{AfterSome};

@@ -5,9 +5,9 @@
 use falling::mark_rounds;
 use graph::Answer;
 use graph::Shape;
-use limits::check;
+use graph_check::check;
+use graph_successors::starts_of;
 use marks::mark::later_answer;
-use starts::starts_of;
 ghost use mathlib.Core.Path.{_≡_};
 ghost use Rattle.marks.specs.Mark.{markOutput};
 ghost use Rattle.fast.specs.Fast.{countedOf};

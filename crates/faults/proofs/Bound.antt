@@ -9,7 +9,7 @@ use lib.Dec.{eqb}
 use Rattle.base_bounded.specs.Tests.{tally}
 use Rattle.graph.specs.Hops.{count}
 use Rattle.graph.specs.Answers.{most-states, most-hops}
-use Rattle.limits.specs.Check.{Admitted}
+use Rattle.graph_check.specs.Check.{Admitted}
 use Rattle.graph.specs.declared.Shape.{Shape}
 use Rattle.base_bounded.proofs.Tests.{tally-within, total-most}
 use Rattle.graph.specs.Map.{mapped}

@@ -14,7 +14,7 @@ use Rattle.graph.specs.declared.Found.{Found}
 use Rattle.graph.specs.declared.Found.the-variants.{At, Gap}
 use Rattle.base_bounded.proofs.Bools.{or-right}
 use Rattle.graph.proofs.Lookup.{at-place, at-has, gap-has}
-use Rattle.starts.specs.Starts.{Ready}
+use Rattle.graph_successors.specs.Starts.{Ready}
 use Rattle.faults.specs.Faults.{initialFault, kept}
 use Rattle.faults.specs.First.{fault, noFault, firstInitial, lostPlace, firstLost}
 use Rattle.faults.specs.declared.Fault.{Fault}

@@ -11,8 +11,8 @@ use Rattle.graph.specs.declared.Hop.{Hop}
 use Rattle.graph.specs.declared.Shape.{Shape}
 use Rattle.graph.specs.declared.Found.{Found}
 use Rattle.graph.specs.declared.Found.the-variants.{At, Gap}
-use Rattle.limits.specs.Check.{Admitted}
-use Rattle.starts.specs.Starts.{Ready}
+use Rattle.graph_check.specs.Check.{Admitted}
+use Rattle.graph_successors.specs.Starts.{Ready}
 
 -- what the count asks of the two hop lists and the map, once the audit has admitted them
 pub record Auditable (sh1 : Shape) (h1 h2 m : List ℕ) : Type 0 where

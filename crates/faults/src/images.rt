@@ -8,12 +8,12 @@ use graph::hops::hop_of;
 use graph::hops::label_at;
 use graph::hops::to_at;
 use graph::map::map_at;
-use starts::STARTS;
-use starts::find_row;
+use graph_successors::STARTS;
+use graph_successors::find_row;
 ghost use mathlib.Core.Path.{_≡_};
 ghost use Prim.Native.Nat.{_<_};
 ghost use Rattle.graph.specs.Hops.{count};
-ghost use Rattle.starts.specs.Starts.{Table};
+ghost use Rattle.graph_successors.specs.Starts.{Table};
 ghost use Rattle.faults.specs.Images.{Auditable, imageOf, Imaged};
 
 // The place of a hop that graph 2 has not: one past all that can be.

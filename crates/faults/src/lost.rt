@@ -11,7 +11,7 @@ use graph::hops::hop_count;
 use graph::hops::label_at;
 use graph::hops::to_at;
 use graph::map::map_at;
-use starts::wide;
+use graph_successors::wide;
 ghost use mathlib.Core.Path.{_≡_};
 ghost use Prim.Native.Nat.{_<_, _≤_};
 ghost use lib.ListN.{length};

@@ -12,11 +12,11 @@ use lib.Seq.{drop-at, drop-drop, drop-append-seam, take-append-seam}
 use lib.Dec.{eqb, leb, ltb}
 use Rattle.graph.specs.Hops.{numbers-a-hop, numberPlace, count}
 use Rattle.graph.specs.Answers.{most-hops, accepted}
-use Rattle.limits.specs.Check.{checkOf, Admitted}
+use Rattle.graph_check.specs.Check.{checkOf, Admitted}
 use Rattle.graph.specs.declared.Shape.{Shape}
 use Rattle.graph.specs.declared.Answer.{Answer}
 use Rattle.base_bounded.proofs.Bools.{decided, eq-or-not, lt-or-le, not-yes, and-no-left, and-no-right, or-no}
-use Rattle.limits.proofs.Checked.{check-admitted, admitted-check}
+use Rattle.graph_check.proofs.Checked.{check-admitted, admitted-check}
 use Rattle.graph.proofs.Accepts.{both-accept}
 use Rattle.names.specs.Block.{most-name-bytes, nameAt, firstBad}
 use Rattle.names.proofs.Blocks.{name-first, name-short}

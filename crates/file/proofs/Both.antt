@@ -12,11 +12,11 @@ use lib.Seq.{take-at}
 use lib.Dec.{eqb, leb}
 use Rattle.graph.specs.Hops.{numberPlace}
 use Rattle.graph.specs.Answers.{most-numbers, accepted, refused, roomFor}
-use Rattle.limits.specs.Check.{Admitted}
+use Rattle.graph_check.specs.Check.{Admitted}
 use Rattle.graph.specs.declared.Shape.{Shape}
 use Rattle.graph.specs.declared.Answer.{Answer}
 use Rattle.base_bounded.proofs.Bools.{decided}
-use Rattle.limits.proofs.Checked.{check-admitted, admitted-check}
+use Rattle.graph_check.proofs.Checked.{check-admitted, admitted-check}
 use Rattle.graph.proofs.Accepts.{both-accept}
 use Rattle.names.specs.Block.{nameAt, firstBad}
 use Rattle.names.proofs.Blocks.{name-later}

@@ -8,7 +8,7 @@ use Rattle.base_bounded.specs.Tests.{all, any, least}
 use Rattle.graph.specs.Hops.{flat}
 use Rattle.graph.specs.Order.{before}
 use Rattle.graph.specs.Answers.{accepted, refused}
-use Rattle.limits.specs.Check.{countsFit, inside, firstOutside, rises, firstFalling, checkOf}
+use Rattle.graph_check.specs.Check.{countsFit, inside, firstOutside, rises, firstFalling, checkOf}
 use Rattle.graph.specs.declared.Shape.{Shape}
 use Rattle.names.specs.Block.{nameAt, repeated, lengthFits, bad, firstBad}
 use Rattle.comparing.specs.Pair.{sameByte, sameName}

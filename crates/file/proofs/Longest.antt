@@ -15,7 +15,7 @@ use Rattle.graph.specs.Hops.{numberPlace, count, from, label, to, lineAt, lined
 use Rattle.graph.specs.Order.{before, Ascending}
 use Rattle.graph.specs.Answers.{most-states, most-labels, most-hops, accepted}
 use Rattle.graph.specs.declared.Hop.{Hop}
-use Rattle.limits.specs.Check.{Admitted}
+use Rattle.graph_check.specs.Check.{Admitted}
 use Rattle.graph.specs.declared.Shape.{Shape}
 use Rattle.base_bounded.proofs.Bools.{not-no, and-right, or-right, lt-or-le, no-test}
 use Rattle.base_bounded.proofs.Tests.{length-listed, getD-listed, all-at, any-no, any-found, least-is}
@@ -23,7 +23,7 @@ use Rattle.linefield.specs.LineField.{anyLine}
 use Rattle.linefield.proofs.Laws.{lined}
 use Rattle.hopfield.specs.Field.{hopsBy}
 use Rattle.hopfield.proofs.Lists.{length-flat-by, flat-by-at}
-use Rattle.limits.proofs.Checked.{admitted-check}
+use Rattle.graph_check.proofs.Checked.{admitted-check}
 use Rattle.names.specs.Block.{longest-name, most-name-bytes, nameAt, repeated, lengthFits, bad, firstBad}
 use Rattle.comparing.specs.Pair.{sameByte, sameName}
 use Rattle.encoding.specs.Encode.{encode}

@@ -15,10 +15,10 @@ use Rattle.graph.specs.Answers.{accepted, refused, inTable, andThen}
 use Rattle.graph.specs.Map.{mapped}
 use Rattle.graph.specs.declared.Shape.{Shape}
 use Rattle.graph.specs.declared.Answer.{Answer}
-use Rattle.limits.specs.Check.{checkOf, Admitted}
+use Rattle.graph_check.specs.Check.{checkOf, Admitted}
 use Rattle.base_bounded.proofs.Bools.{not-yes}
 use Rattle.base_bounded.proofs.Tests.{least-is, least-before}
-use Rattle.limits.proofs.Checked.{check-admitted, admitted-check}
+use Rattle.graph_check.proofs.Checked.{check-admitted, admitted-check}
 use Rattle.fitting.specs.Fitting.{AdmittedMap, firstHigh, mapFits, auditAnswer}
 
 -- row 8

@@ -10,7 +10,7 @@ use Rattle.graph.specs.Answers.{accepted, refused, inTable, andThen}
 use Rattle.graph.specs.Map.{mapped}
 use Rattle.graph.specs.declared.Shape.{Shape}
 use Rattle.graph.specs.declared.Answer.{Answer}
-use Rattle.limits.specs.Check.{checkOf}
+use Rattle.graph_check.specs.Check.{checkOf}
 
 -- "a map, when its length is state count 1 and each entry is below state count 2"
 pub record AdmittedMap (sh1 sh2 : Shape) (m : List ℕ) : Type 0 where

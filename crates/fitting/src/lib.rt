@@ -1,10 +1,10 @@
-// Fitting: whether two graphs and a map fit together, for the audit: graph 1 and then graph 2 as `limits` checks them, then rows 7 and 8. It answers
+// Fitting: whether two graphs and a map fit together, for the audit: graph 1 and then graph 2 as `graph_check` checks them, then rows 7 and 8. It answers
 // with the number, the table and the place of the first thing that is wrong, or 0; what was accepted is what document 01 admits, and proved so here.
 use graph::Answer;
 use graph::Shape;
 use graph::answers::accept;
 use graph::answers::refuse;
-use limits::check;
+use graph_check::check;
 ghost use mathlib.Core.Path.{_≡_};
 ghost use Rattle.fitting.specs.Fitting.{firstHigh, mapFits, auditAnswer};
 

@@ -5,13 +5,13 @@ use base_bitset::holds;
 use graph::MOST_STATES;
 use graph::hops::hop_at;
 use graph::hops::hop_count;
-use starts::wide;
+use graph_successors::wide;
 ghost use mathlib.Core.Path.{_≡_};
 ghost use mathlib.Core.Bool.{cond};
 ghost use Prim.Native.Nat.{_<_, _≤_};
 ghost use lib.ListN.{length, set};
 ghost use Rattle.graph.specs.Hops.{count};
-ghost use Rattle.starts.specs.Starts.{Ready};
+ghost use Rattle.graph_successors.specs.Starts.{Ready};
 ghost use Rattle.judging.specs.Judged.{fits, falls, Judged};
 
 // Whether every bit of where the hop at place i begins is where it ends.

@@ -11,7 +11,7 @@ use Rattle.graph.specs.Answers.{accepted}
 use Rattle.graph.specs.declared.Shape.{Shape}
 use Rattle.graph.specs.declared.Answer.{Answer}
 use Rattle.graph.proofs.Fronts.{between-count}
-use Rattle.limits.specs.Check.{Admitted}
+use Rattle.graph_check.specs.Check.{Admitted}
 use Rattle.representatives.specs.Tables.{Reducible}
 use Rattle.repeating.specs.Repeating.{Stage, lastStage}
 use Rattle.repeating.proofs.Last.{last-staged}

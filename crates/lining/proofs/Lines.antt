@@ -16,7 +16,7 @@ use Rattle.base_bounded.proofs.Tallies.{tally-full, tally-one, tally-both}
 use Rattle.graph.specs.Hops.{count, from, label, to, labelled}
 use Rattle.graph.specs.declared.Shape.{Shape}
 use Rattle.graph.proofs.Places.{labelled-yes, labelled-parts}
-use Rattle.limits.specs.Check.{InRange}
+use Rattle.graph_check.specs.Check.{InRange}
 use Rattle.silent.specs.Silent.{ringless}
 use Rattle.silent.proofs.Hops.{silent-here}
 use Rattle.silent.proofs.Rings.{rank, rank-falls-accepted}

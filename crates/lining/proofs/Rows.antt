@@ -15,8 +15,8 @@ use Rattle.graph.specs.Hops.{count, label, labelled}
 use Rattle.graph.specs.Order.{Ascending}
 use Rattle.graph.specs.Search.{firstOf, pastOf, labelledPast}
 use Rattle.graph.proofs.Places.{labelled-parts}
-use Rattle.starts.proofs.Firsts.{range-more}
-use Rattle.starts.proofs.Rows.{labelled-holds, labelled-only, labelled-past, silent-first}
+use Rattle.graph_successors.proofs.Firsts.{range-more}
+use Rattle.graph_successors.proofs.Rows.{labelled-holds, labelled-only, labelled-past, silent-first}
 use Rattle.lining.specs.Lined.{Put}
 
 -- the places from lo up to i, all of silent hops of v, stand behind the first n of the line, which has r then

@@ -12,7 +12,7 @@ use lib.Dec.{eqb}
 use Rattle.base_bounded.specs.Tests.{any, least, tally, total}
 use Rattle.graph.specs.Hops.{count, from, label, to}
 use Rattle.graph.specs.Answers.{most-states, most-hops}
-use Rattle.limits.specs.Check.{InRange}
+use Rattle.graph_check.specs.Check.{InRange}
 use Rattle.graph.specs.declared.Shape.{Shape}
 use Rattle.base_bounded.proofs.Bools.{decided, same-test, and-yes, and-left, and-right}
 use Rattle.base_bounded.proofs.Tests.{any-found, any-at, tally-same, tally-within, total-most, total-exchange}

@@ -14,7 +14,7 @@ use Rattle.graph.specs.Search.{firstOf}
 use Rattle.base_bounded.proofs.Bools.{lt-or-le, and-no-left}
 use Rattle.base_bounded.proofs.Tests.{least-before, least-is}
 use Rattle.graph.proofs.Lookup.{first-law}
-use Rattle.starts.proofs.Firsts.{first-below}
+use Rattle.graph_successors.proofs.Firsts.{first-below}
 use Rattle.made_up.specs.States.{unticked}
 
 -- how many pass a test that fails from lo on

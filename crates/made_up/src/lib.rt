@@ -1,6 +1,6 @@
 // Made up: the third sum of the fault count, the pairs of a hop of graph 2 and a state of graph 1 that does not answer it, and the first of them, for the
 // audit. By states of graph 1: `ticks` ticks the hops of graph 2 that the state backs, and of those of its class what is not ticked is made up.
-// It stands on `faults`, which says what the sum and the first fault are, on `ticks`, on `starts` for a state's hops, and on `reaching` along the silent
+// It stands on `faults`, which says what the sum and the first fault are, on `ticks`, on `graph_successors` for a state's hops, and on `reaching` along the silent
 // hops.
 use faults::Fault;
 use faults::Share;
@@ -15,12 +15,12 @@ use graph::hops::label_at;
 use graph::hops::new_from_at;
 use graph::hops::new_to_at;
 use graph::map::map_at;
+use graph_successors::STARTS;
+use graph_successors::start_of;
+use graph_successors::starts_of;
+use graph_successors::wide;
 use reaching::reach;
 use silent::chosen::silent_bytes;
-use starts::STARTS;
-use starts::start_of;
-use starts::starts_of;
-use starts::wide;
 use ticks::tick_all;
 ghost use mathlib.Core.Path.{_≡_};
 ghost use mathlib.Core.Bool.{cond};
@@ -30,7 +30,7 @@ ghost use lib.Dec.{ltb};
 ghost use Rattle.base_bounded.specs.Tests.{least, tally};
 ghost use Rattle.graph.specs.Hops.{count};
 ghost use Rattle.graph.specs.Answers.{most-states};
-ghost use Rattle.starts.specs.Starts.{Table, Ready};
+ghost use Rattle.graph_successors.specs.Starts.{Table, Ready};
 ghost use Rattle.faults.specs.Faults.{madeUpFaults};
 ghost use Rattle.faults.specs.First.{fault, noFault, firstMadeUp};
 ghost use Rattle.faults.specs.Images.{Auditable, Imaged};

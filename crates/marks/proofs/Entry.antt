@@ -7,10 +7,10 @@ use borrow.Author.Tests.{eq-eqb, ne-eqb, le-leb, lt-leb}
 use Rattle.base_outputs.specs.Output.{onFront}
 use Rattle.graph.specs.Hops.{count}
 use Rattle.graph.specs.Answers.{accepted, refused, andThen, roomFor}
-use Rattle.limits.specs.Check.{checkOf, Admitted}
+use Rattle.graph_check.specs.Check.{checkOf, Admitted}
 use Rattle.graph.specs.declared.Shape.{Shape}
 use Rattle.graph.specs.declared.Answer.{Answer}
-use Rattle.limits.proofs.Checked.{check-admitted}
+use Rattle.graph_check.proofs.Checked.{check-admitted}
 use Rattle.graph.proofs.Accepts.{then-first, then-next, both-accept, room-accepts}
 use Rattle.silent.specs.Silent.{ringless}
 use Rattle.senses.specs.Senses.{senseAnswer}

@@ -5,7 +5,7 @@ use lib.ListN.{length}
 use Rattle.base_outputs.specs.Output.{written}
 use Rattle.graph.specs.Hops.{count}
 use Rattle.graph.specs.Answers.{andThen, roomFor}
-use Rattle.limits.specs.Check.{checkOf}
+use Rattle.graph_check.specs.Check.{checkOf}
 use Rattle.graph.specs.declared.Shape.{Shape}
 use Rattle.graph.specs.declared.Answer.{Answer}
 use Rattle.silent.specs.Silent.{ringless}

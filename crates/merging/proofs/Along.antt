@@ -13,7 +13,7 @@ use Rattle.graph.specs.declared.Found.{Found}
 use Rattle.graph.specs.declared.Found.the-variants.{At, Gap}
 use Rattle.graph.proofs.Ordered.{Below, before-below, below-before, ascending-lt}
 use Rattle.graph.proofs.Lookup.{found-lower, Onward, onward}
-use Rattle.starts.proofs.Rows.{row-bracket}
+use Rattle.graph_successors.proofs.Rows.{row-bracket}
 use Rattle.confluence.specs.Rounds.{closing}
 use Rattle.confluence.specs.Held.{heldBy}
 use Rattle.confluence.proofs.Closing.{closing-other}

@@ -1,7 +1,7 @@
 // Whether a hop labelled a to s3 is answered by a hop of s2, with the set that a list of marks is, by a walk along both rows: s2's hops of that label and
 // s3's silent hops both ascend by their ends, so the two are walked side by side: each silent hop is searched for from where the search before it came to.
 // `answering` takes this way where neither is far shorter than the other.
-// It stands on `confluence` (what closing is, and the set that marks are), `graph` (hops and the search) and `starts` (where a state's hops begin).
+// It stands on `confluence` (what closing is, and the set that marks are), `graph` (hops and the search) and `graph_successors` (where a state's hops begin).
 use graph::Found;
 use graph::Label;
 use graph::OldState;
@@ -10,9 +10,9 @@ use graph::hops::label_at;
 use graph::hops::to_at;
 use graph::search::find_ahead;
 use graph::search::place_of;
-use starts::STARTS;
-use starts::start_of;
-use starts::wide;
+use graph_successors::STARTS;
+use graph_successors::start_of;
+use graph_successors::wide;
 ghost use mathlib.Core.Path.{_≡_};
 ghost use Prim.Native.Nat.{ℕ, _<_, _≤_};
 ghost use lib.ListN.{length};
@@ -21,7 +21,7 @@ ghost use Rattle.graph.specs.Answers.{most-states};
 ghost use Rattle.graph.specs.declared.Found.the-variants.{At};
 ghost use Rattle.confluence.specs.Rounds.{closing, hopAnswers};
 ghost use Rattle.confluence.specs.Held.{heldBy};
-ghost use Rattle.starts.specs.Starts.{Table, Ready};
+ghost use Rattle.graph_successors.specs.Starts.{Table, Ready};
 ghost use Rattle.merging.specs.Row.{Row};
 ghost use Rattle.merging.specs.Found.{markedAt};
 

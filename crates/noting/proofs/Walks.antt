@@ -18,11 +18,11 @@ use Rattle.graph.specs.declared.Found.{Found}
 use Rattle.graph.specs.declared.Found.the-variants.{At, Gap}
 use Rattle.graph.proofs.Places.{has-at, has-place, place-has, is-yes, is-from, is-label, is-to, labelled-yes, labelled-parts}
 use Rattle.graph.proofs.Lookup.{at-place, gap-has, one-place, first-within}
-use Rattle.starts.proofs.Firsts.{start-is}
-use Rattle.starts.proofs.Rows.{labelled-holds, labelled-only, silent-first}
+use Rattle.graph_successors.proofs.Firsts.{start-is}
+use Rattle.graph_successors.proofs.Rows.{labelled-holds, labelled-only, silent-first}
 use Rattle.graph.specs.Answers.{most-states, most-hops}
-use Rattle.ends.specs.Ends.{beginOf, Begins, Filled}
-use Rattle.ends.proofs.Ends.{place-in}
+use Rattle.graph_predecessors.specs.Ends.{beginOf, Begins, Filled}
+use Rattle.graph_predecessors.proofs.Ends.{place-in}
 use Rattle.confluence.specs.Rounds.{FirstPoint}
 use Rattle.confluence.specs.Held.{isMarked}
 use Rattle.noting.specs.Queue.{Tables, Leaving, Queue, Wanted, Noted, Only, Joining, Like, Answering, Trying, Asked, Point, ClosedBy, ClosedByAny}

@@ -8,8 +8,8 @@ use mathlib.Core.Logic.{_⊎_}
 use lib.ListN.{length, getD}
 use Rattle.base_bounded.specs.Tests.{tally}
 use Rattle.graph.specs.Hops.{count, from, label, to, has}
-use Rattle.starts.specs.Starts.{Table, Ready}
-use Rattle.ends.specs.Ends.{Begins, Filled}
+use Rattle.graph_successors.specs.Starts.{Table, Ready}
+use Rattle.graph_predecessors.specs.Ends.{Begins, Filled}
 use Rattle.confluence.specs.Rounds.{FirstPoint}
 use Rattle.confluence.specs.Held.{isMarked}
 

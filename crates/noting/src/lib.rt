@@ -1,8 +1,7 @@
 // One pair of a hop to try and a hop that fell: which silent hops they send to the next test. For the hop s1, a, s3 and the fallen hop s3 to s4 these are the
 // marked hops of s1 to a state that s4 answers for, found by s1's own silent hops (`note_out`) or by the hops into s4 (`note_into`). A hop that is to be tested
 // comes to a queue, once. `retests` asks this of each such pair.
-// It stands on `ends` (the hops into a state), `starts` (those out of it) and `confluence` (marks, and document 01's first point).
-use ends::place_at;
+// It stands on `graph_predecessors` (the hops into a state), `graph_successors` (those out of it) and `confluence` (marks, and document 01's first point).
 use graph::Found;
 use graph::Label;
 use graph::MOST_HOPS;
@@ -11,17 +10,18 @@ use graph::hops::from_at;
 use graph::hops::hop_of;
 use graph::hops::label_at;
 use graph::hops::to_at;
-use starts::STARTS;
-use starts::find_row;
-use starts::labelled_past;
-use starts::start_of;
-use starts::wide;
+use graph_predecessors::place_at;
+use graph_successors::STARTS;
+use graph_successors::find_row;
+use graph_successors::labelled_past;
+use graph_successors::start_of;
+use graph_successors::wide;
 ghost use mathlib.Core.Path.{_≡_};
 ghost use Prim.Native.Nat.{_<_, _≤_};
 ghost use lib.ListN.{length};
 ghost use Rattle.graph.specs.Hops.{count, label};
 ghost use Rattle.graph.specs.Answers.{most-states};
-ghost use Rattle.starts.specs.Starts.{Table, Ready};
+ghost use Rattle.graph_successors.specs.Starts.{Table, Ready};
 ghost use Rattle.noting.specs.Queue.{Tables, Queue, Noted, Only, Joining, Like, Answering, Trying, Asked, Point};
 
 // Queues the silent hop at place i if it is marked, and not queued yet; returns how long the queue is.

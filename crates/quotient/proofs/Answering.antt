@@ -10,12 +10,12 @@ use lib.ListN.{length}
 use lib.Dec.{eqb, ltb}
 use Rattle.base_outputs.specs.Output.{onFront, written}
 use Rattle.graph.specs.Answers.{accepted, refused, andThen, roomFor}
-use Rattle.limits.specs.Check.{checkOf}
+use Rattle.graph_check.specs.Check.{checkOf}
 use Rattle.graph.specs.Hops.{flat}
 use Rattle.graph.specs.declared.Shape.{Shape}
 use Rattle.graph.specs.declared.Answer.{Answer}
 use Rattle.base_bounded.proofs.Bools.{clash, or-yes, lt-or-le}
-use Rattle.limits.proofs.Checked.{check-admitted}
+use Rattle.graph_check.proofs.Checked.{check-admitted}
 use Rattle.silent.specs.Silent.{ringless}
 use Rattle.graph.proofs.Accepts.{then-first, then-next, both-accept, room-accepts}
 use Rattle.senses.specs.Senses.{senseAnswer}

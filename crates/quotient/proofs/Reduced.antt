@@ -3,7 +3,7 @@
 use Prim.Native.Nat.{ℕ, _<_}
 use mathlib.Core.List.{List}
 use Rattle.graph.specs.Hops.{flat}
-use Rattle.limits.specs.Check.{Admitted}
+use Rattle.graph_check.specs.Check.{Admitted}
 use Rattle.graph.specs.declared.Shape.{Shape}
 use Rattle.lts.specs.Closes.{Sense}
 use Rattle.lts.specs.Reduction.{Reduces}

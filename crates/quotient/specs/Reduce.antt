@@ -8,7 +8,7 @@ use lib.Dec.{eqb}
 use Rattle.base_outputs.specs.Output.{written}
 use Rattle.graph.specs.Hops.{flat}
 use Rattle.graph.specs.Answers.{andThen, roomFor}
-use Rattle.limits.specs.Check.{checkOf}
+use Rattle.graph_check.specs.Check.{checkOf}
 use Rattle.graph.specs.declared.Hop.{Hop}
 use Rattle.graph.specs.declared.Shape.{Shape}
 use Rattle.graph.specs.declared.Answer.{Answer}

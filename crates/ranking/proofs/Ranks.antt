@@ -11,7 +11,7 @@ use lib.ListN.{length, set, replicate, getD-replicate}
 use Rattle.graph.specs.Hops.{count, label, to, labelled}
 use Rattle.graph.specs.Order.{Ascending}
 use Rattle.graph.specs.Search.{firstOf, pastOf, labelledPast}
-use Rattle.limits.specs.Check.{InRange}
+use Rattle.graph_check.specs.Check.{InRange}
 use Rattle.graph.specs.declared.Shape.{Shape}
 use Rattle.base_bounded.proofs.Bools.{clash, decided, lt-or-le, or-left, or-right, or-no, or-yes, not-yes, not-no}
 use Rattle.base_bounded.proofs.Tests.{all-at, all-fails, tally-less, tally-within}
@@ -22,7 +22,7 @@ use Rattle.lts.proofs.Star.{one, join}
 use Rattle.silent.specs.Silent.{SilentOf, OnRing, lowestOnRing}
 use Rattle.reaching.specs.Front.{noted}
 use Rattle.ranking.specs.Ranks.{endsNoted, Unringed, Ranks, Ranked}
-use Rattle.starts.proofs.Rows.{labelled-holds, labelled-only, labelled-past, silent-first}
+use Rattle.graph_successors.proofs.Rows.{labelled-holds, labelled-only, labelled-past, silent-first}
 use Rattle.reaching.proofs.Front.{noted-no, noted-set, noted-set-same, noted-set-back}
 use Rattle.silent.proofs.Hops.{silent-place, silent-end}
 use Rattle.silent.proofs.Rings.{lowest-is}

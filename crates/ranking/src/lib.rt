@@ -10,16 +10,16 @@ use graph::hops::from_at;
 use graph::hops::hop_count;
 use graph::hops::label_at;
 use graph::hops::to_at;
-use starts::STARTS;
-use starts::start_of;
-use starts::wide;
+use graph_successors::STARTS;
+use graph_successors::start_of;
+use graph_successors::wide;
 ghost use mathlib.Core.Path.{_≡_};
 ghost use Prim.Native.Nat.{_<_, _≤_};
 ghost use lib.ListN.{length};
 ghost use Rattle.graph.specs.Answers.{most-states, most-hops};
 ghost use Rattle.graph.specs.Hops.{count};
-ghost use Rattle.limits.specs.Check.{Admitted};
-ghost use Rattle.starts.specs.Starts.{Tabled};
+ghost use Rattle.graph_check.specs.Check.{Admitted};
+ghost use Rattle.graph_successors.specs.Starts.{Tabled};
 ghost use Rattle.ranking.specs.Ranks.{endsNoted, Ranks, Ranked};
 
 // Whether every silent hop of v leads to a ranked state. The silent hops are the first of its hops.

@@ -9,7 +9,7 @@ use borrow.Author.Tests.{eqb-true, eq-eqb, not-false}
 use lib.Dec.{eqb}
 use Rattle.base_bounded.specs.Tests.{any}
 use Rattle.graph.specs.Hops.{count, from, to}
-use Rattle.limits.specs.Check.{InRange}
+use Rattle.graph_check.specs.Check.{InRange}
 use Rattle.graph.specs.declared.Shape.{Shape}
 use Rattle.base_bounded.proofs.Bools.{and-left, and-right, and-yes, or-left, or-right, or-yes, not-yes}
 use Rattle.base_bounded.proofs.Tests.{any-at, any-found, any-same}

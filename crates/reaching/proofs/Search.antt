@@ -10,7 +10,7 @@ use lib.Dec.{eqb}
 use lib.ListN.{length, getD, set, take, drop, replicate, length-set, length-replicate, take-append-drop, List·getD-append, getD-replicate}
 use lib.Seq.{ext-getD, length-take-le, getD-take, drop-at, drop-set-lt}
 use Rattle.base_bounded.specs.Tests.{listed}
-use Rattle.limits.specs.Check.{InRange}
+use Rattle.graph_check.specs.Check.{InRange}
 use Rattle.graph.specs.declared.Shape.{Shape}
 use Rattle.base_bounded.proofs.Bools.{clash, eq-or-not, no-test}
 use Rattle.base_bounded.proofs.Tests.{length-listed, getD-listed, tally-within}

@@ -10,7 +10,7 @@ use borrow.Author.Tests.{eq-eqb, ne-eqb}
 use lib.ListN.{length, getD}
 use Rattle.graph.specs.Hops.{count, to}
 use Rattle.graph.specs.Search.{firstOf, pastOf}
-use Rattle.limits.specs.Check.{Admitted}
+use Rattle.graph_check.specs.Check.{Admitted}
 use Rattle.graph.specs.declared.Shape.{Shape}
 use Rattle.base_bounded.proofs.Bools.{clash, eq-or-not}
 use Rattle.graph.proofs.Lookup.{range-holds, range-only, first-within}

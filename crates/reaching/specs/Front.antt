@@ -10,7 +10,7 @@ use lib.Dec.{eqb}
 use Rattle.base_bounded.specs.Tests.{tally, listed}
 use Rattle.graph.specs.Hops.{count}
 use Rattle.graph.specs.declared.Shape.{Shape}
-use Rattle.starts.specs.Starts.{Tabled}
+use Rattle.graph_successors.specs.Starts.{Tabled}
 use Rattle.reaching.specs.Reaching.{ChosenOf, leadsBy, chosenIn}
 
 -- state t is noted

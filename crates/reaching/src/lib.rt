@@ -1,12 +1,12 @@
 // Reaching: which states a state leads to by zero or more hops of a chosen set, for whoever walks a graph along silent hops or along any others. The
 // set is lent as one byte a hop, 1 where the hop is chosen; the answer is one byte a state, 1 where the state is reached. A breadth-first search
-// over the table of first places, so it stands on `starts`; that it finds exactly what walks of any length reach is proved here once for every set.
+// over the table of first places, so it stands on `graph_successors`; that it finds exactly what walks of any length reach is proved here once for every set.
 use graph::OldState;
 use graph::Shape;
 use graph::hops::to_at;
-use starts::STARTS;
-use starts::start_of;
-use starts::wide;
+use graph_successors::STARTS;
+use graph_successors::start_of;
+use graph_successors::wide;
 ghost use mathlib.Core.Path.{_≡_};
 ghost use mathlib.Core.Bool.{false};
 ghost use mathlib.Core.List.{_++_};

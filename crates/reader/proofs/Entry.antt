@@ -11,11 +11,11 @@ use lib.Seq.{take-at}
 use lib.Dec.{leb}
 use Rattle.graph.specs.Hops.{count, whole, numberPlace}
 use Rattle.graph.specs.Answers.{most-states, most-labels, most-hops, accepted, refused, andThen, roomFor}
-use Rattle.limits.specs.Check.{countsFit, checkOf}
+use Rattle.graph_check.specs.Check.{countsFit, checkOf}
 use Rattle.graph.specs.declared.Shape.{Shape}
 use Rattle.graph.specs.declared.Answer.{Answer}
 use Rattle.base_bounded.proofs.Bools.{and-no-left, and-no-right, not-no, decided}
-use Rattle.limits.proofs.Checked.{check-counts, check-admitted}
+use Rattle.graph_check.proofs.Checked.{check-counts, check-admitted}
 use Rattle.graph.proofs.Accepts.{both-accept, second-accepts, room-accepts}
 use Rattle.linefield.specs.declared.Lines.{Lines}
 use Rattle.hopfield.specs.Field.{HopsLie, hopsInField}

@@ -6,7 +6,7 @@ use lib.ListN.{length}
 use lib.Dec.{eqb}
 use Rattle.graph.specs.Hops.{numberPlace}
 use Rattle.graph.specs.Answers.{accepted, andThen, roomFor}
-use Rattle.limits.specs.Check.{checkOf}
+use Rattle.graph_check.specs.Check.{checkOf}
 use Rattle.graph.specs.declared.Answer.{Answer}
 use Rattle.fields.specs.Format.{hopsIn, shapeIn, hopListIn, blockPlace, blockLength}
 use Rattle.format.specs.Rows.{formatAnswer}

@@ -14,12 +14,12 @@ use graph::Shape;
 use graph::answers::accept;
 use graph::answers::refuse;
 use graph::hops::number_place;
+use graph_check::check;
 use hopfield::hops::take_hops;
-use limits::check;
 ghost use mathlib.Core.Path.{_≡_};
 ghost use Prim.Native.Nat.{_≤_};
 ghost use lib.ListN.{length};
-ghost use Rattle.limits.specs.Check.{checkOf};
+ghost use Rattle.graph_check.specs.Check.{checkOf};
 ghost use Rattle.fields.specs.Format.{namesPlace, need, shapeIn, hopListIn};
 ghost use Rattle.reader.specs.Read.{readAnswer, readOf, readHops, nothing, contentsOf};
 

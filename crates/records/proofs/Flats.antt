@@ -13,11 +13,11 @@ use lib.ListN.{length, take, getD, set}
 use lib.Seq.{length-take-le, take-length, take-suc, set-at}
 use Rattle.graph.specs.Hops.{count, whole, hopAt, noHop, flat, put, front, over}
 use Rattle.graph.specs.Answers.{most-states, most-labels, most-hops, refused}
-use Rattle.limits.specs.Check.{countsFit, checkOf}
+use Rattle.graph_check.specs.Check.{countsFit, checkOf}
 use Rattle.graph.specs.declared.Hop.{Hop}
 use Rattle.graph.specs.declared.Shape.{Shape}
 use Rattle.base_bounded.proofs.Bools.{not-no, and-no-left, and-no-right}
-use Rattle.limits.proofs.Checked.{check-counts}
+use Rattle.graph_check.proofs.Checked.{check-counts}
 use Rattle.graph.proofs.Fronts.{length-front, over-front, put-over, length-over, front-over, over-over}
 use Rattle.graph.proofs.Places.{count-flat}
 use Rattle.marks.specs.Mark.{markAnswer, markOutput}

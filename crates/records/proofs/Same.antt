@@ -8,7 +8,7 @@ use borrow.Author.Tests.{eqb-true, eq-eqb}
 use lib.ListN.{length, drop}
 use lib.Seq.{drop-length, ext-getD}
 use Rattle.graph.specs.Hops.{numbers-a-hop, noHop, flat, front, over}
-use Rattle.limits.specs.Check.{checkOf}
+use Rattle.graph_check.specs.Check.{checkOf}
 use Rattle.graph.specs.declared.Hop.{Hop}
 use Rattle.graph.specs.declared.Shape.{Shape}
 use Rattle.graph.proofs.Fronts.{length-front, getD-front, over-front}

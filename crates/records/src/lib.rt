@@ -1,5 +1,5 @@
 // The entries `check` and `mark` for callers that hold their hops as a list of records instead of a flat list of numbers. The records are written into
-// an array of numbers and checked or marked there, so that the answers are those of the flat list. It stands on `check` of limits and `mark` of marks.
+// an array of numbers and checked or marked there, so that the answers are those of the flat list. It stands on `check` of graph_check and `mark` of marks.
 // A slice of records is none of the forms that the prover walks by itself: each function that takes one has a walk by hand, and they are few.
 use graph::Answer;
 use graph::Hop;
@@ -9,7 +9,7 @@ use graph::Shape;
 use graph::answers::refuse;
 use graph::hops::part;
 use graph::hops::put_hop;
-use limits::check;
+use graph_check::check;
 use marks::mark::mark;
 ghost use mathlib.Core.Path.{_≡_};
 ghost use Prim.Native.Nat.{_≤_};
@@ -17,7 +17,7 @@ ghost use lib.ListN.{length};
 ghost use lib.Dec.{ltb};
 ghost use Rattle.graph.specs.Hops.{between, flat};
 ghost use Rattle.graph.specs.Answers.{most-hops, refused};
-ghost use Rattle.limits.specs.Check.{checkOf};
+ghost use Rattle.graph_check.specs.Check.{checkOf};
 ghost use Rattle.marks.specs.Mark.{markAnswer, markOutput};
 ghost use Rattle.records.specs.Records.{unlessOver};
 

@@ -13,7 +13,7 @@ ghost use mathlib.Core.Path.{_≡_};
 ghost use Prim.Native.Nat.{_<_, _≤_};
 ghost use lib.ListN.{length};
 ghost use Rattle.graph.specs.Answers.{most-states};
-ghost use Rattle.limits.specs.Check.{Admitted};
+ghost use Rattle.graph_check.specs.Check.{Admitted};
 ghost use Rattle.confluence.specs.Held.{heldBy};
 ghost use Rattle.representatives.specs.Representative.{Settles};
 ghost use Rattle.representatives.specs.Tables.{SilentMarks};

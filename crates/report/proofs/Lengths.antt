@@ -16,7 +16,7 @@ use Rattle.base_bounded.proofs.Tests.{any-found, tally-within}
 use Rattle.base_bounded.proofs.Tallies.{tally-full, tally-both}
 use Rattle.graph.specs.Hops.{count, from, label, to, lineAt, flat, numberPlace}
 use Rattle.graph.proofs.Places.{count-flat}
-use Rattle.limits.specs.Check.{Admitted}
+use Rattle.graph_check.specs.Check.{Admitted}
 use Rattle.graph.specs.declared.Shape.{Shape}
 use Rattle.graph.specs.declared.Answer.{Answer}
 use Rattle.base_fixpoint.specs.Pairs.{Pairs}

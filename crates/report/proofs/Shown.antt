@@ -17,8 +17,8 @@ use Rattle.graph.specs.declared.Shape.{Shape}
 use Rattle.graph.specs.declared.Answer.{Answer}
 use Rattle.graph.proofs.Accepts.{both-accept}
 use Rattle.graph.proofs.Fronts.{flat-front}
-use Rattle.limits.specs.Check.{checkOf, Admitted}
-use Rattle.limits.proofs.Checked.{check-admitted, admitted-check}
+use Rattle.graph_check.specs.Check.{checkOf, Admitted}
+use Rattle.graph_check.proofs.Checked.{check-admitted, admitted-check}
 use Rattle.silent.specs.Silent.{ringless}
 use Rattle.base_fixpoint.specs.Pairs.{In, Within}
 use Rattle.confluence.specs.Rounds.{silentHops, marked}

@@ -6,7 +6,7 @@ use lib.ListN.{length}
 use lib.Dec.{eqb, leb, ltb}
 use Rattle.graph.specs.Hops.{flat}
 use Rattle.graph.specs.Answers.{most-states, most-hops, refused}
-use Rattle.limits.specs.Check.{checkOf}
+use Rattle.graph_check.specs.Check.{checkOf}
 use Rattle.graph.specs.declared.Shape.{Shape}
 use Rattle.graph.specs.declared.Answer.{Answer}
 use Rattle.silent.specs.Silent.{ringless}

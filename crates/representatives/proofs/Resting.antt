@@ -10,7 +10,7 @@ use borrow.Author.Tests.{eqb-true, eq-eqb, ne-eqb, not-true, not-false}
 use lib.Dec.{eqb}
 use Rattle.base_bounded.specs.Tests.{any, least}
 use Rattle.graph.specs.Hops.{count, from, label, to}
-use Rattle.limits.specs.Check.{InRange}
+use Rattle.graph_check.specs.Check.{InRange}
 use Rattle.graph.specs.declared.Shape.{Shape}
 use Rattle.base_bounded.proofs.Bools.{clash, decided, and-yes, and-left, and-right, lt-or-le}
 use Rattle.base_bounded.proofs.Tests.{any-at, any-found, least-passes, least-before, least-within}

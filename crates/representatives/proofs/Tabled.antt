@@ -8,7 +8,7 @@ use native.Mathlib.Omega.{arith}
 use lib.ListN.{getD}
 use Rattle.base_bounded.specs.Tests.{tally}
 use Rattle.graph.specs.Answers.{most-states}
-use Rattle.limits.specs.Check.{Admitted}
+use Rattle.graph_check.specs.Check.{Admitted}
 use Rattle.graph.specs.declared.Shape.{Shape}
 use Rattle.base_fixpoint.specs.Pairs.{Pairs}
 use Rattle.base_bounded.proofs.Bools.{decided}

@@ -9,7 +9,7 @@ use lib.Dec.{eqb}
 use Rattle.base_bounded.specs.Tests.{tally}
 use Rattle.graph.specs.Hops.{count, from, label, to}
 use Rattle.graph.specs.Answers.{most-states}
-use Rattle.limits.specs.Check.{Admitted}
+use Rattle.graph_check.specs.Check.{Admitted}
 use Rattle.graph.specs.declared.Shape.{Shape}
 use Rattle.silent.specs.Silent.{ringless}
 use Rattle.base_fixpoint.specs.Pairs.{Pairs}

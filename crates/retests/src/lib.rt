@@ -1,23 +1,23 @@
 // Which hops the next round tests, found from those that fell: from each fallen hop s3 to s4 over the hops into s3, which are hops to try of the states
 // that they leave, and for each of them, s1, a, s3, over the silent hops of s1 where its whole row is at most a few hops longer than what leads to s4, else over the
 // hops into s4, of which those labelled a answer. So a pair costs at most the hops into s4 and those few, and is met for one fallen hop at most.
-// It stands on `noting` (what one such pair brings to the queue), `ends` (the hops into a state) and `starts` (those out of it).
-use ends::place_at;
+// It stands on `noting` (what one such pair brings to the queue), `graph_predecessors` (the hops into a state) and `graph_successors` (those out of it).
 use graph::MOST_HOPS;
 use graph::MOST_STATES;
 use graph::hops::from_at;
 use graph::hops::hop_count;
 use graph::hops::to_at;
+use graph_predecessors::place_at;
+use graph_successors::STARTS;
+use graph_successors::start_of;
+use graph_successors::wide;
 use noting::note_into;
 use noting::note_out;
-use starts::STARTS;
-use starts::start_of;
-use starts::wide;
 ghost use Prim.Native.Nat.{_<_, _≤_};
 ghost use lib.ListN.{length};
 ghost use Rattle.graph.specs.Hops.{count};
 ghost use Rattle.graph.specs.Answers.{most-hops};
-ghost use Rattle.starts.specs.Starts.{Ready};
+ghost use Rattle.graph_successors.specs.Starts.{Ready};
 ghost use Rattle.noting.specs.Queue.{Tables, Leaving, Queue, Noted, Trying, ClosedBy, ClosedByAny, Listed};
 
 // A state with so few hops more than lead to s4 is gone over by its own: that asks for no search where none of them is marked.

@@ -8,7 +8,7 @@ use borrow.Author.Tests.{eq-eqb, eqb-true}
 use lib.Dec.{eqb}
 use Rattle.base_bounded.specs.Tests.{any}
 use Rattle.graph.specs.Hops.{count, from, label, to}
-use Rattle.limits.specs.Check.{InRange}
+use Rattle.graph_check.specs.Check.{InRange}
 use Rattle.graph.specs.declared.Shape.{Shape}
 use Rattle.base_bounded.proofs.Bools.{and-left, and-right, and-yes, same-test}
 use Rattle.base_bounded.proofs.Tests.{any-at, any-found}

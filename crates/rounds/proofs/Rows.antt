@@ -9,11 +9,11 @@ use mir.Val.{boolByte}
 use lib.Dec.{eqb, leb, ltb}
 use Rattle.graph.specs.Hops.{count, from, label, to}
 use Rattle.graph.specs.Answers.{accepted, refused}
-use Rattle.limits.specs.Check.{checkOf, Admitted}
+use Rattle.graph_check.specs.Check.{checkOf, Admitted}
 use Rattle.graph.specs.declared.Shape.{Shape}
 use Rattle.graph.specs.declared.Answer.{Answer}
 use Rattle.base_bounded.proofs.Bools.{and-left, and-right, and-no-right}
-use Rattle.limits.proofs.Checked.{check-admitted}
+use Rattle.graph_check.proofs.Checked.{check-admitted}
 use Rattle.graph.proofs.Accepts.{both-accept}
 use Rattle.confluence.specs.Rounds.{survives}
 use Rattle.rounds.specs.Question.{most-rounds, silentPlace, fewRounds, questionAnswer, questionOf}

@@ -6,7 +6,7 @@ use mathlib.Core.List.{List}
 use lib.Dec.{eqb, leb, ltb}
 use Rattle.graph.specs.Hops.{count, from, label, to}
 use Rattle.graph.specs.Answers.{accepted, refused, andThen}
-use Rattle.limits.specs.Check.{checkOf}
+use Rattle.graph_check.specs.Check.{checkOf}
 use Rattle.graph.specs.declared.Shape.{Shape}
 use Rattle.graph.specs.declared.Answer.{Answer}
 use Rattle.confluence.specs.Rounds.{survives}

@@ -8,12 +8,12 @@ use graph::answers::accept;
 use graph::answers::refuse;
 use graph::hops::hop_count;
 use graph::hops::label_at;
-use limits::check;
-use starts::starts_of;
+use graph_check::check;
+use graph_successors::starts_of;
 ghost use mathlib.Core.Path.{_≡_};
 ghost use Prim.Native.Nat.{_<_, _≤_};
 ghost use Rattle.graph.specs.Hops.{count, from, label, to};
-ghost use Rattle.limits.specs.Check.{Admitted};
+ghost use Rattle.graph_check.specs.Check.{Admitted};
 ghost use Rattle.confluence.specs.Rounds.{survives};
 ghost use Rattle.rounds.specs.Question.{most-rounds, silentPlace, fewRounds, questionAnswer, questionOf};
 

@@ -8,7 +8,7 @@ use mathlib.Core.Logic.{_↔_}
 use Rattle.base_bounded.proofs.Bools.{same-test}
 use Rattle.graph.specs.Hops.{count}
 use Rattle.graph.specs.declared.Shape.{Shape}
-use Rattle.limits.specs.Check.{InRange}
+use Rattle.graph_check.specs.Check.{InRange}
 use Rattle.lts.specs.Closes.{Sense, r1, r2, r3, r8, SetOf, Greatest, Implies}
 use Rattle.lts.proofs.Closes.{r1→r2, r1→r3, weakest, set-among}
 use Rattle.lts.proofs.SenseForms.{r1-iff}

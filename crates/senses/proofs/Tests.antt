@@ -12,7 +12,7 @@ use Rattle.base_bounded.proofs.Tests.{all-at, all-yes, any-at, any-found}
 use Rattle.graph.specs.Hops.{count, from, label, to, has}
 use Rattle.graph.specs.declared.Shape.{Shape}
 use Rattle.graph.proofs.Places.{has-at, has-place}
-use Rattle.limits.specs.Check.{InRange}
+use Rattle.graph_check.specs.Check.{InRange}
 use Rattle.lts.specs.Star.{Star, stay, go}
 use Rattle.lts.specs.Closes.{Reach, nowhere, single, walks, Via, here, hop, walk, Sense, Answered, Closes}
 use Rattle.lts.specs.Sense.{Answer}

@@ -10,7 +10,7 @@ use Rattle.base_bounded.proofs.Tests.{tally-within, tally-less}
 use Rattle.base_bounded.proofs.Tallies.{tally-full}
 use Rattle.graph.specs.Hops.{flat}
 use Rattle.graph.specs.declared.Shape.{Shape}
-use Rattle.limits.specs.Check.{Admitted}
+use Rattle.graph_check.specs.Check.{Admitted}
 use Rattle.lts.specs.Reduction.{Confluent}
 use Rattle.lts.proofs.Left.{left-ringless}
 use Rattle.silent.specs.Silent.{HopOf, OnRing}

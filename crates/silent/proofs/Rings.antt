@@ -11,7 +11,7 @@ use lib.Dec.{ltb}
 use Rattle.base_bounded.specs.Tests.{tally}
 use Rattle.graph.specs.Hops.{count, to, labelled}
 use Rattle.graph.specs.Answers.{refused, accepted}
-use Rattle.limits.specs.Check.{InRange}
+use Rattle.graph_check.specs.Check.{InRange}
 use Rattle.graph.specs.declared.Shape.{Shape}
 use Rattle.base_bounded.proofs.Bools.{clash, and-left, and-right, and-yes, no-test, lt-or-le}
 use Rattle.base_bounded.proofs.Tests.{any-at, any-found, least-passes, least-before, least-is, tally-less}

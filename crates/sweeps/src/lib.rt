@@ -7,8 +7,8 @@
 use closes::closes_at;
 use confluence::start_marks;
 use graph::hops::hop_count;
-use starts::STARTS;
-use starts::starts_of;
+use graph_successors::STARTS;
+use graph_successors::starts_of;
 ghost use mathlib.Core.Path.{_≡_};
 ghost use Prim.Native.Nat.{_<_, _≤_};
 ghost use lib.ListN.{length};
@@ -17,7 +17,7 @@ ghost use Rattle.graph.specs.Hops.{count};
 ghost use Rattle.confluence.specs.Rounds.{marked};
 ghost use Rattle.confluence.specs.Held.{marksOf};
 ghost use Rattle.sweeps.specs.Sweep.{Marking, Swept, Stands, StandsTo};
-ghost use Rattle.starts.specs.Starts.{Table, Ready};
+ghost use Rattle.graph_successors.specs.Starts.{Table, Ready};
 
 // Takes the mark of the hop at place i if it does not close; returns how many marks went.
 fn test_at(hops: &[u16], starts: &[u16; STARTS], marks: &mut [u8], i: usize) -> usize

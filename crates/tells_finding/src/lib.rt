@@ -1,13 +1,13 @@
-// Find, as the entry for C and Rust tells it: capi exports the function unchanged. Stands on finding (where the hop stands or would stand) and answers (what
+// Find, as the entry for C and Rust tells it: capi exports the function unchanged. Stands on graph_find (where the hop stands or would stand) and answers (what
 // is told and returned).
 use answers::tell;
-use finding::Finding;
-use finding::find;
 use graph::Shape;
+use graph_find::Finding;
+use graph_find::find;
 ghost use mathlib.Core.Path.{_≡_};
 ghost use lib.ListN.{length};
-ghost use Rattle.limits.specs.Check.{checkOf};
-ghost use Rattle.finding.specs.Finding.{findOf};
+ghost use Rattle.graph_check.specs.Check.{checkOf};
+ghost use Rattle.graph_find.specs.Finding.{findOf};
 ghost use Rattle.answers.specs.Numbers.{shapeOf, returned, told};
 ghost use Rattle.tells_finding.specs.Numbers.{findingNumbers};
 

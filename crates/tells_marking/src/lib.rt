@@ -1,19 +1,19 @@
 // Check, both markings and the round question, as the entries for C and Rust tell them: capi exports these functions unchanged. Each finds the entry's
 // answer and tells it; a marking leaves the marks alone where the answer slice is too short.
-// Stands on limits (check), marks (mark), fast (the faster marking), rounds (the round question) and answers (what is told and returned).
+// Stands on graph_check (check), marks (mark), fast (the faster marking), rounds (the round question) and answers (what is told and returned).
 use answers::short_number;
 use answers::tell_answer;
 use answers::tell_figure;
 use fast::mark_fast;
 use graph::Shape;
-use limits::check;
+use graph_check::check;
 use marks::mark::mark;
 use marks::mark::mark_answer;
 use rounds::question::round_question;
 ghost use mathlib.Core.Path.{_≡_};
 ghost use mathlib.Core.List.{[]};
 ghost use lib.ListN.{length};
-ghost use Rattle.limits.specs.Check.{checkOf};
+ghost use Rattle.graph_check.specs.Check.{checkOf};
 ghost use Rattle.marks.specs.Mark.{markAnswer, markOutput};
 ghost use Rattle.rounds.specs.Question.{questionAnswer, questionOf};
 ghost use Rattle.answers.specs.Numbers.{shapeOf, numbersOf, returned, told, unlessShort};

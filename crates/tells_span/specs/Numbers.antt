@@ -1,7 +1,7 @@
 -- The figures of hops of a state, as its entry for C and Rust tells them. Assumes nothing: this is a definition.
 use Prim.Native.Nat.{ℕ}
 use mathlib.Core.List.{List, [], _∷_}
-use Rattle.outgoing.specs.declared.Span.{Span}
+use Rattle.graph_hops_of.specs.declared.Span.{Span}
 
 -- "2: start and length in numbers of that table"
 abbrev pub spanNumbers : Span → List ℕ

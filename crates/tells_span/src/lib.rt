@@ -1,13 +1,13 @@
 // Hops of a state, as the entry for C and Rust tells it: start and length of a part of the hop list that the caller has. capi exports the function
-// unchanged. Stands on outgoing (where the part stands) and answers (what is told and returned).
+// unchanged. Stands on graph_hops_of (where the part stands) and answers (what is told and returned).
 use answers::tell;
 use graph::Shape;
 use graph::answers::accept;
-use outgoing::span_of;
+use graph_hops_of::span_of;
 ghost use mathlib.Core.Path.{_≡_};
 ghost use lib.ListN.{length};
 ghost use Rattle.graph.specs.Answers.{accepted};
-ghost use Rattle.outgoing.specs.Outgoing.{chosen, spanOf};
+ghost use Rattle.graph_hops_of.specs.Outgoing.{chosen, spanOf};
 ghost use Rattle.answers.specs.Numbers.{shapeOf, returned, told};
 ghost use Rattle.tells_span.specs.Numbers.{spanNumbers};
 

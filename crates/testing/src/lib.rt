@@ -4,14 +4,14 @@
 // It stands on `closes` and `again` (the two tests), `due` (which hops the first round tests) and `noting` (the queue).
 use again::closes_again;
 use closes::closes_at;
-use ends::place_at;
 use graph::MOST_HOPS;
 use graph::MOST_STATES;
 use graph::hops::from_at;
 use graph::hops::hop_count;
 use graph::hops::label_at;
-use starts::STARTS;
-use starts::wide;
+use graph_predecessors::place_at;
+use graph_successors::STARTS;
+use graph_successors::wide;
 ghost use mathlib.Core.Path.{_≡_};
 ghost use mathlib.Core.Bool.{false};
 ghost use Prim.Native.Nat.{ℕ, _<_, _≤_};
@@ -20,7 +20,7 @@ ghost use Rattle.graph.specs.Hops.{count};
 ghost use Rattle.graph.specs.Answers.{most-hops};
 ghost use Rattle.confluence.specs.Rounds.{closesAt};
 ghost use Rattle.confluence.specs.Held.{heldBy};
-ghost use Rattle.starts.specs.Starts.{Table, Ready};
+ghost use Rattle.graph_successors.specs.Starts.{Table, Ready};
 ghost use Rattle.again.specs.Again.{Unshed};
 ghost use Rattle.due.specs.Due.{due};
 ghost use Rattle.noting.specs.Queue.{Listed};

@@ -12,13 +12,13 @@ use Rattle.base_bounded.specs.Tests.{any}
 use Rattle.graph.specs.Hops.{count, from}
 use Rattle.graph.specs.Order.{Ascending}
 use Rattle.graph.specs.Search.{firstOf, pastOf}
-use Rattle.limits.specs.Check.{InRange}
+use Rattle.graph_check.specs.Check.{InRange}
 use Rattle.graph.specs.declared.Shape.{Shape}
 use Rattle.base_bounded.proofs.Bools.{clash, lt-or-le, same-test, and-no-left}
 use Rattle.base_bounded.proofs.Tests.{any-found, any-at}
 use Rattle.graph.proofs.Lookup.{first-within, range-only}
-use Rattle.starts.proofs.Firsts.{first-is, first-next}
-use Rattle.starts.specs.Starts.{Ready}
+use Rattle.graph_successors.proofs.Firsts.{first-is, first-next}
+use Rattle.graph_successors.specs.Starts.{Ready}
 use Rattle.reaching.specs.Front.{noted}
 use Rattle.graph.specs.Map.{mapped}
 use Rattle.faults.specs.Images.{Imaged}

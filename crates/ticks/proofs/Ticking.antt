@@ -20,7 +20,7 @@ use Rattle.base_bounded.proofs.Tests.{any-never}
 use Rattle.graph.proofs.Places.{is-alike}
 use Rattle.graph.proofs.Ordered.{alike-back, alike-then, ascending-place}
 use Rattle.graph.proofs.Lookup.{at-place, gap-has}
-use Rattle.starts.specs.Starts.{Ready}
+use Rattle.graph_successors.specs.Starts.{Ready}
 use Rattle.reaching.specs.Front.{noted}
 use Rattle.graph.specs.Map.{mapped}
 use Rattle.faults.specs.Images.{mappedHop, nowhere, placeOf, imageOf}

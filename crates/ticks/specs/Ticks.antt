@@ -10,7 +10,7 @@ use Rattle.base_bounded.specs.Tests.{any}
 use Rattle.graph.specs.Hops.{count, from, label, to, is}
 use Rattle.graph.specs.Map.{mapped}
 use Rattle.graph.specs.declared.Shape.{Shape}
-use Rattle.starts.specs.Starts.{Table}
+use Rattle.graph_successors.specs.Starts.{Table}
 use Rattle.reaching.specs.Front.{noted}
 use Rattle.faults.specs.Images.{Auditable, Imaged}
 

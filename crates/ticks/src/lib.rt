@@ -1,14 +1,14 @@
 // Ticks: for the third sum of the fault count, the hops of graph 2 that a state of graph 1 backs. The hops of the states that a search has seen, inside a
 // class, tick hops of graph 2 by a stamp, at the places that a table has for them. Each state has a stamp of its own, so that no tick is ever cleared.
-// It stands on `faults`, which says where each mapped hop stands in graph 2, and on `starts` for a state's hops; `made_up` counts what is not ticked.
+// It stands on `faults`, which says where each mapped hop stands in graph 2, and on `graph_successors` for a state's hops; `made_up` counts what is not ticked.
 use graph::MOST_HOPS;
 use graph::NewState;
 use graph::OldState;
 use graph::Shape;
 use graph::map::map_at;
-use starts::STARTS;
-use starts::start_of;
-use starts::wide;
+use graph_successors::STARTS;
+use graph_successors::start_of;
+use graph_successors::wide;
 ghost use mathlib.Core.Path.{_≡_};
 ghost use Prim.Native.Nat.{_+_, _<_, _≤_};
 ghost use lib.ListN.{length, getD, set};

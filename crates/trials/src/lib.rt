@@ -12,15 +12,15 @@ use graph::hops::hop_at;
 use graph::hops::hop_count;
 use graph::hops::label_at;
 use graph::hops::to_at;
-use starts::wide;
+use graph_successors::wide;
 ghost use mathlib.Core.Path.{_≡_};
 ghost use Prim.Native.Nat.{_+_, _<_, _≤_, _^_};
 ghost use lib.Bits.{bitOr};
 ghost use lib.ListN.{getD, set, replicate};
 ghost use Rattle.graph.specs.Hops.{count, from, label, to};
 ghost use Rattle.graph.specs.Answers.{most-states};
-ghost use Rattle.limits.specs.Check.{Admitted};
-ghost use Rattle.starts.specs.Starts.{Ready};
+ghost use Rattle.graph_check.specs.Check.{Admitted};
+ghost use Rattle.graph_successors.specs.Starts.{Ready};
 ghost use Rattle.base_bitset.specs.Bits.{word-bits};
 ghost use Rattle.trials.specs.Trials.{Keyed, Still, Answering};
 

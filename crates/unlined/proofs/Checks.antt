@@ -9,7 +9,7 @@ use Rattle.base_bounded.specs.Tests.{any, least}
 use Rattle.graph.specs.Hops.{numbers-a-hop, count, from, label, to, hopOf, same, is, labelled, has}
 use Rattle.graph.specs.declared.Shape.{Shape}
 use Rattle.graph.proofs.Ordered.{before-alike}
-use Rattle.limits.specs.Check.{countsFit, inside, firstOutside, rises, firstFalling, checkOf}
+use Rattle.graph_check.specs.Check.{countsFit, inside, firstOutside, rises, firstFalling, checkOf}
 use Rattle.unlined.specs.Unlined.{Unlined}
 
 module _ {hs hs' : List ℕ} (un : Unlined hs hs') where

@@ -3,7 +3,7 @@ use mathlib.Core.Path.{_≡_, refl}
 use Rattle.base_bounded.specs.Tests.{all, any, least, listed, tally, total}
 use Rattle.graph.specs.Hops.{flat, is, labelled, has}
 use Rattle.graph.specs.Order.{before}
-use Rattle.limits.specs.Check.{checkOf, countsFit, inside, firstOutside, rises, firstFalling}
+use Rattle.graph_check.specs.Check.{checkOf, countsFit, inside, firstOutside, rises, firstFalling}
 use Rattle.reaching.specs.Reaching.{leadsBy}
 use Rattle.silent.specs.Silent.{onRing, lowestOnRing, ringless}
 use Rattle.base_fixpoint.specs.Rounds.{leftAfter}
@@ -21,7 +21,7 @@ use Rattle.faults.specs.Faults.{initialFault, kept, lostFaults, offers, backed,
 use Rattle.faults.specs.First.{firstInitial, lostPlace, firstLost, madeUpPlace, madeUpState, firstMadeUp, firstFault}
 use Rattle.fitting.specs.Fitting.{firstHigh, mapFits, auditAnswer}
 use Rattle.bisimulation.specs.Auditing.{auditOf}
-use Rattle.finding.specs.Finding.{hopsBefore, findOf}
+use Rattle.graph_find.specs.Finding.{hopsBefore, findOf}
 use Rattle.worked.specs.Table.{tableOf, table, outcomeOf, fallsIn}
 
 pub given : tableOf table ≡ table

@@ -20,8 +20,8 @@ use Rattle.faults.specs.First.{fault, noFault}
 use Rattle.faults.specs.declared.Fault.{Fault}
 use Rattle.bisimulation.specs.Auditing.{auditOf}
 use Rattle.bisimulation.specs.declared.Audit.{Audit}
-use Rattle.finding.specs.Finding.{findOf}
-use Rattle.finding.specs.declared.Finding.{Finding}
+use Rattle.graph_find.specs.Finding.{findOf}
+use Rattle.graph_find.specs.declared.Finding.{Finding}
 
 -- a hop as document 01 writes it; a state count, a label count and an initial state, and the same with initial state 0
 abbrev pub hop : ℕ → ℕ → ℕ → Hop

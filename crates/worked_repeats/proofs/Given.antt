@@ -11,7 +11,7 @@ use lib.Dec.{leb}
 use Rattle.base_bounded.specs.Tests.{all, any, least, listed, tally}
 use Rattle.graph.specs.Hops.{count, flat, is, labelled, has}
 use Rattle.graph.specs.Order.{before}
-use Rattle.limits.specs.Check.{checkOf, countsFit, inside, firstOutside, rises, firstFalling}
+use Rattle.graph_check.specs.Check.{checkOf, countsFit, inside, firstOutside, rises, firstFalling}
 use Rattle.reaching.specs.Reaching.{leadsBy}
 use Rattle.silent.specs.Silent.{onRing, lowestOnRing, ringless}
 use Rattle.base_fixpoint.specs.Rounds.{leftAfter}

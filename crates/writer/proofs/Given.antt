@@ -9,10 +9,10 @@ use lib.ListN.{length}
 use Rattle.base_bounded.proofs.Bools.{eq-or-not}
 use Rattle.graph.specs.Hops.{count}
 use Rattle.graph.specs.Answers.{most-labels, most-hops, accepted, refused, roomFor}
-use Rattle.limits.specs.Check.{checkOf, Admitted}
+use Rattle.graph_check.specs.Check.{checkOf, Admitted}
 use Rattle.graph.specs.declared.Shape.{Shape}
 use Rattle.graph.specs.declared.Answer.{Answer}
-use Rattle.limits.proofs.Checked.{check-admitted, admitted-check}
+use Rattle.graph_check.proofs.Checked.{check-admitted, admitted-check}
 use Rattle.graph.proofs.Accepts.{both-accept, second-accepts, room-accepts}
 use Rattle.names.specs.Block.{nameAt, firstBad, Searchable}
 use Rattle.names.proofs.Blocks.{name-less, name-least}

@@ -5,7 +5,7 @@ use mathlib.Core.List.{List}
 use lib.ListN.{length}
 use lib.Dec.{eqb, ltb}
 use Rattle.graph.specs.Answers.{accepted, refused, andThen, roomFor}
-use Rattle.limits.specs.Check.{checkOf}
+use Rattle.graph_check.specs.Check.{checkOf}
 use Rattle.graph.specs.declared.Shape.{Shape}
 use Rattle.graph.specs.declared.Answer.{Answer}
 use Rattle.names.specs.Block.{nameAt, firstBad}

@@ -7,7 +7,7 @@ use graph::MOST_LABELS;
 use graph::Shape;
 use graph::answers::accept;
 use graph::answers::refuse;
-use limits::check;
+use graph_check::check;
 use names::end_of;
 use names::first_bad;
 ghost use mathlib.Core.Path.{_≡_};

@@ -10,7 +10,7 @@ use Rattle.graph.specs.Hops.{from, to}
 use Rattle.graph.specs.Answers.{most-states}
 use Rattle.confluence.specs.Rounds.{closing, answers, tried}
 use Rattle.confluence.specs.Held.{heldBy, isMarked}
-use Rattle.starts.proofs.Firsts.{start-is}
+use Rattle.graph_successors.proofs.Firsts.{start-is}
 use Rattle.closes.proofs.Rows.{Own, own-start, own-in, own-from, own-next, tried-before, tried-done, tried-fails, tried-next}
 use Rattle.again.proofs.Rows.{unshed-at}
 use Rattle.again.proofs.closes_again.Statement.{statement}

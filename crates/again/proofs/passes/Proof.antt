@@ -3,7 +3,7 @@ use Prim.Native.Nat.{ℕ, _+_}
 use mathlib.Core.Path.{ap}
 use native.Mathlib.Omega.{arith}
 use borrow.Author.Needs.{needs}
-use Rattle.starts.proofs.Firsts.{start-is}
+use Rattle.graph_successors.proofs.Firsts.{start-is}
 use Rattle.closes.proofs.Rows.{answered-alike}
 use Rattle.again.proofs.Rows.{row-is}
 use Rattle.again.proofs.passes.Statement.{statement}

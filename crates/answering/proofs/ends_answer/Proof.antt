@@ -7,7 +7,7 @@ use borrow.Author.Needs.{needs}
 use borrow.Author.Tests.{eq-eqb, ne-eqb}
 use Rattle.confluence.specs.Held.{isMarked}
 use Rattle.base_bounded.proofs.Bools.{clash}
-use Rattle.starts.proofs.Firsts.{start-is}
+use Rattle.graph_successors.proofs.Firsts.{start-is}
 use Rattle.answering.proofs.Ends.{leads-is, Passed, itself-answers, passed-start, passed-in, marked-answers, passed-next, passed-ends}
 use Rattle.answering.proofs.ends_answer.Statement.{statement}
 use Rattle.answering.proofs.ends_answer.Tie as tie

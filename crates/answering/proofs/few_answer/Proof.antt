@@ -7,7 +7,7 @@ use borrow.Author.Needs.{needs}
 use Rattle.graph.specs.Hops.{to}
 use Rattle.confluence.specs.Rounds.{closing}
 use Rattle.confluence.specs.Held.{heldBy}
-use Rattle.starts.proofs.Firsts.{range-more}
+use Rattle.graph_successors.proofs.Firsts.{range-more}
 use Rattle.confluence.proofs.Closing.{closing-is}
 use Rattle.merging.proofs.Rows.{row-answers, row-ends}
 use Rattle.answering.proofs.few_answer.Statement.{statement}

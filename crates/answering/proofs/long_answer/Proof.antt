@@ -8,8 +8,8 @@ use lib.ListN.{getD}
 use Rattle.graph.specs.Hops.{count}
 use Rattle.graph.specs.Answers.{most-states}
 use Rattle.graph.proofs.Lookup.{first-within}
-use Rattle.starts.specs.Starts.{Table, Ready}
-use Rattle.starts.proofs.Firsts.{start-is}
+use Rattle.graph_successors.specs.Starts.{Table, Ready}
+use Rattle.graph_successors.proofs.Firsts.{start-is}
 use Rattle.answering.proofs.long_answer.Statement.{statement}
 use Rattle.answering.proofs.long_answer.Tie as tie
 

@@ -13,8 +13,8 @@ use Rattle.graph.specs.Answers.{most-states}
 use Rattle.confluence.specs.Rounds.{closing, answers, tried}
 use Rattle.confluence.specs.Held.{heldBy}
 use Rattle.closes.specs.Walk.{Skipped}
-use Rattle.starts.proofs.Firsts.{start-is}
-use Rattle.starts.proofs.Rows.{row-ended}
+use Rattle.graph_successors.proofs.Firsts.{start-is}
+use Rattle.graph_successors.proofs.Rows.{row-ended}
 use Rattle.closes.proofs.Rows.{own-in, Walk, walk-start, walk-past, walk-row, walk-skip, walk-pass, likeAt, Beside, beside-start, beside-next, like-has, answered-stays, tried-before, tried-done, tried-fails, tried-next}
 use Rattle.closes.proofs.closes_at.Statement.{statement}
 use Rattle.closes.proofs.closes_at.Tie as tie

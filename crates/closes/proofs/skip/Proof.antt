@@ -3,7 +3,7 @@ use Prim.Native.Nat.{ℕ, _-_, _<_, _≤_}
 use native.Mathlib.Omega.{arith}
 use borrow.Author.Needs.{needs}
 use Rattle.graph.specs.Hops.{label}
-use Rattle.starts.proofs.Firsts.{range-more}
+use Rattle.graph_successors.proofs.Firsts.{range-more}
 use Rattle.closes.proofs.skip.Statement.{statement}
 use Rattle.closes.proofs.skip.Tie as tie
 

@@ -10,8 +10,8 @@ use Rattle.graph.specs.Hops.{count, from, label, to}
 use Rattle.graph.specs.Search.{firstOf, pastOf, labelledFrom}
 use Rattle.graph.specs.Answers.{most-states, most-labels}
 use Rattle.graph.proofs.Lookup.{past-within}
-use Rattle.starts.proofs.Firsts.{start-is, range-more}
-use Rattle.starts.proofs.Rows.{labelled-within}
+use Rattle.graph_successors.proofs.Firsts.{start-is, range-more}
+use Rattle.graph_successors.proofs.Rows.{labelled-within}
 use Rattle.confluence.specs.Rounds.{closing, answered, survives}
 use Rattle.confluence.proofs.Closing.{closing-same, closing-is}
 use Rattle.cycle.specs.Known.{Right}
@@ -32,11 +32,11 @@ use Rattle.graph.proofs.hops.from_at.Reads as from-at-reads
 use Rattle.graph.proofs.hops.hop_of.Reads as hop-of-reads
 use Rattle.graph.proofs.hops.label_at.Reads as label-at-reads
 use Rattle.graph.proofs.hops.to_at.Reads as to-at-reads
-use Rattle.starts.proofs.find_row.Reads as find-row-reads
-use Rattle.starts.proofs.labelled_from.Reads as labelled-from-reads
-use Rattle.starts.proofs.labelled_past.Reads as labelled-past-reads
-use Rattle.starts.proofs.start_of.Reads as start-of-reads
-use Rattle.starts.proofs.wide.Reads as wide-reads
+use Rattle.graph_successors.proofs.find_row.Reads as find-row-reads
+use Rattle.graph_successors.proofs.labelled_from.Reads as labelled-from-reads
+use Rattle.graph_successors.proofs.labelled_past.Reads as labelled-past-reads
+use Rattle.graph_successors.proofs.start_of.Reads as start-of-reads
+use Rattle.graph_successors.proofs.wide.Reads as wide-reads
 use Rattle.cycle.proofs.+x+y+z.{statement}
 use Rattle.cycle.proofs.+x+y+z.Tie.{close}
 

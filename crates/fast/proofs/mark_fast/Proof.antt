@@ -1,7 +1,7 @@
 -- `fast::mark_fast` meets its contract: acceptance gives what marking needs. Assumes nothing.
 use borrow.Author.Needs.{needs}
-use Rattle.limits.proofs.Checked.{check-admitted}
-use Rattle.starts.proofs.Firsts.{admitted-ready}
+use Rattle.graph_check.proofs.Checked.{check-admitted}
+use Rattle.graph_successors.proofs.Firsts.{admitted-ready}
 use Rattle.marks.proofs.Entry.{mark-refused, mark-room, output-same}
 use Rattle.fast.proofs.First.{first-later, first-marked}
 use Rattle.fast.proofs.Counting.{counted-refused, counted-done}

@@ -9,7 +9,7 @@ use Rattle.graph.specs.Search.{firstOf, pastOf}
 use Rattle.graph.specs.Answers.{most-states, most-hops}
 use Rattle.graph.proofs.Lookup.{first-within, range-only}
 use Rattle.graph.proofs.Places.{labelled-yes}
-use Rattle.starts.proofs.Firsts.{start-is}
+use Rattle.graph_successors.proofs.Firsts.{start-is}
 use Rattle.lining.specs.Lined.{Put}
 use Rattle.lining.proofs.Rows.{Putting, putting-none, putting-room, putting-more, putting-done, row-told, put-told}
 use Rattle.lining.proofs.put_row.Statement.{statement}

@@ -5,7 +5,7 @@ use Prim.Native.Nat.{ℕ}
 use native.Mathlib.Omega.{arith}
 use lib.ListN.{length-replicate}
 use Rattle.graph.specs.Answers.{most-states, most-hops}
-use Rattle.starts.proofs.Firsts.{admitted-ready}
+use Rattle.graph_successors.proofs.Firsts.{admitted-ready}
 use Rattle.made_up.proofs.Backing.{fresh-start}
 use Rattle.made_up.proofs.all_made_up.Statement.{statement}
 use Rattle.made_up.proofs.all_made_up.Tie as tie

@@ -9,7 +9,7 @@ use Rattle.graph.specs.Hops.{count}
 use Rattle.graph.specs.Search.{firstOf}
 use Rattle.base_bounded.proofs.Tests.{least-more, least-found}
 use Rattle.graph.proofs.Lookup.{first-within}
-use Rattle.starts.proofs.Firsts.{first-next, start-is}
+use Rattle.graph_successors.proofs.Firsts.{first-next, start-is}
 use Rattle.made_up.specs.States.{unticked}
 use Rattle.made_up.proofs.Own.{first-begins, first-ends}
 use Rattle.made_up.proofs.first_unticked.Statement.{statement}

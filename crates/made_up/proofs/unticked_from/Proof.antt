@@ -11,7 +11,7 @@ use Rattle.graph.specs.Search.{firstOf}
 use Rattle.base_bounded.proofs.Tests.{least-within, tally-more, tally-skip, tally-within}
 use Rattle.base_bounded.proofs.Least.{tally-least}
 use Rattle.graph.proofs.Lookup.{first-within}
-use Rattle.starts.proofs.Firsts.{start-is}
+use Rattle.graph_successors.proofs.Firsts.{start-is}
 use Rattle.made_up.specs.States.{unticked}
 use Rattle.made_up.proofs.Own.{count-ends}
 use Rattle.made_up.proofs.unticked_from.Statement.{statement}

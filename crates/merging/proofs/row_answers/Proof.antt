@@ -7,8 +7,8 @@ use borrow.Author.Needs.{needs}
 use Rattle.graph.specs.Hops.{to, hopOf}
 use Rattle.confluence.specs.Rounds.{closing}
 use Rattle.confluence.specs.Held.{heldBy}
-use Rattle.starts.proofs.Firsts.{start-is, range-more}
-use Rattle.starts.proofs.Rows.{row-ended}
+use Rattle.graph_successors.proofs.Firsts.{start-is, range-more}
+use Rattle.graph_successors.proofs.Rows.{row-ended}
 use Rattle.confluence.proofs.Closing.{closing-is, closing-same}
 use Rattle.merging.proofs.Rows.{row-answers, row-ends}
 use Rattle.merging.proofs.Along.{Along, along-start, along-next, found-marked, found-closes}

@@ -6,8 +6,8 @@ use borrow.Author.Needs.{needs}
 use Rattle.graph.specs.Hops.{from}
 use Rattle.graph.specs.Search.{firstOf, labelledPast}
 use Rattle.graph.proofs.Places.{labelled-parts}
-use Rattle.starts.proofs.Firsts.{start-is}
-use Rattle.starts.proofs.Rows.{labelled-rising, labelled-only, silent-first}
+use Rattle.graph_successors.proofs.Firsts.{start-is}
+use Rattle.graph_successors.proofs.Rows.{labelled-rising, labelled-only, silent-first}
 use Rattle.noting.specs.Queue.{Noted, Asked}
 use Rattle.noting.proofs.Walks.{Walked, walk-none, walk-more, out-all}
 use Rattle.noting.proofs.note_out.Statement.{statement}

@@ -6,7 +6,7 @@ use native.Mathlib.Omega.{arith}
 use Rattle.graph.specs.Hops.{count}
 use Rattle.graph.specs.Answers.{most-states}
 use Rattle.graph.proofs.Lookup.{first-within}
-use Rattle.starts.proofs.Firsts.{start-is}
+use Rattle.graph_successors.proofs.Firsts.{start-is}
 use Rattle.ranking.proofs.climb.Statement.{statement}
 use Rattle.ranking.proofs.climb.Tie as tie
 

@@ -7,7 +7,7 @@ use borrow.Author.Needs.{needs}
 use Rattle.graph.specs.Hops.{count, label, to}
 use Rattle.graph.specs.Search.{firstOf}
 use Rattle.graph.specs.Answers.{most-states}
-use Rattle.starts.proofs.Firsts.{start-is, range-more}
+use Rattle.graph_successors.proofs.Firsts.{start-is, range-more}
 use Rattle.reaching.specs.Front.{noted}
 use Rattle.reaching.proofs.Front.{noted-yes, noted-no}
 use Rattle.ranking.specs.Ranks.{endsNoted}

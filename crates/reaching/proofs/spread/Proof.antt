@@ -7,7 +7,7 @@ use borrow.Author.Needs.{needs}
 use Rattle.graph.specs.Answers.{most-states}
 use Rattle.graph.specs.declared.Shape.{Shape}
 use Rattle.reaching.specs.Reaching.{chosenIn}
-use Rattle.starts.proofs.Firsts.{start-is}
+use Rattle.graph_successors.proofs.Firsts.{start-is}
 use Rattle.reaching.specs.Front.{Front}
 use Rattle.reaching.proofs.Front.{front-room}
 use Rattle.reaching.proofs.Spreading.{chosen-yes, chosen-no, Range, Passed, place-within, end-within, passed-none, passed-more, passed-over, passed-all}

@@ -3,7 +3,7 @@ use mathlib.Core.Path.{sym, _∙_, ap}
 use borrow.Author.Needs.{needs}
 use borrow.Author.Tests.{ltb-false}
 use native.Mathlib.Omega.{arith}
-use Rattle.limits.specs.Check.{checkOf}
+use Rattle.graph_check.specs.Check.{checkOf}
 use Rattle.graph.specs.Answers.{most-hops}
 use Rattle.records.proofs.check_of.Statement.{statement}
 use Rattle.records.proofs.check_of.Tie as tie

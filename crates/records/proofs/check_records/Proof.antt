@@ -39,7 +39,7 @@ use denote.Exit.{yes}
 use denote.Struct.Laws as LL
 use Rattle.graph.specs.Hops.{between, flat}
 use Rattle.graph.specs.Answers.{most-numbers, refused}
-use Rattle.limits.specs.Check.{checkOf}
+use Rattle.graph_check.specs.Check.{checkOf}
 use Rattle.graph.specs.declared.Answer.{Answer}
 use Rattle.graph.specs.declared.Shape.{Shape}
 use Rattle.graph.specs.declared.Hop.{Hop}

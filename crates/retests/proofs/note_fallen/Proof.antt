@@ -5,8 +5,8 @@ use native.Mathlib.Omega.{arith}
 use borrow.Author.Needs.{needs}
 use Rattle.base_bounded.proofs.Slots.{beginning-step, beginning-within}
 use Rattle.graph.specs.Hops.{count, from, to}
-use Rattle.ends.specs.Ends.{beginOf}
-use Rattle.ends.proofs.Ends.{place-in}
+use Rattle.graph_predecessors.specs.Ends.{beginOf}
+use Rattle.graph_predecessors.proofs.Ends.{place-in}
 use Rattle.noting.specs.Queue.{Noted}
 use Rattle.noting.proofs.Walks.{Walked, walk-none, walk-more, Tries, tries-at, tries-all, begin-is}
 use Rattle.retests.proofs.note_fallen.Statement.{statement}

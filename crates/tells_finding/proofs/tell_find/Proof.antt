@@ -2,8 +2,8 @@
 use borrow.Author.Needs.{needs}
 use mathlib.Core.Path.{ap}
 use lib.ListN.{length}
-use Rattle.finding.specs.declared.Finding.{Finding}
-use Rattle.finding.specs.Finding.{findOf}
+use Rattle.graph_find.specs.declared.Finding.{Finding}
+use Rattle.graph_find.specs.Finding.{findOf}
 use Rattle.answers.specs.Numbers.{shapeOf}
 use Rattle.answers.proofs.Answers.{returned-of}
 use Rattle.answers.proofs.Told.{told-of}

@@ -2,7 +2,7 @@
 use borrow.Author.Needs.{needs}
 use Rattle.tells_span.specs.Numbers.{spanNumbers}
 use lib.ListN.{length}
-use Rattle.outgoing.specs.Outgoing.{chosen, spanOf}
+use Rattle.graph_hops_of.specs.Outgoing.{chosen, spanOf}
 use Rattle.answers.specs.Numbers.{shapeOf}
 use Rattle.answers.proofs.Answers.{returned-of}
 use Rattle.answers.proofs.Told.{told-of}

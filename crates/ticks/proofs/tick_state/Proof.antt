@@ -12,7 +12,7 @@ use Rattle.graph.specs.Search.{firstOf}
 use Rattle.graph.specs.Answers.{most-states}
 use Rattle.base_bounded.proofs.Bools.{and-yes, and-left, and-right}
 use Rattle.graph.proofs.Lookup.{first-within}
-use Rattle.starts.proofs.Firsts.{first-next, start-is}
+use Rattle.graph_successors.proofs.Firsts.{first-next, start-is}
 use Rattle.graph.specs.Map.{mapped}
 use Rattle.ticks.specs.Ticks.{TickedOn}
 use Rattle.ticks.proofs.Rows.{on-none, on-done, state-skipped, state-more}

@@ -1,5 +1,5 @@
 -- `turns::look` meets its contract: a mark stands exactly where a hop of the marked set does. Assumes nothing.
-use Rattle.starts.proofs.Firsts.{admitted-ready}
+use Rattle.graph_successors.proofs.Firsts.{admitted-ready}
 use Rattle.turns.proofs.Looking.{some-told}
 use borrow.Author.Needs.{needs}
 use Rattle.turns.proofs.look.Statement.{statement}

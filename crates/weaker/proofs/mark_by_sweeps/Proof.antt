@@ -4,7 +4,7 @@ use native.Mathlib.Omega.{arith}
 use lib.ListN.{length-replicate}
 use borrow.Author.Needs.{needs}
 use Rattle.graph.specs.Answers.{most-hops}
-use Rattle.starts.proofs.Firsts.{admitted-ready}
+use Rattle.graph_successors.proofs.Firsts.{admitted-ready}
 use Rattle.confluence.specs.Held.{everyPair}
 use Rattle.confluence.proofs.Marks.{marks-over}
 use Rattle.sweeps.proofs.Settling.{first-marking}

@@ -5,7 +5,7 @@ use native.Mathlib.Omega.{arith}
 use lib.ListN.{length, getD, length-set, length-replicate}
 use Rattle.graph.specs.Hops.{count}
 use Rattle.graph.specs.Answers.{most-hops}
-use Rattle.starts.proofs.Firsts.{filled-more}
+use Rattle.graph_successors.proofs.Firsts.{filled-more}
 use Rattle.faults.specs.Images.{imageOf, Imaged}
 use borrow.Author.Needs.{needs}
 use Rattle.faults.proofs.images.images_of.Statement.{statement}

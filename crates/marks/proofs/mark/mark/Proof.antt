@@ -1,7 +1,7 @@
 -- `marks::mark::mark` meets its contract: acceptance gives what marking needs. Assumes nothing.
 use borrow.Author.Needs.{needs}
-use Rattle.limits.proofs.Checked.{check-admitted}
-use Rattle.starts.proofs.Firsts.{admitted-ready}
+use Rattle.graph_check.proofs.Checked.{check-admitted}
+use Rattle.graph_successors.proofs.Firsts.{admitted-ready}
 use Rattle.marks.proofs.Entry.{mark-refused, mark-sensed, mark-later, mark-ringless, mark-room, output-marked, output-same}
 use Rattle.marks.proofs.mark.mark.Statement.{statement}
 use Rattle.marks.proofs.mark.mark.Tie as tie

@@ -1,7 +1,7 @@
 -- `marks::mark::mark_answer` meets its contract: rows 1 to 4 speak, or row 19, or the later ones do. Assumes nothing.
 use borrow.Author.Needs.{needs}
-use Rattle.limits.proofs.Checked.{check-admitted}
-use Rattle.starts.proofs.Firsts.{admitted-ready}
+use Rattle.graph_check.proofs.Checked.{check-admitted}
+use Rattle.graph_successors.proofs.Firsts.{admitted-ready}
 use Rattle.marks.proofs.Entry.{mark-refused, mark-sensed, mark-later}
 use Rattle.marks.proofs.mark.mark_answer.Statement.{statement}
 use Rattle.marks.proofs.mark.mark_answer.Tie as tie

@@ -1,6 +1,6 @@
 -- `marks::mark::mark_in` meets its contract: what the rounds leave is document 01's marked set, which is that of sense 1. Assumes nothing.
 use borrow.Author.Needs.{needs}
-use Rattle.starts.proofs.Firsts.{admitted-ready}
+use Rattle.graph_successors.proofs.Firsts.{admitted-ready}
 use Rattle.senses.proofs.Marked.{first-set}
 use Rattle.marks.proofs.mark.mark_in.Statement.{statement}
 use Rattle.marks.proofs.mark.mark_in.Tie as tie

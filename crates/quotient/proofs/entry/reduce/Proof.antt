@@ -1,7 +1,7 @@
 -- `quotient::entry::reduce` meets its contract: a refusal writes nothing, and acceptance gives what the reduction needs. Assumes nothing.
 use mathlib.Core.Path.{_∙_}
-use Rattle.limits.proofs.Checked.{check-admitted}
-use Rattle.starts.proofs.Firsts.{admitted-ready}
+use Rattle.graph_check.proofs.Checked.{check-admitted}
+use Rattle.graph_successors.proofs.Firsts.{admitted-ready}
 use Rattle.quotient.proofs.Answering.{answer-checked, answer-later, reduce-reducible, reduce-map-room, reduce-short-room, refused-returns, refused-map, refused-short, accepted-returns, accepted-map, accepted-short}
 use borrow.Author.Needs.{needs}
 use Rattle.quotient.proofs.entry.reduce.Statement.{statement}

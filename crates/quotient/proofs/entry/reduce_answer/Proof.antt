@@ -1,6 +1,6 @@
 -- `quotient::entry::reduce_answer` meets its contract: rows 1 to 4 speak, or the later ones do. Assumes nothing.
-use Rattle.limits.proofs.Checked.{check-admitted}
-use Rattle.starts.proofs.Firsts.{admitted-ready}
+use Rattle.graph_check.proofs.Checked.{check-admitted}
+use Rattle.graph_successors.proofs.Firsts.{admitted-ready}
 use Rattle.quotient.proofs.Answering.{answer-checked, answer-later}
 use borrow.Author.Needs.{needs}
 use Rattle.quotient.proofs.entry.reduce_answer.Statement.{statement}

@@ -1,5 +1,5 @@
 -- `report::print::print_graph` meets its contract: of a graph that is admitted only row 5 is left to ask. Assumes nothing.
-use Rattle.starts.proofs.Firsts.{admitted-ready}
+use Rattle.graph_successors.proofs.Firsts.{admitted-ready}
 use Rattle.text.proofs.Puts.{put-same}
 use Rattle.report.proofs.Lengths.{refusal-most}
 use Rattle.report.proofs.Shown.{graph-refused, graph-reducible, graph-accepted, text-room}

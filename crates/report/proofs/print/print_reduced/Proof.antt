@@ -3,7 +3,7 @@ use native.Mathlib.Omega.{arith}
 use mathlib.Core.Path.{sym}
 use lib.ListN.{replicate}
 use Rattle.graph.specs.Answers.{most-states, most-hops, most-numbers}
-use Rattle.starts.proofs.Firsts.{admitted-ready}
+use Rattle.graph_successors.proofs.Firsts.{admitted-ready}
 use Rattle.representatives.proofs.Marked.{held-settles}
 use Rattle.quotient.proofs.Marked.{left-marks}
 use Rattle.text.proofs.Puts.{put-same, room-same}

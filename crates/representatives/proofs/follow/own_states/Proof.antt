@@ -5,7 +5,7 @@ use native.Mathlib.Omega.{arith}
 use lib.ListN.{length, getD, length-set, length-replicate}
 use Rattle.graph.specs.Answers.{most-states}
 use Rattle.representatives.specs.Tables.{Own}
-use Rattle.starts.proofs.Firsts.{filled-more}
+use Rattle.graph_successors.proofs.Firsts.{filled-more}
 use Rattle.representatives.proofs.follow.own_states.Statement.{statement}
 use Rattle.representatives.proofs.follow.own_states.Tie as tie
 

@@ -8,7 +8,7 @@ use Rattle.graph.specs.Answers.{most-states}
 use Rattle.base_bounded.specs.Tests.{tally}
 use Rattle.base_bounded.proofs.Tests.{tally-none, tally-more, tally-skip, tally-within}
 use Rattle.representatives.specs.Tables.{Numbers, stays}
-use Rattle.starts.proofs.Firsts.{filled-more}
+use Rattle.graph_successors.proofs.Firsts.{filled-more}
 use borrow.Author.Needs.{needs}
 use Rattle.representatives.proofs.renumber.new_numbers.Statement.{statement}
 use Rattle.representatives.proofs.renumber.new_numbers.Tie as tie

@@ -4,7 +4,7 @@ use Prim.Native.Nat.{ℕ, _+_, _*_}
 use native.Mathlib.Omega.{arith}
 use lib.ListN.{length-replicate}
 use Rattle.graph.specs.Answers.{most-hops}
-use Rattle.starts.proofs.Firsts.{admitted-ready}
+use Rattle.graph_successors.proofs.Firsts.{admitted-ready}
 use Rattle.cycle.proofs.Known.{nothing-said}
 use Rattle.rounds.specs.Question.{most-rounds}
 use Rattle.rounds.proofs.question.survives_rounds.Statement.{statement}

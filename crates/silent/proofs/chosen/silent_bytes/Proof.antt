@@ -7,7 +7,7 @@ use lib.Dec.{eqb}
 use lib.ListN.{length, getD, length-set, length-replicate}
 use Rattle.graph.specs.Hops.{count}
 use Rattle.graph.specs.Answers.{most-hops}
-use Rattle.starts.proofs.Firsts.{filled-more}
+use Rattle.graph_successors.proofs.Firsts.{filled-more}
 use Rattle.reaching.specs.Reaching.{chosenIn, Chooses}
 use Rattle.silent.specs.Silent.{silentAt}
 use Rattle.silent.proofs.Hops.{byte-told}

@@ -1,0 +1,75 @@
+-- `graph_find::find` meets its contract: check refuses, or the search answers for the hop in 16 bits. Assumes nothing.
+use borrow.Author.Needs.{needs}
+use mathlib.Core.Path.{_≡_}
+use Rattle.graph.specs.declared.Found.{Found}
+use Rattle.graph.specs.declared.Found.the-variants.{At, Gap}
+use Rattle.graph_find.specs.Finding.{findOf}
+use Rattle.graph_find.proofs.Ways.{told, find-refused, find-admitted, find-told}
+use Rattle.graph_find.proofs.find.Statement.{statement}
+use Rattle.graph_find.proofs.find.Tie as tie
+
+check-requires : tie.Need-check-requires
+check-requires c κs = search needs
+
+returns : tie.Need-returns
+returns c = find-refused _ _ (c .before .before .check .ensures) _ _ _ (c .if1 .taken)
+
+narrow-requires : tie.Need-narrow-requires
+narrow-requires c κs = search needs
+
+narrow-requires-2 : tie.Need-narrow-requires-2
+narrow-requires-2 c κs = search needs
+
+narrow-requires-3 : tie.Need-narrow-requires-3
+narrow-requires-3 c κs = search needs
+
+hop-of-requires : tie.Need-hop-of-requires
+hop-of-requires c κs = search needs
+
+find-requires : tie.Need-find-requires
+find-requires c κs =
+    let n = c .before .before .before in
+    find-admitted _ _ (n .before .before .before .check .ensures) (n .before .if1 .left) .ascending
+
+-- what is returned for what the search answered
+module _ (c : tie.After-find) where
+  abbrev checked : tie.After-check
+  checked = c .before .before .before .before .before .before .before
+
+  abbrev start : tie.Start
+  start = checked .before .before
+
+  searched : (r : Found) → c .find .result ≡ r →
+      told (checked .check .result) r ≡ findOf (start .args .shape) (start .args .hops .now) (start .args .from) (start .args .label) (start .args .to)
+  searched r d =
+      let n = c .before .before .before .before in
+      find-told _ _ (checked .check .ensures) _ _ _ (n .before .if1 .left) (n .narrow .ensures) (c .before .before .before .narrow2 .ensures)
+      (c .before .before .narrow3 .ensures) (c .before .hop-of .ensures) (c .find .ensures) d
+
+enum-known-found : tie.Need-enum-known-found
+enum-known-found c = search needs
+
+enum-known-found-2 : tie.Need-enum-known-found-2
+enum-known-found-2 c = search needs
+
+returns-2 : tie.Need-returns-2
+returns-2 c = searched (c .before .before .before) (At _) (c .before .found .given .1)
+
+returns-3 : tie.Need-returns-3
+returns-3 c = searched (c .before .before .before) (Gap _) (c .before .found2 .given .1)
+
+pub find-spec : {M : Type 1} → statement M
+find-spec =
+    tie.close
+    (tie.spec
+    check-requires
+    returns
+    narrow-requires
+    narrow-requires-2
+    narrow-requires-3
+    hop-of-requires
+    find-requires
+    enum-known-found
+    enum-known-found-2
+    returns-2
+    returns-3)

@@ -1,0 +1,57 @@
+// Find: does a graph have a given hop, and where does it stand, or would it? Any 32-bit numbers may be asked for: a hop whose numbers are out of range is one
+// that the graph hasn't, and it too has a place, behind the hops that come before it. The entry checks the graph first.
+// It stands on `check` of graph_check and the one search of graph.
+use graph::Found;
+use graph::Shape;
+use graph::hops::hop_of;
+use graph_check::check;
+ghost use mathlib.Core.Path.{_≡_};
+ghost use Rattle.graph_find.specs.Finding.{narrowed, findOf};
+
+// What `find` returns: check's answer; 1 or 0, whether the graph has the hop; and the hop's place, or where it would stand (0 and 0 with a refusal).
+pub struct Finding {
+    pub answer: graph::Answer,
+    pub found: u32,
+    pub place: usize,
+}
+
+// The largest number of 16 bits. No hop of an admitted graph has it, so it may stand for all that are larger.
+const LARGEST: u32 = 65535;
+
+// The number in 16 bits: as it is, or the largest for one that does not fit.
+fn narrow(x: u32) -> u16
+    ensures { λ r. ⌜ r ≡ narrowed x ⌝ }
+{
+    if x < LARGEST {
+        return x as u16;
+    }
+    LARGEST as u16
+}
+
+// The entry.
+pub fn find(shape: Shape, hops: &[u16], from: u32, label: u32, to: u32) -> Finding
+    ensures { λ r. ⌜ r ≡ findOf shape (now (hops .entry)) from label to ⌝ }
+{
+    let answer = check(shape, hops);
+    if answer.number != 0 {
+        return Finding {
+            answer,
+            found: 0,
+            place: 0,
+        };
+    }
+    let sought = hop_of(narrow(from), narrow(label), narrow(to));
+    let found = graph::search::find(hops, sought);
+    match found {
+        Found::At(at) => Finding {
+            answer,
+            found: 1,
+            place: at,
+        },
+        Found::Gap(gap) => Finding {
+            answer,
+            found: 0,
+            place: gap,
+        },
+    }
+}

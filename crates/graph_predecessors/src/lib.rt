@@ -1,0 +1,84 @@
+// The table of places by where their hops end: the hops into a state, as the table of first places has those out of it. It is counted and filled once: how
+// many hops end in each state gives where those into a state begin, and then each place is put into its slot, in list order. Marking in rounds asks
+// it for the hops into the two ends of one that fell. It stands on graph (hops) and graph_successors (what is needed of a hop list).
+use graph::MOST_HOPS;
+use graph::hops::hop_count;
+use graph::hops::to_at;
+use graph_successors::STARTS;
+use graph_successors::wide;
+ghost use mathlib.Core.Path.{_≡_};
+ghost use Prim.Native.Nat.{_<_};
+ghost use lib.ListN.{getD};
+ghost use Rattle.graph.specs.Hops.{count};
+ghost use Rattle.graph.specs.Answers.{most-hops};
+ghost use Rattle.graph_successors.specs.Starts.{Ready};
+ghost use Rattle.graph_predecessors.specs.Ends.{Counted, Begins, Filled};
+
+// The place that stands in the table at k.
+pub fn place_at(places: &[u16; MOST_HOPS], k: usize) -> usize
+    requires { ⌜ k < most-hops ⌝ }
+    ensures { λ r. ⌜ r ≡ getD (now (places .entry)) k 0 ⌝ }
+{
+    wide(places[k])
+}
+
+// How many hops end in each state.
+fn ends_of(hops: &[u16]) -> [u16; STARTS]
+    requires { ⌜ Ready (now hops) ⌝ }
+    ensures { λ r. ⌜ Counted (now (hops .entry)) (count (now (hops .entry))) r ⌝ }
+{
+    let n = hop_count(hops);
+    let mut ends = [0u16; STARTS];
+    let mut j = 0;
+    while j < n {
+        let s = wide(to_at(hops, j).0);
+        ends[s] += 1;
+        j += 1;
+    }
+    ends
+}
+
+// Where the hops into each state begin: counted, and added up.
+pub fn begins_of(hops: &[u16]) -> [u16; STARTS]
+    requires { ⌜ Ready (now hops) ⌝ }
+    ensures { λ r. ⌜ Begins (now (hops .entry)) r ⌝ }
+{
+    let mut begins = ends_of(hops);
+    let mut at = 0;
+    let mut s = 0;
+    while s < STARTS {
+        let ending = begins[s];
+        begins[s] = at;
+        at += ending;
+        s += 1;
+    }
+    begins
+}
+
+// Each place in its slot, `next` being where the next hop into each state goes: at first, where they begin. It comes by value, to be moved on here.
+fn fill(hops: &[u16], mut next: [u16; STARTS]) -> [u16; MOST_HOPS]
+    requires ready { ⌜ Ready (now hops) ⌝ }
+    requires begins { ⌜ Begins (now hops) next ⌝ }
+    ensures { λ r. ⌜ Filled (now (hops .entry)) (count (now (hops .entry))) r ⌝ }
+{
+    let n = hop_count(hops);
+    let mut places = [0u16; MOST_HOPS];
+    let mut j = 0;
+    while j < n {
+        let s = wide(to_at(hops, j).0);
+        let k = wide(next[s]);
+        places[k] = j as u16;
+        next[s] += 1;
+        j += 1;
+    }
+    places
+}
+
+// Each place in its slot.
+pub fn places_of(hops: &[u16], begins: &[u16; STARTS]) -> [u16; MOST_HOPS]
+    requires ready { ⌜ Ready (now hops) ⌝ }
+    requires begins { ⌜ Begins (now hops) (now begins) ⌝ }
+    ensures { λ r. ⌜ Filled (now (hops .entry)) (count (now (hops .entry))) r ⌝ }
+{
+    fill(hops, *begins)
+}

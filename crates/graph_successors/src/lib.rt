@@ -1,0 +1,115 @@
+// The table of first places: for each state the place where its hops begin, found once in a pass over the list. By it a hop is searched for among
+// the hops of its own state only, and a state's hops with one label are the places from one number up to another; its silent hops are those labelled
+// 0. It stands on the one search of graph, for rings, marking, the question, the audit and the short graph. It serves either graph, so a state is a
+// bare number here.
+use graph::Found;
+use graph::Hop;
+use graph::Label;
+use graph::MOST_STATES;
+use graph::hops::hop_at;
+use graph::hops::hop_count;
+use graph::hops::hop_of;
+use graph::search::find_between;
+use graph::search::lower_between;
+ghost use mathlib.Core.Path.{_≡_};
+ghost use Prim.Native.Nat.{_+_, _<_, _≤_};
+ghost use Rattle.graph.specs.Answers.{most-states};
+ghost use lib.ListN.{getD};
+ghost use Rattle.graph.specs.Search.{lower, placed, firstOf, labelledFrom, labelledPast};
+ghost use Rattle.graph_successors.specs.Starts.{Table, Ready};
+
+// How many places the table has: one for each state that can be, and one past the last.
+pub const STARTS: usize = MOST_STATES + 1;
+
+// A number read from the list or the table, as a place or an index.
+pub fn wide(x: u16) -> usize
+    ensures { λ r. ⌜ r ≡ x ⌝ }
+{
+    x as usize
+}
+
+// Where the hops of s begin, by the table.
+pub fn start_of(starts: &[u16; STARTS], s: usize) -> usize
+    requires { ⌜ s ≤ most-states ⌝ }
+    ensures { λ r. ⌜ r ≡ getD (now (starts .entry)) s 0 ⌝ }
+{
+    wide(starts[s])
+}
+
+// Where the hops of the states after s begin, `at` being where those of s do.
+fn pass(hops: &[u16], at: usize, s: usize) -> usize
+    requires ready { ⌜ Ready (now hops) ⌝ }
+    requires first { ⌜ at ≡ firstOf (now hops) s ⌝ }
+    ensures { λ r. ⌜ r ≡ firstOf (now (hops .entry)) (s + 1) ⌝ }
+{
+    let n = hop_count(hops);
+    let mut i = at;
+    while i < n {
+        if wide(hop_at(hops, i).from) > s {
+            return i;
+        }
+        i += 1;
+    }
+    i
+}
+
+// The table: a place for each state that can be, and one past the last.
+pub fn starts_of(hops: &[u16]) -> [u16; STARTS]
+    requires { ⌜ Ready (now hops) ⌝ }
+    ensures { λ r. ⌜ Table (now (hops .entry)) r ⌝ }
+{
+    let mut starts = [0u16; STARTS];
+    let mut at = 0;
+    let mut s = 0;
+    while s < STARTS {
+        starts[s] = at as u16;
+        at = pass(hops, at, s);
+        s += 1;
+    }
+    starts
+}
+
+// The first place whose hop is not before h, searched for among the hops of its state.
+fn lower_row(hops: &[u16], starts: &[u16; STARTS], h: Hop) -> usize
+    requires ready { ⌜ Ready (now hops) ⌝ }
+    requires table { ⌜ Table (now hops) (now starts) ⌝ }
+    requires state { ⌜ h .from < most-states ⌝ }
+    ensures { λ r. ⌜ r ≡ lower (now (hops .entry)) h ⌝ }
+{
+    let s = wide(h.from);
+    lower_between(hops, h, start_of(starts, s), start_of(starts, s + 1))
+}
+
+// Where the hop stands or would stand, searched for among the hops of its state.
+pub fn find_row(hops: &[u16], starts: &[u16; STARTS], h: Hop) -> Found
+    requires ready { ⌜ Ready (now hops) ⌝ }
+    requires table { ⌜ Table (now hops) (now starts) ⌝ }
+    requires state { ⌜ h .from < most-states ⌝ }
+    ensures { λ r. ⌜ r ≡ placed (now (hops .entry)) h ⌝ }
+{
+    let s = wide(h.from);
+    find_between(hops, h, start_of(starts, s), start_of(starts, s + 1))
+}
+
+// The first place of the hops of s labelled a, and the one past the last. The silent ones are its first.
+pub fn labelled_from(hops: &[u16], starts: &[u16; STARTS], s: u16, a: Label) -> usize
+    requires ready { ⌜ Ready (now hops) ⌝ }
+    requires table { ⌜ Table (now hops) (now starts) ⌝ }
+    requires state { ⌜ s < most-states ⌝ }
+    ensures { λ r. ⌜ r ≡ labelledFrom (now (hops .entry)) s (a .0) ⌝ }
+{
+    if a.0 == 0 {
+        return start_of(starts, wide(s));
+    }
+    lower_row(hops, starts, hop_of(s, a.0, 0))
+}
+
+pub fn labelled_past(hops: &[u16], starts: &[u16; STARTS], s: u16, a: Label) -> usize
+    requires ready { ⌜ Ready (now hops) ⌝ }
+    requires table { ⌜ Table (now hops) (now starts) ⌝ }
+    requires state { ⌜ s < most-states ⌝ }
+    requires label { ⌜ a .0 < 65535 ⌝ }
+    ensures { λ r. ⌜ r ≡ labelledPast (now (hops .entry)) s (a .0) ⌝ }
+{
+    labelled_from(hops, starts, s, Label(a.0 + 1))
+}
