@@ -19,7 +19,7 @@ use Rattle.graph.specs.declared.Shape.{Shape}
 use Rattle.graph.proofs.Places.{has-at, has-place, is-yes, is-from, is-to}
 use Rattle.graph_check.specs.Check.{InRange}
 use Rattle.lts.specs.Closes.{nowhere, Via, here, Sense, Answered, Closes}
-use Rattle.silent.specs.Silent.{HopOf}
+use Rattle.walk_silent.specs.Silent.{HopOf}
 use Rattle.base_fixpoint.specs.Pairs.{Pairs, In}
 use Rattle.confluence.specs.Held.{isMarked, heldBy, marksOf}
 use Rattle.confluence.proofs.Held.{held-says, held-yes}

@@ -7,9 +7,9 @@ use Rattle.graph.specs.Hops.{count, from, label, to}
 use Rattle.graph.specs.declared.Shape.{Shape}
 use Rattle.graph_check.specs.Check.{Admitted}
 use Rattle.graph_successors.specs.Starts.{Ready}
-use Rattle.lining.specs.Line.{Line}
+use Rattle.walk_topological_order.specs.Line.{Line}
 use Rattle.lts.specs.Closes.{Sense, Answered}
-use Rattle.silent.specs.Silent.{HopOf}
+use Rattle.walk_silent.specs.Silent.{HopOf}
 use Rattle.base_fixpoint.specs.Pairs.{In}
 use Rattle.confluence.specs.Held.{isMarked, heldBy}
 

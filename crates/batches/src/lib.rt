@@ -24,7 +24,7 @@ ghost use Rattle.confluence.specs.Held.{heldBy};
 ghost use Rattle.sweeps.specs.Sweep.{Marking, Swept};
 ghost use Rattle.senses.specs.Senses.{senseOf, markedBy};
 ghost use Rattle.base_bitset.specs.Bits.{word-bits};
-ghost use Rattle.lining.specs.Line.{Line};
+ghost use Rattle.walk_topological_order.specs.Line.{Line};
 ghost use Rattle.spreading.specs.Spread.{Back, Forth};
 ghost use Rattle.batches.specs.Batch.{Sweepable, TriedIn};
 

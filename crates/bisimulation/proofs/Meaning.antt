@@ -17,8 +17,8 @@ use Rattle.base_bounded.proofs.Tests.{any-found, any-at, tally-zero, tally-each
 use Rattle.graph.proofs.Places.{has-at, has-place, place-has}
 use Rattle.lts.specs.Star.{stay}
 use Rattle.lts.specs.Reduction.{Back, Reduces}
-use Rattle.silent.specs.Silent.{HopOf, Leads, leads}
-use Rattle.silent.proofs.Leads.{leads-iff}
+use Rattle.walk_silent.specs.Silent.{HopOf, Leads, leads}
+use Rattle.walk_silent.proofs.Leads.{leads-iff}
 use Rattle.graph.specs.Map.{mapped}
 use Rattle.faults.specs.Faults.{initialFault, kept, lostFaults, offers, backed, matched, madeUp, madeUpFaults, faultsOf}
 use Rattle.fitting.specs.Fitting.{AdmittedMap}

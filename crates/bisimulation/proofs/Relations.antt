@@ -6,7 +6,7 @@ use mathlib.Core.List.{List}
 use mathlib.Core.Logic.{_⊎_, inl, inr, _↔_}
 use Rattle.graph.specs.declared.Shape.{Shape}
 use Rattle.lts.specs.Branching.{Answers, Branching}
-use Rattle.silent.specs.Silent.{HopOf, Leads}
+use Rattle.walk_silent.specs.Silent.{HopOf, Leads}
 use Rattle.bisimulation.specs.Bisimulation.{StatePairs, BranchingBisimulation}
 
 -- a step that answers, as document 01 names its parts and as the theory does

@@ -4,7 +4,7 @@ use mathlib.Core.Path.{_≡_}
 use mathlib.Core.Logic.{_⊎_}
 use mathlib.Core.List.{List}
 use Rattle.graph.specs.declared.Shape.{Shape}
-use Rattle.silent.specs.Silent.{HopOf, Leads}
+use Rattle.walk_silent.specs.Silent.{HopOf, Leads}
 use Rattle.graph.specs.Map.{mapped}
 
 -- "Let B be any set of pairs, each a state of graph 1 with a state of graph 2."

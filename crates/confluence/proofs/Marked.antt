@@ -7,7 +7,7 @@ use mathlib.Core.List.{List}
 use Rattle.lts.specs.Sense.{R1}
 use Rattle.graph.specs.Hops.{count, has}
 use Rattle.base_bounded.proofs.Bools.{and-left, and-right}
-use Rattle.silent.specs.Silent.{HopOf}
+use Rattle.walk_silent.specs.Silent.{HopOf}
 use Rattle.base_fixpoint.specs.Pairs.{Pairs, In, Within}
 use Rattle.base_fixpoint.specs.Rounds.{Kept}
 use Rattle.base_fixpoint.proofs.Rounds.{left-fixed, kept-left, left-kept, left-every, left-same}

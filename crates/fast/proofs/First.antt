@@ -9,7 +9,7 @@ use Rattle.graph.specs.Answers.{accepted, andThen, roomFor}
 use Rattle.graph.specs.declared.Shape.{Shape}
 use Rattle.graph.specs.declared.Answer.{Answer}
 use Rattle.graph_check.specs.Check.{checkOf}
-use Rattle.silent.specs.Silent.{ringless}
+use Rattle.walk_silent.specs.Silent.{ringless}
 use Rattle.base_fixpoint.specs.Pairs.{Pairs}
 use Rattle.confluence.specs.Rounds.{marked}
 use Rattle.confluence.specs.Held.{marksOf}

@@ -8,7 +8,7 @@ use Rattle.base_bounded.specs.Tests.{any, tally, total}
 use Rattle.graph.specs.Hops.{count, from, label, to, has}
 use Rattle.graph.specs.Map.{mapped}
 use Rattle.graph.specs.declared.Shape.{Shape}
-use Rattle.silent.specs.Silent.{leads}
+use Rattle.walk_silent.specs.Silent.{leads}
 
 -- "1 if the map of initial state 1 is not initial state 2"
 unfoldable pub initialFault : Shape → Shape → List ℕ → ℕ

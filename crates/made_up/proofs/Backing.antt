@@ -18,10 +18,10 @@ use Rattle.base_bounded.proofs.Bools.{decided, same-test, and-yes, and-left, an
 use Rattle.base_bounded.proofs.Tests.{any-found, any-at, tally-same, tally-within, total-most, total-exchange}
 use Rattle.base_bounded.proofs.Least.{least-same}
 use Rattle.graph.proofs.Places.{is-yes, is-label, is-to}
-use Rattle.silent.specs.Silent.{silentAt, leads}
-use Rattle.silent.proofs.Leads.{noted-leads}
-use Rattle.reaching.specs.Reaching.{chosenIn, Chooses}
-use Rattle.reaching.specs.Front.{noted, reached}
+use Rattle.walk_silent.specs.Silent.{silentAt, leads}
+use Rattle.walk_silent.proofs.Leads.{noted-leads}
+use Rattle.walk_reach.specs.Reaching.{chosenIn, Chooses}
+use Rattle.walk_reach.specs.Front.{noted, reached}
 use Rattle.graph.specs.Map.{mapped}
 use Rattle.faults.specs.Faults.{offers, backed, matched, madeUp, madeUpFaults}
 use Rattle.ticks.specs.Ticks.{seenInClass, ticks, TickedBy}

@@ -8,8 +8,8 @@ use Rattle.base_bounded.specs.Tests.{least, tally}
 use Rattle.graph.specs.Hops.{count, from, label, to}
 use Rattle.graph.specs.declared.Shape.{Shape}
 use Rattle.graph_successors.specs.Starts.{Table}
-use Rattle.reaching.specs.Front.{Space}
-use Rattle.silent.specs.Chosen.{SilentChosen}
+use Rattle.walk_reach.specs.Front.{Space}
+use Rattle.walk_silent.specs.Chosen.{SilentChosen}
 use Rattle.faults.specs.Faults.{madeUp}
 use Rattle.ticks.specs.Ticks.{Tickable}
 

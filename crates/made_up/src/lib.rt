@@ -1,6 +1,6 @@
 // Made up: the third sum of the fault count, the pairs of a hop of graph 2 and a state of graph 1 that does not answer it, and the first of them, for the
 // audit. By states of graph 1: `ticks` ticks the hops of graph 2 that the state backs, and of those of its class what is not ticked is made up.
-// It stands on `faults`, which says what the sum and the first fault are, on `ticks`, on `graph_successors` for a state's hops, and on `reaching` along the silent
+// It stands on `faults`, which says what the sum and the first fault are, on `ticks`, on `graph_successors` for a state's hops, and on `walk_reach` along the silent
 // hops.
 use faults::Fault;
 use faults::Share;
@@ -19,9 +19,9 @@ use graph_successors::STARTS;
 use graph_successors::start_of;
 use graph_successors::starts_of;
 use graph_successors::wide;
-use reaching::reach;
-use silent::chosen::silent_bytes;
 use ticks::tick_all;
+use walk_reach::reach;
+use walk_silent::chosen::silent_bytes;
 ghost use mathlib.Core.Path.{_≡_};
 ghost use mathlib.Core.Bool.{cond};
 ghost use Prim.Native.Nat.{_+_, _<_, _≤_};

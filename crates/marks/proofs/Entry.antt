@@ -12,7 +12,7 @@ use Rattle.graph.specs.declared.Shape.{Shape}
 use Rattle.graph.specs.declared.Answer.{Answer}
 use Rattle.graph_check.proofs.Checked.{check-admitted}
 use Rattle.graph.proofs.Accepts.{then-first, then-next, both-accept, room-accepts}
-use Rattle.silent.specs.Silent.{ringless}
+use Rattle.walk_silent.specs.Silent.{ringless}
 use Rattle.senses.specs.Senses.{senseAnswer}
 use Rattle.marks.specs.Mark.{marksMade, markAnswer, markOutput}
 

@@ -8,7 +8,7 @@ use Rattle.graph.specs.Answers.{andThen, roomFor}
 use Rattle.graph_check.specs.Check.{checkOf}
 use Rattle.graph.specs.declared.Shape.{Shape}
 use Rattle.graph.specs.declared.Answer.{Answer}
-use Rattle.silent.specs.Silent.{ringless}
+use Rattle.walk_silent.specs.Silent.{ringless}
 use Rattle.confluence.specs.Held.{marksOf}
 use Rattle.senses.specs.Senses.{markedBy, senseAnswer}
 

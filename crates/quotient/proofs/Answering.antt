@@ -16,7 +16,7 @@ use Rattle.graph.specs.declared.Shape.{Shape}
 use Rattle.graph.specs.declared.Answer.{Answer}
 use Rattle.base_bounded.proofs.Bools.{clash, or-yes, lt-or-le}
 use Rattle.graph_check.proofs.Checked.{check-admitted}
-use Rattle.silent.specs.Silent.{ringless}
+use Rattle.walk_silent.specs.Silent.{ringless}
 use Rattle.graph.proofs.Accepts.{then-first, then-next, both-accept, room-accepts}
 use Rattle.senses.specs.Senses.{senseAnswer}
 use Rattle.representatives.specs.Tables.{Reducible}

@@ -13,8 +13,8 @@ use Rattle.graph.specs.declared.Shape.{Shape}
 use Rattle.lts.specs.Reduction.{Confluent}
 use Rattle.lts.specs.Closes.{Sense}
 use Rattle.lts.proofs.SenseForms.{set-confluent}
-use Rattle.silent.specs.Silent.{HopOf}
-use Rattle.silent.proofs.Rings.{rank}
+use Rattle.walk_silent.specs.Silent.{HopOf}
+use Rattle.walk_silent.proofs.Rings.{rank}
 use Rattle.base_fixpoint.specs.Pairs.{Pairs, In, Within}
 use Rattle.confluence.specs.Rounds.{silentHops}
 use Rattle.confluence.specs.Held.{marksOf, heldBy}

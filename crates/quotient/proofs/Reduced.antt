@@ -7,7 +7,7 @@ use Rattle.graph_check.specs.Check.{Admitted}
 use Rattle.graph.specs.declared.Shape.{Shape}
 use Rattle.lts.specs.Closes.{Sense}
 use Rattle.lts.specs.Reduction.{Reduces}
-use Rattle.silent.specs.Silent.{HopOf}
+use Rattle.walk_silent.specs.Silent.{HopOf}
 use Rattle.base_fixpoint.specs.Pairs.{In}
 use Rattle.senses.specs.Senses.{markedIn}
 use Rattle.representatives.specs.Representative.{mapOf}

@@ -19,7 +19,7 @@ use Rattle.graph.proofs.Accepts.{both-accept}
 use Rattle.graph.proofs.Fronts.{flat-front}
 use Rattle.graph_check.specs.Check.{checkOf, Admitted}
 use Rattle.graph_check.proofs.Checked.{check-admitted, admitted-check}
-use Rattle.silent.specs.Silent.{ringless}
+use Rattle.walk_silent.specs.Silent.{ringless}
 use Rattle.base_fixpoint.specs.Pairs.{In, Within}
 use Rattle.confluence.specs.Rounds.{silentHops, marked}
 use Rattle.confluence.specs.Held.{heldBy, markOf, marksOf}

@@ -9,7 +9,7 @@ use Rattle.graph.specs.Answers.{most-states, most-hops, refused}
 use Rattle.graph_check.specs.Check.{checkOf}
 use Rattle.graph.specs.declared.Shape.{Shape}
 use Rattle.graph.specs.declared.Answer.{Answer}
-use Rattle.silent.specs.Silent.{ringless}
+use Rattle.walk_silent.specs.Silent.{ringless}
 use Rattle.confluence.specs.Rounds.{marked}
 use Rattle.confluence.specs.Held.{markOf}
 use Rattle.representatives.specs.Representative.{mapOf}

@@ -14,8 +14,8 @@ use Rattle.graph.specs.declared.Shape.{Shape}
 use Rattle.base_bounded.proofs.Bools.{no-test, eq-or-not}
 use Rattle.base_bounded.proofs.Tests.{any-found, tally-within}
 use Rattle.graph.proofs.Places.{is-yes}
-use Rattle.silent.specs.Silent.{HopOf, leads}
-use Rattle.silent.proofs.Rings.{rank, rank-falls-accepted}
+use Rattle.walk_silent.specs.Silent.{HopOf, leads}
+use Rattle.walk_silent.proofs.Rings.{rank, rank-falls-accepted}
 use Rattle.base_fixpoint.specs.Pairs.{Pairs, In}
 use Rattle.confluence.specs.Held.{isMarked, heldBy}
 use Rattle.confluence.proofs.Held.{held-says, held-at}

@@ -20,7 +20,7 @@ use Rattle.lts.specs.Sense.{Normal}
 use Rattle.lts.specs.Reduction.{Confluent, Rests}
 use Rattle.lts.proofs.Star.{star→joined}
 use Rattle.lts.proofs.Confluence.{rep-normal, joined→rep}
-use Rattle.silent.specs.Silent.{HopOf}
+use Rattle.walk_silent.specs.Silent.{HopOf}
 use Rattle.base_fixpoint.specs.Pairs.{Pairs, In}
 use Rattle.representatives.specs.Representative.{Settles, IsRepresentative, markedFrom, resting, onward, followed, repOf}
 

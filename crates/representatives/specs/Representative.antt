@@ -10,7 +10,7 @@ use Rattle.graph.specs.Hops.{count, from, label, to}
 use Rattle.graph.specs.declared.Shape.{Shape}
 use Rattle.lts.specs.Star.{Joined}
 use Rattle.lts.specs.Sense.{Normal}
-use Rattle.silent.specs.Silent.{HopOf}
+use Rattle.walk_silent.specs.Silent.{HopOf}
 use Rattle.base_fixpoint.specs.Pairs.{Pairs, In}
 
 -- walks along the hops of u come to rest: u is a set of silent hops of the graph, and a rank of at most the state count falls along each, so that they

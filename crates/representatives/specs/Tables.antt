@@ -11,7 +11,7 @@ use Rattle.graph.specs.Hops.{count, from, label, to}
 use Rattle.graph.specs.Answers.{most-states}
 use Rattle.graph_check.specs.Check.{Admitted}
 use Rattle.graph.specs.declared.Shape.{Shape}
-use Rattle.silent.specs.Silent.{ringless}
+use Rattle.walk_silent.specs.Silent.{ringless}
 use Rattle.base_fixpoint.specs.Pairs.{Pairs}
 use Rattle.confluence.specs.Held.{isMarked}
 use Rattle.representatives.specs.Representative.{onward}

@@ -12,7 +12,7 @@ use Rattle.graph_check.specs.Check.{InRange}
 use Rattle.lts.specs.Closes.{Sense, r1, r2, r3, r8, SetOf, Greatest, Implies}
 use Rattle.lts.proofs.Closes.{r1→r2, r1→r3, weakest, set-among}
 use Rattle.lts.proofs.SenseForms.{r1-iff}
-use Rattle.silent.specs.Silent.{HopOf}
+use Rattle.walk_silent.specs.Silent.{HopOf}
 use Rattle.base_fixpoint.specs.Pairs.{Pairs, In, Within}
 use Rattle.base_fixpoint.specs.Rounds.{Monotone, Kept}
 use Rattle.base_fixpoint.proofs.Rounds.{left-within, left-greatest, left-kept, left-same}

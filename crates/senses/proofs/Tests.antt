@@ -17,10 +17,10 @@ use Rattle.lts.specs.Star.{Star, stay, go}
 use Rattle.lts.specs.Closes.{Reach, nowhere, single, walks, Via, here, hop, walk, Sense, Answered, Closes}
 use Rattle.lts.specs.Sense.{Answer}
 use Rattle.lts.proofs.Star.{wider}
-use Rattle.reaching.specs.Reaching.{ChosenOf, leadsBy}
-use Rattle.reaching.proofs.Leads.{leads-self, leads-step, leads-cases, leads-walk, walk-leads}
-use Rattle.silent.specs.Silent.{HopOf}
-use Rattle.silent.proofs.Hops.{silent-end}
+use Rattle.walk_reach.specs.Reaching.{ChosenOf, leadsBy}
+use Rattle.walk_reach.proofs.Leads.{leads-self, leads-step, leads-cases, leads-walk, walk-leads}
+use Rattle.walk_silent.specs.Silent.{HopOf}
+use Rattle.walk_silent.proofs.Hops.{silent-end}
 use Rattle.base_fixpoint.specs.Pairs.{Pairs, In, Within}
 use Rattle.confluence.specs.Rounds.{Trials, tried}
 use Rattle.senses.specs.Senses.{setAt, comes, takes, meets, takesTo, answersFrom, answeredIn, closesIn}

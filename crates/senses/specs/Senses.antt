@@ -10,7 +10,7 @@ use Rattle.graph.specs.Answers.{accepted, refused}
 use Rattle.graph.specs.declared.Answer.{Answer}
 use Rattle.graph.specs.declared.Shape.{Shape}
 use Rattle.lts.specs.Closes.{Reach, nowhere, single, walks, Sense, r1, r2, r3, r8}
-use Rattle.reaching.specs.Reaching.{leadsBy}
+use Rattle.walk_reach.specs.Reaching.{leadsBy}
 use Rattle.base_fixpoint.specs.Pairs.{Pairs}
 use Rattle.base_fixpoint.specs.Rounds.{leftAfter}
 use Rattle.confluence.specs.Rounds.{Trials, tried, silentHops}

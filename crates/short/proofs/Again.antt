@@ -13,9 +13,9 @@ use Rattle.graph.specs.declared.Shape.{Shape}
 use Rattle.graph_check.specs.Check.{Admitted}
 use Rattle.lts.specs.Reduction.{Confluent}
 use Rattle.lts.proofs.Left.{left-ringless}
-use Rattle.silent.specs.Silent.{HopOf, OnRing}
-use Rattle.silent.proofs.Rings.{ringless-iff}
-use Rattle.silent.proofs.Hops.{silent-start}
+use Rattle.walk_silent.specs.Silent.{HopOf, OnRing}
+use Rattle.walk_silent.proofs.Rings.{ringless-iff}
+use Rattle.walk_silent.proofs.Hops.{silent-start}
 use Rattle.base_fixpoint.specs.Pairs.{Pairs, In}
 use Rattle.representatives.specs.Representative.{Settles, resting, mapOf}
 use Rattle.representatives.specs.Tables.{Reducible}

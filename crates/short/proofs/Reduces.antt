@@ -12,7 +12,7 @@ use Rattle.graph.proofs.Places.{has-at, has-place, length-flat, count-flat}
 use Rattle.lts.specs.Reduction.{Confluent, Reduces}
 use Rattle.lts.specs.Left.{Left}
 use Rattle.lts.proofs.Left.{left-reduces}
-use Rattle.silent.specs.Silent.{HopOf}
+use Rattle.walk_silent.specs.Silent.{HopOf}
 use Rattle.base_fixpoint.specs.Pairs.{Pairs, In}
 use Rattle.representatives.specs.Representative.{Settles, resting, newOf, repOf, mapOf}
 use Rattle.representatives.proofs.Resting.{rep-resting, rep-rests}

@@ -15,7 +15,7 @@ use Rattle.base_fixpoint.specs.Pairs.{In}
 use Rattle.lts.specs.Closes.{Reach, single, walks}
 use Rattle.confluence.specs.Held.{isMarked, heldBy}
 use Rattle.confluence.proofs.Held.{held-says, held-yes}
-use Rattle.lining.specs.Line.{Line}
+use Rattle.walk_topological_order.specs.Line.{Line}
 use Rattle.base_bitset.specs.Bits.{inTable}
 use Rattle.base_bitset.proofs.Laws.{table-or, word-of}
 use Rattle.spreading.specs.Spread.{Back, Forth}

@@ -1,7 +1,7 @@
 // What states get from one another along marked hops: a table has one word a state, and each bit of a word is a question of its own. A state takes all
 // that the states it leads to have (`gather`), or gives what it has to those that a marked hop leads to (`pass_once`), or to all that it leads to
-// (`pass_on`). One pass over the line of silent hops (`lining`) does each: the order sees to it that what is given is whole by then, or still the old.
-// It stands on `base_bitset` (words as sets), `lining` (the line) and `confluence` (the set that marks are), and decides nothing of a hop.
+// (`pass_on`). One pass over the line of silent hops (`walk_topological_order`) does each: the order sees to it that what is given is whole by then, or still the old.
+// It stands on `base_bitset` (words as sets), `walk_topological_order` (the line) and `confluence` (the set that marks are), and decides nothing of a hop.
 use base_bitset::sized;
 use graph::MOST_HOPS;
 use graph::MOST_STATES;
@@ -17,7 +17,7 @@ ghost use Rattle.graph_successors.specs.Starts.{Ready};
 ghost use Rattle.base_fixpoint.specs.Pairs.{In};
 ghost use Rattle.lts.specs.Closes.{single, walks};
 ghost use Rattle.confluence.specs.Held.{isMarked, heldBy};
-ghost use Rattle.lining.specs.Line.{Line};
+ghost use Rattle.walk_topological_order.specs.Line.{Line};
 ghost use Rattle.spreading.specs.Spread.{Back, Forth};
 ghost use Rattle.spreading.specs.Given.{given};
 

@@ -19,7 +19,7 @@ use Rattle.base_bounded.proofs.Tests.{any-found, any-at}
 use Rattle.graph.proofs.Lookup.{first-within, range-only}
 use Rattle.graph_successors.proofs.Firsts.{first-is, first-next}
 use Rattle.graph_successors.specs.Starts.{Ready}
-use Rattle.reaching.specs.Front.{noted}
+use Rattle.walk_reach.specs.Front.{noted}
 use Rattle.graph.specs.Map.{mapped}
 use Rattle.faults.specs.Images.{Imaged}
 use Rattle.ticks.specs.Ticks.{seenInClass, ticks, TickedBy, TickedOn}

@@ -21,7 +21,7 @@ use Rattle.graph.proofs.Places.{is-alike}
 use Rattle.graph.proofs.Ordered.{alike-back, alike-then, ascending-place}
 use Rattle.graph.proofs.Lookup.{at-place, gap-has}
 use Rattle.graph_successors.specs.Starts.{Ready}
-use Rattle.reaching.specs.Front.{noted}
+use Rattle.walk_reach.specs.Front.{noted}
 use Rattle.graph.specs.Map.{mapped}
 use Rattle.faults.specs.Images.{mappedHop, nowhere, placeOf, imageOf}
 use Rattle.ticks.specs.Ticks.{seenInClass, ticks, TickedBy}

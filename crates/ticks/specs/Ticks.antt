@@ -11,7 +11,7 @@ use Rattle.graph.specs.Hops.{count, from, label, to, is}
 use Rattle.graph.specs.Map.{mapped}
 use Rattle.graph.specs.declared.Shape.{Shape}
 use Rattle.graph_successors.specs.Starts.{Table}
-use Rattle.reaching.specs.Front.{noted}
+use Rattle.walk_reach.specs.Front.{noted}
 use Rattle.faults.specs.Images.{Auditable, Imaged}
 
 -- what ticking has at hand: the two graphs and the map, the first places of graph 1, and the places of its hops in graph 2

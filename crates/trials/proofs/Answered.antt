@@ -16,7 +16,7 @@ use Rattle.base_bounded.proofs.Bools.{lt-or-le, eq-or-not, and-yes, and-left, a
 use Rattle.base_bounded.proofs.Tests.{any-found, any-at}
 use Rattle.graph.specs.Hops.{count, from, label, to}
 use Rattle.graph.proofs.Places.{has-place, place-has}
-use Rattle.silent.specs.Silent.{HopOf}
+use Rattle.walk_silent.specs.Silent.{HopOf}
 use Rattle.base_bitset.specs.Bits.{inTable, bitAt}
 use Rattle.base_bitset.proofs.Laws.{bit-and, table-or, table-out, word-of, or-nothing}
 use Rattle.trials.specs.Trials.{Still, Answering}

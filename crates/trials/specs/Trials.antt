@@ -5,7 +5,7 @@ use mathlib.Core.Bool.{true, _&&_}
 use mathlib.Core.List.{List}
 use mathlib.Core.Logic.{_⊎_, _↔_}
 use lib.Dec.{eqb, ltb}
-use Rattle.silent.specs.Silent.{HopOf}
+use Rattle.walk_silent.specs.Silent.{HopOf}
 use Rattle.base_bitset.specs.Bits.{inTable}
 
 -- the table has bit b where the number `key` of the hop at place base + b says, and nowhere else; `key` is from, label or to

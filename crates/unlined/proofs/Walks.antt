@@ -6,8 +6,8 @@ use mathlib.Core.List.{List}
 use lib.Dec.{eqb}
 use Rattle.base_bounded.specs.Tests.{any, least}
 use Rattle.graph.specs.declared.Shape.{Shape}
-use Rattle.reaching.specs.Reaching.{leadsBy}
-use Rattle.silent.specs.Silent.{leads, onRing, lowestOnRing, ringless}
+use Rattle.walk_reach.specs.Reaching.{leadsBy}
+use Rattle.walk_silent.specs.Silent.{leads, onRing, lowestOnRing, ringless}
 use Rattle.unlined.specs.Unlined.{Unlined}
 use Rattle.unlined.proofs.Checks.{count-same, from-same, label-same, to-same, labelled-same}
 

@@ -1,7 +1,7 @@
 // Marking by the weaker senses of RR-7000, behind the refusals. Marks start at 1 for every silent hop, and sweeps over all batches of hops go on until one
 // takes nothing (`batches`). Between two sweeps only those batches are run again that what fell can have touched; which these are is a guess that nothing
 // rests on, since the last sweep runs all. When that takes nothing the marks are the marked set's, in whatever order the others fell.
-// It stands on `senses` (what is marked), `sweeps` (what marks keep while they fall, for any condition) and `lining` (the order of silent hops).
+// It stands on `senses` (what is marked), `sweeps` (what marks keep while they fall, for any condition) and `walk_topological_order` (the order of silent hops).
 use base_bitset::WORD_BITS;
 use base_bitset::bit_of;
 use batches::batch_len;
@@ -14,7 +14,7 @@ use graph::hops::hop_at;
 use graph::hops::hop_count;
 use graph_successors::STARTS;
 use graph_successors::wide;
-use lining::line_of;
+use walk_topological_order::line_of;
 ghost use mathlib.Core.Path.{_≡_};
 ghost use Prim.Native.Nat.{_+_, _*_, _<_, _≤_};
 ghost use lib.ListN.{length};
@@ -22,7 +22,7 @@ ghost use Rattle.base_outputs.specs.Output.{onFront};
 ghost use Rattle.graph.specs.Hops.{count};
 ghost use Rattle.graph.specs.Answers.{most-hops};
 ghost use Rattle.graph_successors.specs.Starts.{Ready, Tabled};
-ghost use Rattle.silent.specs.Silent.{ringless};
+ghost use Rattle.walk_silent.specs.Silent.{ringless};
 ghost use Rattle.confluence.specs.Held.{marksOf};
 ghost use Rattle.sweeps.specs.Sweep.{Marking, Swept};
 ghost use Rattle.senses.specs.Senses.{senseOf, markedBy};

@@ -1,0 +1,29 @@
+-- Ranks: a ranked state has byte 1; all its silent hops lead to states ranked before it, so that it is on no ring.
+-- Assumes nothing: these are definitions.
+use Prim.Native.Nat.{ℕ, _+_, _<_, _≤_}
+use mathlib.Core.Path.{_≡_}
+use mathlib.Core.Bool.{Bool, true, not, _||_}
+use mathlib.Core.List.{List}
+use lib.ListN.{length}
+use Rattle.base_bounded.specs.Tests.{all, tally}
+use Rattle.graph.specs.Hops.{count, to, labelled}
+use Rattle.walk_reach.specs.Front.{noted}
+use Rattle.walk_silent.specs.Silent.{OnRing}
+
+-- every silent hop of v leads to a noted state
+unfoldable pub endsNoted : List ℕ → List ℕ → ℕ → Bool
+endsNoted hs ranked v = all (count hs) (λ (i : ℕ). not (labelled hs v 0 i) || noted ranked (to hs i))
+
+-- no noted one of n states is on a ring
+abbrev pub Unringed : List ℕ → ℕ → List ℕ → Type 0
+Unringed hs n ranked = (t : ℕ) → t < n → noted ranked t ≡ true → OnRing hs t → ⊥
+
+-- a byte for each of n states, and no ranked one is on a ring
+pub record Ranks (hs : List ℕ) (n : ℕ) (ranked : List ℕ) : Type 0 where
+  pub room : n ≤ length ranked
+  pub unringed : Unringed hs n ranked
+
+-- at least r states more are ranked, and none of them is on a ring
+pub record Ranked (hs : List ℕ) (n : ℕ) (ranked ranked′ : List ℕ) (r : ℕ) : Type 0 where
+  pub unringed : Unringed hs n ranked′
+  pub gained : tally n (noted ranked) + r ≤ tally n (noted ranked′)

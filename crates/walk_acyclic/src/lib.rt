@@ -1,0 +1,249 @@
+// Ranking: which states are certainly on no ring, for the answer of row 5. A state all of whose silent hops lead to ranked states is ranked, and so
+// on no ring. Where silent hops lead upward, one pass in descending order ranks every state. Where states are left, a search along the silent hops
+// visits what a state leads to before the state itself, so that all that can be ranked is, and no hop is passed more than a few times. The search only
+// says in which order: each state is ranked by `rank_one`, which looks at its hops. It stands on the table of first places and on what `walk_silent`
+// calls a ring.
+use graph::MOST_STATES;
+use graph::OldState;
+use graph::Shape;
+use graph::hops::from_at;
+use graph::hops::hop_count;
+use graph::hops::label_at;
+use graph::hops::to_at;
+use graph_successors::STARTS;
+use graph_successors::start_of;
+use graph_successors::wide;
+ghost use mathlib.Core.Path.{_≡_};
+ghost use Prim.Native.Nat.{_<_, _≤_};
+ghost use lib.ListN.{length};
+ghost use Rattle.graph.specs.Answers.{most-states, most-hops};
+ghost use Rattle.graph.specs.Hops.{count};
+ghost use Rattle.graph_check.specs.Check.{Admitted};
+ghost use Rattle.graph_successors.specs.Starts.{Tabled};
+ghost use Rattle.walk_acyclic.specs.Ranks.{endsNoted, Ranks, Ranked};
+
+// Whether every silent hop of v leads to a ranked state. The silent hops are the first of its hops.
+pub fn ends_ranked(
+    shape: Shape,
+    hops: &[u16],
+    starts: &[u16; STARTS],
+    v: OldState,
+    ranked: &[u8],
+) -> bool
+    requires tabled { ⌜ Tabled shape (now hops) (now starts) ⌝ }
+    requires room { ⌜ shape .states ≤ length (now ranked) ⌝ }
+    requires state { ⌜ v .0 < shape .states ⌝ }
+    ensures { λ r. ⌜ r ≡ endsNoted (now (hops .entry)) (now (ranked .entry)) (v .0) ⌝ }
+{
+    let s = wide(v.0);
+    let past = start_of(starts, s + 1);
+    let mut i = start_of(starts, s);
+    while i < past {
+        if label_at(hops, i).0 != 0 {
+            return true;
+        }
+        let at = wide(to_at(hops, i).0);
+        if ranked[at] != 1 {
+            return false;
+        }
+        i += 1;
+    }
+    true
+}
+
+// Ranks v if it can be ranked now; returns how many states that ranked.
+fn rank_one(
+    shape: Shape,
+    hops: &[u16],
+    starts: &[u16; STARTS],
+    v: OldState,
+    ranked: &mut [u8],
+) -> usize
+    requires tabled { ⌜ Tabled shape (now hops) (now starts) ⌝ }
+    requires state { ⌜ v .0 < shape .states ⌝ }
+    requires ranks { ⌜ Ranks (now hops) (shape .states) (now ranked) ⌝ }
+    ensures { λ r. ⌜ Ranked (now (hops .entry)) (shape .states) (now (ranked .entry)) (now (ranked .exit)) r ⌝ }
+{
+    let at = v.0 as usize;
+    if ranked[at] == 1 {
+        return 0;
+    }
+    if !ends_ranked(shape, hops, starts, v, ranked) {
+        return 0;
+    }
+    ranked[at] = 1;
+    1
+}
+
+// Goes once through the states, downward; returns how many it ranked.
+fn rank_once(shape: Shape, hops: &[u16], starts: &[u16; STARTS], ranked: &mut [u8]) -> usize
+    requires tabled { ⌜ Tabled shape (now hops) (now starts) ⌝ }
+    requires ranks { ⌜ Ranks (now hops) (shape .states) (now ranked) ⌝ }
+    ensures { λ r. ⌜ Ranked (now (hops .entry)) (shape .states) (now (ranked .entry)) (now (ranked .exit)) r ⌝ }
+{
+    let mut got = 0;
+    let mut v = shape.states as usize;
+    while 0 < v {
+        v -= 1;
+        got += rank_one(shape, hops, starts, OldState(v as u16), ranked);
+    }
+    got
+}
+
+// Whether the search may still enter t: it is neither ranked nor entered.
+fn is_fresh(shape: Shape, t: OldState, ranked: &[u8], entered: &[u8; MOST_STATES]) -> bool
+    requires most { ⌜ shape .states ≤ most-states ⌝ }
+    requires room { ⌜ shape .states ≤ length (now ranked) ⌝ }
+    requires state { ⌜ t .0 < shape .states ⌝ }
+{
+    let at = wide(t.0);
+    (ranked[at] != 1) & (entered[at] == 0)
+}
+
+// Enters t and notes the place of the hop by which it is entered.
+fn enter(t: OldState, place: usize, entered: &mut [u8; MOST_STATES], via: &mut [u16; MOST_STATES])
+    requires state { ⌜ t .0 < most-states ⌝ }
+    requires place { ⌜ place ≤ most-hops ⌝ }
+{
+    let at = wide(t.0);
+    entered[at] = 1;
+    via[at] = place as u16;
+}
+
+// The place of the hop by which t was entered.
+fn way_to(t: OldState, via: &[u16; MOST_STATES]) -> usize
+    requires state { ⌜ t .0 < most-states ⌝ }
+{
+    let at = wide(t.0);
+    wide(via[at])
+}
+
+// The first place from `first` on, and before `past`, whose hop leads to a state that the search may enter, if no labelled hop stands before it; else
+// `past`.
+fn next_fresh(
+    shape: Shape,
+    hops: &[u16],
+    first: usize,
+    past: usize,
+    ranked: &[u8],
+    entered: &[u8; MOST_STATES],
+) -> usize
+    requires admitted { ⌜ Admitted shape (now hops) ⌝ }
+    requires places { ⌜ past ≤ count (now hops) ⌝ }
+    requires room { ⌜ shape .states ≤ length (now ranked) ⌝ }
+{
+    let mut i = first;
+    while i < past {
+        if label_at(hops, i).0 != 0 {
+            return past;
+        }
+        if is_fresh(shape, to_at(hops, i), ranked, entered) {
+            return i;
+        }
+        i += 1;
+    }
+    past
+}
+
+// Enters a state that v leads to by a silent hop from the place on, then one that this leads to, and so on until there is none to enter; returns the
+// last. No state is entered twice, so that there are no more turns than states.
+fn climb(
+    shape: Shape,
+    hops: &[u16],
+    starts: &[u16; STARTS],
+    v: OldState,
+    place: usize,
+    ranked: &[u8],
+    entered: &mut [u8; MOST_STATES],
+    via: &mut [u16; MOST_STATES],
+) -> OldState
+    requires tabled { ⌜ Tabled shape (now hops) (now starts) ⌝ }
+    requires room { ⌜ shape .states ≤ length (now ranked) ⌝ }
+    requires state { ⌜ v .0 < shape .states ⌝ }
+    ensures { λ r. ⌜ r .0 < shape .states ⌝ }
+{
+    let mut top = v;
+    let mut i = place;
+    let mut left = shape.states;
+    while 0 < left {
+        let past = start_of(starts, wide(top.0) + 1);
+        i = next_fresh(shape, hops, i, past, ranked, entered);
+        if past <= i {
+            return top;
+        }
+        top = to_at(hops, i);
+        enter(top, i, entered, via);
+        i = start_of(starts, wide(top.0));
+        left -= 1;
+    }
+    top
+}
+
+// Ranks what v leads to and then v, as far as they can be ranked, unless v was entered before; returns how many states that ranked. Every state is
+// left once, so that there are no more turns than states; the way back from v itself is past the last hop.
+fn rank_from(
+    shape: Shape,
+    hops: &[u16],
+    starts: &[u16; STARTS],
+    v: OldState,
+    entered: &mut [u8; MOST_STATES],
+    via: &mut [u16; MOST_STATES],
+    ranked: &mut [u8],
+) -> usize
+    requires tabled { ⌜ Tabled shape (now hops) (now starts) ⌝ }
+    requires state { ⌜ v .0 < shape .states ⌝ }
+    requires ranks { ⌜ Ranks (now hops) (shape .states) (now ranked) ⌝ }
+    ensures { λ r. ⌜ Ranked (now (hops .entry)) (shape .states) (now (ranked .entry)) (now (ranked .exit)) r ⌝ }
+{
+    if !is_fresh(shape, v, ranked, entered) {
+        return 0;
+    }
+    let none = hop_count(hops);
+    enter(v, none, entered, via);
+    let mut from = v;
+    let mut i = start_of(starts, wide(v.0));
+    let mut got = 0;
+    let mut left = shape.states;
+    while 0 < left {
+        let top = climb(shape, hops, starts, from, i, ranked, entered, via);
+        got += rank_one(shape, hops, starts, top, ranked);
+        i = way_to(top, via);
+        if none <= i {
+            return got;
+        }
+        from = from_at(hops, i);
+        i += 1;
+        left -= 1;
+    }
+    got
+}
+
+// Ranks every state that can be: by one pass and, where that leaves states, by a search from each that is left; returns how many states
+// that ranked.
+pub fn rank_all(shape: Shape, hops: &[u16], starts: &[u16; STARTS], ranked: &mut [u8]) -> usize
+    requires tabled { ⌜ Tabled shape (now hops) (now starts) ⌝ }
+    requires ranks { ⌜ Ranks (now hops) (shape .states) (now ranked) ⌝ }
+    ensures { λ r. ⌜ Ranked (now (hops .entry)) (shape .states) (now (ranked .entry)) (now (ranked .exit)) r ⌝ }
+{
+    let first = rank_once(shape, hops, starts, ranked);
+    let mut v = shape.states as usize;
+    if first == v {
+        return first;
+    }
+    let mut entered = [0u8; MOST_STATES];
+    let mut via = [0u16; MOST_STATES];
+    let mut got = 0;
+    while 0 < v {
+        v -= 1;
+        got += rank_from(
+            shape,
+            hops,
+            starts,
+            OldState(v as u16),
+            &mut entered,
+            &mut via,
+            ranked,
+        );
+    }
+    first + got
+}

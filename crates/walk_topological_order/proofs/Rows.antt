@@ -1,0 +1,106 @@
+-- A row of silent hops that is put at the end of the line, hop by hop. Assumes nothing.
+use Prim.Native.Nat.{ℕ, _+_, _-_, _<_, _≤_}
+use mathlib.Core.Path.{_≡_, refl, _∙_}
+use mathlib.Core.Bool.{true}
+use mathlib.Core.List.{List}
+use mathlib.Core.Logic.{_⊎_, inl, inr}
+use native.Mathlib.Omega.{arith}
+use lib.ListN.{length, getD, set, length-set}
+use lib.Seq.{getD-set-same, getD-set-other}
+use Rattle.base_bounded.specs.Tests.{tally}
+use Rattle.base_bounded.proofs.Bools.{lt-or-le}
+use Rattle.base_bounded.proofs.Tests.{tally-more}
+use Rattle.base_bounded.proofs.Tallies.{tally-past}
+use Rattle.graph.specs.Hops.{count, label, labelled}
+use Rattle.graph.specs.Order.{Ascending}
+use Rattle.graph.specs.Search.{firstOf, pastOf, labelledPast}
+use Rattle.graph.proofs.Places.{labelled-parts}
+use Rattle.graph_successors.proofs.Firsts.{range-more}
+use Rattle.graph_successors.proofs.Rows.{labelled-holds, labelled-only, labelled-past, silent-first}
+use Rattle.walk_topological_order.specs.Lined.{Put}
+
+-- the places from lo up to i, all of silent hops of v, stand behind the first n of the line, which has r then
+pub record Putting (hs : List ℕ) (v lo : ℕ) (line : List ℕ) (n : ℕ) (line′ : List ℕ) (i r : ℕ) : Type 0 where
+  pub long : length line′ ≡ length line
+  pub passed : lo ≤ i
+  pub within : i ≤ count hs
+  pub longer : r + lo ≡ n + i
+  pub few : r ≤ n + tally (count hs) (labelled hs v 0)
+  pub few-yet : r ≤ n + tally i (labelled hs v 0)
+  pub kept : (k : ℕ) → k < n → getD line′ k 0 ≡ getD line k 0
+  pub fresh : (k : ℕ) → n ≤ k → k < r → getD line′ k 0 + n ≡ k + lo
+  pub silent : (j : ℕ) → lo ≤ j → j < i → labelled hs v 0 j ≡ true
+
+module _ {hs : List ℕ} {v lo : ℕ} {line : List ℕ} {n : ℕ} where
+  pub putting-none : lo ≤ count hs → Putting hs v lo line n line lo n
+  putting-none w = record {
+    long = refl;
+    passed = omega arith;
+    within = w;
+    longer = refl;
+    few = omega arith;
+    few-yet = omega arith;
+    kept = λ k l. refl;
+    fresh = λ k l m. absurd (omega arith);
+    silent = λ j l m. absurd (omega arith);
+  }
+
+  -- there is room for a silent hop of v more
+  pub putting-room : {line′ : List ℕ} {i r : ℕ} → Putting hs v lo line n line′ i r → i < count hs → labelled hs v 0 i ≡ true →
+      r < n + tally (count hs) (labelled hs v 0)
+  putting-room {i = i} p l e = omega (arith, p .few-yet, tally-past (labelled hs v 0) (count hs) {i = i} l e)
+
+  pub putting-more : {line′ : List ℕ} {i r : ℕ} → Putting hs v lo line n line′ i r → i < count hs → labelled hs v 0 i ≡ true → r < length line →
+      Putting hs v lo line n (set line′ r i) (i + 1) (r + 1)
+  putting-more {line′} {i} {r} p l e room = record {
+    long = length-set line′ r i ∙ p .long;
+    passed = omega (arith, p .passed);
+    within = omega arith;
+    longer = omega (arith, p .longer);
+    few = omega (arith, putting-room p l e);
+    few-yet = omega (arith, p .few-yet, tally-more (labelled hs v 0) i refl e);
+    kept = λ k m. getD-set-other line′ r k i 0 (λ q. omega (arith, p .longer, p .passed)) ∙ p .kept k m;
+    fresh = λ k a b. go k a (lt-or-le k r) b;
+    silent = range-more (p .silent) e;
+  } where
+    go : (k : ℕ) → n ≤ k → (k < r) ⊎ (r ≤ k) → k < r + 1 → getD (set line′ r i) k 0 + n ≡ k + lo
+    go k a (inl m) b = rw (getD-set-other line′ r k i 0 (λ q. omega arith)) (p .fresh k a m)
+    go k a (inr m) b =
+        let q : k ≡ r = omega arith in
+        rw (q, getD-set-same line′ r i 0 (rw (p .long) room)) (omega (arith, p .longer))
+
+  -- no silent hop of v stands at i, and so none from there on
+  pub putting-done : {line′ : List ℕ} {i r hi : ℕ} → Ascending hs → lo ≡ firstOf hs v → hi ≡ firstOf hs (v + 1) → Putting hs v lo line n line′ i r →
+      (i < hi → label hs i ≡ 0 → ⊥) → Put hs v line n line′ r
+  unfolding pastOf
+  putting-done {line′} {i} {r} {hi} up lo-is hi-is p g = record {
+    long = p .long;
+    later = omega (arith, p .longer, p .passed);
+    few = p .few;
+    kept = p .kept;
+    own = λ k a b. let q : getD line′ k 0 + n ≡ k + lo = p .fresh k a b in
+        (omega (arith, p .longer, p .within), p .silent (getD line′ k 0) (omega arith) (omega (arith, p .longer)));
+    every = λ j l e. there j (inside j l e);
+  } where
+    before : (j : ℕ) → j < labelledPast hs v 0 → (j < i) ⊎ (i ≤ j) → j < i
+    before j m (inl k) = k
+    before j m (inr k) =
+        let (w, d) = labelled-only hs up v 0 {i = i} (omega (arith, lo-is, silent-first hs v, p .passed)) (omega arith) in
+        absurd (g (omega (arith, hi-is, labelled-past hs up v 0)) (labelled-parts hs v 0 i d .1))
+
+    inside : (j : ℕ) → j < count hs → labelled hs v 0 j ≡ true → (lo ≤ j) × (j < i)
+    inside j l e = let (a, b) = labelled-holds hs up v 0 l e in (omega (arith, lo-is, silent-first hs v), before j b (lt-or-le j i))
+
+    there : (j : ℕ) → (lo ≤ j) × (j < i) → (k : ℕ) × (n ≤ k) × (k < r) × (getD line′ k 0 ≡ j)
+    there j (a, b) =
+        let x : n ≤ (n + j) - lo = omega arith in
+        let y : (n + j) - lo < r = omega (arith, p .longer) in
+        ((n + j) - lo, x, y, omega (arith, p .fresh ((n + j) - lo) x y))
+
+-- the same, where the state is told twice
+module _ (hs : List ℕ) {s v : ℕ} (e : s ≡ v) where
+  pub row-told : tally (count hs) (labelled hs s 0) ≡ tally (count hs) (labelled hs v 0)
+  row-told = rw e
+
+  pub put-told : {line line′ : List ℕ} {n r : ℕ} → Put hs s line n line′ r → Put hs v line n line′ r
+  put-told p = rw (← e) p

@@ -1,0 +1,83 @@
+-- `walk_topological_order::place_each` meets its contract. The invariant: there is a line, and the states tried so far are placed or cannot be, if none was placed. Assumes nothing.
+use Prim.Native.Nat.{_-_, _<_}
+use mathlib.Core.Path.{_≡_, refl, _∙_}
+use native.Mathlib.Omega.{arith}
+use borrow.Author.Needs.{needs}
+use lib.ListN.{length}
+use Rattle.walk_topological_order.specs.Lined.{Lined, Tried}
+use Rattle.walk_topological_order.proofs.Lines.{Turned, tried-none, tried-more, turned-below, pass-more}
+use Rattle.walk_topological_order.proofs.place_each.Statement.{statement}
+use Rattle.walk_topological_order.proofs.place_each.Tie as tie
+
+abbrev Inv-loop : tie.InvT-loop
+Inv-loop shape hops starts down placed₀ line₀ n got₀ k₀ placed line got k =
+    (length placed ≡ length placed₀) × Lined hops (shape .states) placed line got ×
+    Tried hops (Turned (shape .states) down k) placed₀ (got₀ .states) placed (got .states)
+
+abbrev μ-loop : tie.MeasureT-loop
+μ-loop shape hops starts down placed₀ line₀ n got₀ k₀ placed line got k = n - k
+
+cast-n : tie.Need-cast-n Inv-loop μ-loop
+cast-n c = search needs
+
+abbrev start : tie.At-loop Inv-loop μ-loop → tie.Start Inv-loop μ-loop
+start a = a .before .before .before .before
+
+loop-holds : tie.Need-loop-holds Inv-loop μ-loop
+loop-holds c = let s = c .before .before .before in (refl, s .pre .1 .1, tried-none _ (s .args .shape .states) (s .args .down) _ _)
+
+turn-requires : tie.Need-turn-requires Inv-loop μ-loop
+turn-requires c κs = c .loop-test .taken
+
+-- the state that is tried
+in-range : (c : tie.After-turn Inv-loop μ-loop) → c .turn .result < start (c .before .before) .args .shape .states
+in-range c = turned-below _ (start (c .before .before) .args .down) (c .turn .ensures) (c .before .loop-test .taken)
+
+cast-t14 : tie.Need-cast-t14 Inv-loop μ-loop
+cast-t14 c = omega (arith, in-range c, start (c .before .before) .pre .0 .admitted .states-most)
+
+place-one-requires : tie.Need-place-one-requires Inv-loop μ-loop
+place-one-requires c κs =
+    let a = c .before .before .before .before in
+    (start a .pre .0, (in-range (c .before .before), a .loop .inv .1))
+
+add-k : tie.Need-add-k Inv-loop μ-loop
+add-k c =
+    let w = c .before .before .before .before .before .before in
+    omega (arith, w .loop-test .taken, start (w .before) .pre .0 .admitted .states-most)
+
+loop-less : tie.Need-loop-less Inv-loop μ-loop
+loop-less c = omega (arith, c .before .before .before .before .before .before .loop-test .taken)
+
+loop-again : tie.Need-loop-again Inv-loop μ-loop
+loop-again c =
+    let p = c .before .before .place-one in
+    let t = c .before .before .before .before .before in
+    let a = t .before .before in
+    (p .kept .1 .1 .1 .1 .0 ∙ a .loop .inv .0, p .ensures .0, tried-more (start a .args .shape .states) (start a .args .down) (a .loop .k) (t .turn .ensures) (a .loop .inv .2) (p .ensures .1))
+
+same-length : tie.Need-same-length Inv-loop μ-loop
+same-length c = c .before .loop .inv .0
+
+returns : tie.Need-returns Inv-loop μ-loop
+returns c =
+    let s = start (c .before) in
+    let i = c .before .loop .inv in
+    record { lined = i .1; more = pass-more (s .pre .0 .admitted .range) (s .pre .1 .0) (s .pre .1 .1) (s .args .down) (i .2) (c .loop-test .left) }
+
+pub place-each-spec : {M : Type 1} → statement M
+place-each-spec =
+    tie.close
+    (tie.spec
+    Inv-loop
+    μ-loop
+    cast-n
+    loop-holds
+    turn-requires
+    cast-t14
+    place-one-requires
+    add-k
+    loop-less
+    loop-again
+    same-length
+    returns)
