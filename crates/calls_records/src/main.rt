@@ -1,6 +1,6 @@
 // A program for tests: the two entries over records, `check_records` and `mark_records`, over P1, bad input, the senses and the limits. What they answer is
 // printed and held to the file stdout. An element of the output for marks that was not written is 7.
-// Stands on records (the entries) and show (how it is printed).
+// Stands on mark_entry_records (the entries) and show (how it is printed).
 use graph::Answer;
 use graph::Hop;
 use graph::MOST_HOPS;
@@ -11,8 +11,8 @@ use graph::hops::hop_count;
 use graph::hops::lined_hop;
 use graph::hops::part;
 use graph::hops::put_hop;
-use records::check_records;
-use records::mark_records;
+use mark_entry_records::check_records;
+use mark_entry_records::mark_records;
 use show::answer;
 use show::bytes;
 use show::number;

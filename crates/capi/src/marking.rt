@@ -7,10 +7,10 @@ ghost use mathlib.Core.Path.{_≡_};
 ghost use mathlib.Core.List.{[]};
 ghost use lib.ListN.{length};
 ghost use Rattle.graph_check.specs.Check.{checkOf};
-ghost use Rattle.marks.specs.Mark.{markAnswer, markOutput};
-ghost use Rattle.rounds.specs.Question.{questionAnswer, questionOf};
+ghost use Rattle.mark_entry.specs.Mark.{markAnswer, markOutput};
+ghost use Rattle.mark_entry_round.specs.Question.{questionAnswer, questionOf};
 ghost use Rattle.answers.specs.Numbers.{shapeOf, numbersOf, returned, told, unlessShort};
-ghost use Rattle.fast.specs.Fast.{countedOf};
+ghost use Rattle.mark_entry_fast.specs.Fast.{countedOf};
 ghost use Rattle.tells_marking.specs.Numbers.{roundNumbers, countedNumbers};
 
 #[no_mangle]

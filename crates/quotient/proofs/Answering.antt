@@ -18,7 +18,7 @@ use Rattle.base_bounded.proofs.Bools.{clash, or-yes, lt-or-le}
 use Rattle.graph_check.proofs.Checked.{check-admitted}
 use Rattle.walk_silent.specs.Silent.{ringless}
 use Rattle.graph.proofs.Accepts.{then-first, then-next, both-accept, room-accepts}
-use Rattle.senses.specs.Senses.{senseAnswer}
+use Rattle.mark_senses.specs.Senses.{senseAnswer}
 use Rattle.representatives.specs.Tables.{Reducible}
 use Rattle.quotient.specs.Reduce.{reduceAnswer, reduction, reduceOf, markedMap, markedHops, mapOutput, shortOutput}
 use Rattle.quotient.specs.Refusal.{refusal, laterAnswer}

@@ -16,11 +16,11 @@ use Rattle.lts.proofs.SenseForms.{set-confluent}
 use Rattle.walk_silent.specs.Silent.{HopOf}
 use Rattle.walk_silent.proofs.Rings.{rank}
 use Rattle.base_fixpoint.specs.Pairs.{Pairs, In, Within}
-use Rattle.confluence.specs.Rounds.{silentHops}
-use Rattle.confluence.specs.Held.{marksOf, heldBy}
-use Rattle.confluence.proofs.Marks.{marks-room, marks-silent, held-set}
-use Rattle.senses.specs.Senses.{markedIn, senseOf, markedBy}
-use Rattle.senses.proofs.Marked.{in-silent, marked-of}
+use Rattle.mark_confluence.specs.Rounds.{silentHops}
+use Rattle.mark_confluence.specs.Held.{marksOf, heldBy}
+use Rattle.mark_confluence.proofs.Marks.{marks-room, marks-silent, held-set}
+use Rattle.mark_senses.specs.Senses.{markedIn, senseOf, markedBy}
+use Rattle.mark_senses.proofs.Marked.{in-silent, marked-of}
 use Rattle.representatives.specs.Representative.{Settles}
 use Rattle.representatives.specs.Tables.{Reducible, SilentMarks}
 use Rattle.representatives.proofs.Marked.{falls, silent-settles}

@@ -9,7 +9,7 @@ use Rattle.lts.specs.Closes.{Sense}
 use Rattle.lts.specs.Reduction.{Reduces}
 use Rattle.walk_silent.specs.Silent.{HopOf}
 use Rattle.base_fixpoint.specs.Pairs.{In}
-use Rattle.senses.specs.Senses.{markedIn}
+use Rattle.mark_senses.specs.Senses.{markedIn}
 use Rattle.representatives.specs.Representative.{mapOf}
 use Rattle.representatives.specs.Tables.{Reducible}
 use Rattle.short.specs.Short.{shortHops, shortShape}

@@ -10,7 +10,7 @@ use Rattle.graph.specs.declared.Shape.{Shape}
 use Rattle.lts.specs.Sense.{Normal}
 use Rattle.lts.specs.Closes.{Sense}
 use Rattle.base_fixpoint.specs.Pairs.{In}
-use Rattle.senses.specs.Senses.{markedIn}
+use Rattle.mark_senses.specs.Senses.{markedIn}
 use Rattle.representatives.specs.Representative.{IsRepresentative, resting, onward, newOf, repOf, mapOf}
 use Rattle.representatives.specs.Tables.{Reducible}
 use Rattle.representatives.proofs.Resting.{resting-iff, resting-stays, rep-represents}

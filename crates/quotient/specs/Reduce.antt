@@ -13,7 +13,7 @@ use Rattle.graph.specs.declared.Hop.{Hop}
 use Rattle.graph.specs.declared.Shape.{Shape}
 use Rattle.graph.specs.declared.Answer.{Answer}
 use Rattle.walk_silent.specs.Silent.{ringless}
-use Rattle.senses.specs.Senses.{markedBy, senseAnswer}
+use Rattle.mark_senses.specs.Senses.{markedBy, senseAnswer}
 use Rattle.representatives.specs.Representative.{mapOf}
 use Rattle.short.specs.Short.{shortHops, shortShape, mapList}
 use Rattle.quotient.specs.declared.Reduction.{Reduction}

@@ -6,7 +6,7 @@ use Rattle.graph.specs.Answers.{andThen, roomFor}
 use Rattle.graph.specs.declared.Shape.{Shape}
 use Rattle.graph.specs.declared.Answer.{Answer}
 use Rattle.walk_silent.specs.Silent.{ringless}
-use Rattle.senses.specs.Senses.{senseAnswer}
+use Rattle.mark_senses.specs.Senses.{senseAnswer}
 use Rattle.quotient.specs.Reduce.{noShape}
 use Rattle.quotient.specs.declared.Reduction.{Reduction}
 

@@ -8,7 +8,7 @@ use Rattle.graph.specs.Hops.{flat}
 use Rattle.graph.specs.Map.{mapped}
 use Rattle.graph.specs.declared.Shape.{Shape}
 use Rattle.base_fixpoint.specs.Pairs.{Pairs}
-use Rattle.confluence.specs.Held.{heldBy}
+use Rattle.mark_confluence.specs.Held.{heldBy}
 use Rattle.short.specs.Short.{shortHops, shortShape, mapList}
 use Rattle.reducing.specs.declared.ShortGraph.{ShortGraph}
 

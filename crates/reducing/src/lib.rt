@@ -14,7 +14,7 @@ ghost use Prim.Native.Nat.{_<_, _≤_};
 ghost use lib.ListN.{length};
 ghost use Rattle.graph.specs.Answers.{most-states};
 ghost use Rattle.graph_check.specs.Check.{Admitted};
-ghost use Rattle.confluence.specs.Held.{heldBy};
+ghost use Rattle.mark_confluence.specs.Held.{heldBy};
 ghost use Rattle.representatives.specs.Representative.{Settles};
 ghost use Rattle.representatives.specs.Tables.{SilentMarks};
 ghost use Rattle.reducing.specs.Reducing.{shapeBy, shortGraph, mapLeft, shortLeft};

@@ -12,8 +12,8 @@ use Rattle.graph.specs.declared.Shape.{Shape}
 use Rattle.lts.specs.Closes.{r8}
 use Rattle.lts.proofs.Once.{once}
 use Rattle.base_fixpoint.specs.Pairs.{Pairs, In}
-use Rattle.senses.specs.Senses.{markedIn, senseOf}
-use Rattle.senses.proofs.Marked.{marked-of, holds-every}
+use Rattle.mark_senses.specs.Senses.{markedIn, senseOf}
+use Rattle.mark_senses.proofs.Marked.{marked-of, holds-every}
 use Rattle.representatives.specs.Representative.{mapOf}
 use Rattle.representatives.specs.Tables.{Reducible}
 use Rattle.representatives.proofs.Resting.{rep-rests}

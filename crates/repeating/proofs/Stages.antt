@@ -14,8 +14,8 @@ use Rattle.graph.specs.Hops.{count, from, label, to}
 use Rattle.graph.specs.declared.Shape.{Shape}
 use Rattle.graph.proofs.Places.{has-place, length-flat}
 use Rattle.base_fixpoint.specs.Pairs.{In}
-use Rattle.senses.specs.Senses.{senseOf, setAt}
-use Rattle.senses.proofs.Marked.{marked-of}
+use Rattle.mark_senses.specs.Senses.{senseOf, setAt}
+use Rattle.mark_senses.proofs.Marked.{marked-of}
 use Rattle.representatives.specs.Tables.{Reducible}
 use Rattle.short.proofs.Again.{short-all}
 use Rattle.quotient.specs.Reduce.{markedHops}

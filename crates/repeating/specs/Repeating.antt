@@ -8,7 +8,7 @@ use Rattle.graph.specs.Hops.{count, same, flat}
 use Rattle.graph.specs.declared.Hop.{Hop}
 use Rattle.graph.specs.declared.Shape.{Shape}
 use Rattle.base_fixpoint.specs.Pairs.{Pairs, In}
-use Rattle.senses.specs.Senses.{setAt, markedBy}
+use Rattle.mark_senses.specs.Senses.{setAt, markedBy}
 use Rattle.representatives.specs.Representative.{resting}
 use Rattle.short.specs.Short.{becomes}
 use Rattle.quotient.specs.Reduce.{markedMap, markedHops, markedShape}

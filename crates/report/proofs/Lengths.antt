@@ -20,9 +20,9 @@ use Rattle.graph_check.specs.Check.{Admitted}
 use Rattle.graph.specs.declared.Shape.{Shape}
 use Rattle.graph.specs.declared.Answer.{Answer}
 use Rattle.base_fixpoint.specs.Pairs.{Pairs}
-use Rattle.confluence.specs.Rounds.{marked}
-use Rattle.confluence.specs.Held.{markOf}
-use Rattle.confluence.proofs.Marked.{marked-confluent}
+use Rattle.mark_confluence.specs.Rounds.{marked}
+use Rattle.mark_confluence.specs.Held.{markOf}
+use Rattle.mark_confluence.proofs.Marked.{marked-confluent}
 use Rattle.representatives.specs.Representative.{Settles, markedFrom, resting, mapOf}
 use Rattle.representatives.specs.Tables.{Reducible}
 use Rattle.representatives.proofs.Marked.{silent-settles}

@@ -21,10 +21,10 @@ use Rattle.graph_check.specs.Check.{checkOf, Admitted}
 use Rattle.graph_check.proofs.Checked.{check-admitted, admitted-check}
 use Rattle.walk_silent.specs.Silent.{ringless}
 use Rattle.base_fixpoint.specs.Pairs.{In, Within}
-use Rattle.confluence.specs.Rounds.{silentHops, marked}
-use Rattle.confluence.specs.Held.{heldBy, markOf, marksOf}
-use Rattle.confluence.proofs.Marked.{marked-confluent}
-use Rattle.confluence.proofs.Marks.{marks-at}
+use Rattle.mark_confluence.specs.Rounds.{silentHops, marked}
+use Rattle.mark_confluence.specs.Held.{heldBy, markOf, marksOf}
+use Rattle.mark_confluence.proofs.Marked.{marked-confluent}
+use Rattle.mark_confluence.proofs.Marks.{marks-at}
 use Rattle.representatives.specs.Representative.{mapOf}
 use Rattle.representatives.specs.Tables.{Reducible}
 use Rattle.short.specs.Short.{shortHops, shortShape, mapList}

@@ -10,8 +10,8 @@ use Rattle.graph_check.specs.Check.{checkOf}
 use Rattle.graph.specs.declared.Shape.{Shape}
 use Rattle.graph.specs.declared.Answer.{Answer}
 use Rattle.walk_silent.specs.Silent.{ringless}
-use Rattle.confluence.specs.Rounds.{marked}
-use Rattle.confluence.specs.Held.{markOf}
+use Rattle.mark_confluence.specs.Rounds.{marked}
+use Rattle.mark_confluence.specs.Held.{markOf}
 use Rattle.representatives.specs.Representative.{mapOf}
 use Rattle.short.specs.Short.{shortHops, shortShape}
 use Rattle.fields.specs.Format.{shapeIn, hopListIn}

@@ -1,5 +1,4 @@
 // What the program prints of a file.
-use falling::mark_rounds;
 use graph::MOST_HOPS;
 use graph::MOST_NUMBERS;
 use graph::MOST_STATES;
@@ -8,6 +7,7 @@ use graph::answers::refuse;
 use graph::hops::part;
 use graph_successors::STARTS;
 use graph_successors::starts_of;
+use mark_worklist_loop::mark_rounds;
 use reader::reading::read;
 use reducing::reduce_marked;
 use rows::put_refusal;

@@ -17,8 +17,8 @@ use Rattle.graph.proofs.Places.{is-yes}
 use Rattle.walk_silent.specs.Silent.{HopOf, leads}
 use Rattle.walk_silent.proofs.Rings.{rank, rank-falls-accepted}
 use Rattle.base_fixpoint.specs.Pairs.{Pairs, In}
-use Rattle.confluence.specs.Held.{isMarked, heldBy}
-use Rattle.confluence.proofs.Held.{held-says, held-at}
+use Rattle.mark_confluence.specs.Held.{isMarked, heldBy}
+use Rattle.mark_confluence.proofs.Held.{held-says, held-at}
 use Rattle.representatives.specs.Representative.{Settles}
 use Rattle.representatives.specs.Tables.{Reducible, Marks, SilentMarks}
 

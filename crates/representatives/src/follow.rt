@@ -10,7 +10,7 @@ ghost use Prim.Native.Nat.{_<_, _≤_};
 ghost use lib.ListN.{length};
 ghost use Rattle.graph.specs.Hops.{count, from};
 ghost use Rattle.graph.specs.Answers.{most-states};
-ghost use Rattle.confluence.specs.Held.{heldBy};
+ghost use Rattle.mark_confluence.specs.Held.{heldBy};
 ghost use Rattle.representatives.specs.Tables.{Marks, Own, FromIn, Onward, Closed, Sinks, Noted, entered, stays, stepped};
 
 // A table that leads from each state to itself.

@@ -1,8 +1,8 @@
 -- The figures of the round question and of the faster marking, as their entries for C and Rust tell them. Assumes nothing: these are definitions.
 use Prim.Native.Nat.{ℕ}
 use mathlib.Core.List.{List, [], _∷_}
-use Rattle.rounds.specs.declared.RoundAnswer.{RoundAnswer}
-use Rattle.fast.specs.declared.Counted.{Counted}
+use Rattle.mark_entry_round.specs.declared.RoundAnswer.{RoundAnswer}
+use Rattle.mark_entry_fast.specs.declared.Counted.{Counted}
 use Rattle.answers.specs.Numbers.{numbersOf}
 
 -- "4: + 1 or 0"

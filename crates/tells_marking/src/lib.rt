@@ -1,23 +1,23 @@
 // Check, both markings and the round question, as the entries for C and Rust tell them: capi exports these functions unchanged. Each finds the entry's
 // answer and tells it; a marking leaves the marks alone where the answer slice is too short.
-// Stands on graph_check (check), marks (mark), fast (the faster marking), rounds (the round question) and answers (what is told and returned).
+// Stands on graph_check (check), mark_entry (mark), mark_entry_fast (the faster marking), mark_entry_round (the round question) and answers (what is told and returned).
 use answers::short_number;
 use answers::tell_answer;
 use answers::tell_figure;
-use fast::mark_fast;
 use graph::Shape;
 use graph_check::check;
-use marks::mark::mark;
-use marks::mark::mark_answer;
-use rounds::question::round_question;
+use mark_entry::mark::mark;
+use mark_entry::mark::mark_answer;
+use mark_entry_fast::mark_fast;
+use mark_entry_round::question::round_question;
 ghost use mathlib.Core.Path.{_≡_};
 ghost use mathlib.Core.List.{[]};
 ghost use lib.ListN.{length};
 ghost use Rattle.graph_check.specs.Check.{checkOf};
-ghost use Rattle.marks.specs.Mark.{markAnswer, markOutput};
-ghost use Rattle.rounds.specs.Question.{questionAnswer, questionOf};
+ghost use Rattle.mark_entry.specs.Mark.{markAnswer, markOutput};
+ghost use Rattle.mark_entry_round.specs.Question.{questionAnswer, questionOf};
 ghost use Rattle.answers.specs.Numbers.{shapeOf, numbersOf, returned, told, unlessShort};
-ghost use Rattle.fast.specs.Fast.{countedOf};
+ghost use Rattle.mark_entry_fast.specs.Fast.{countedOf};
 ghost use Rattle.tells_marking.specs.Numbers.{roundNumbers, countedNumbers};
 
 pub fn tell_check(states: u32, labels: u32, initial: u32, hops: &[u16], answer: &mut [u64]) -> u32

@@ -15,7 +15,7 @@ use Rattle.graph.specs.declared.Answer.{Answer}
 use Rattle.base_bounded.proofs.Tests.{length-listed}
 use Rattle.graph.proofs.Fronts.{flat-front}
 use Rattle.short.specs.Short.{mapList}
-use Rattle.senses.specs.Senses.{senseOf}
+use Rattle.mark_senses.specs.Senses.{senseOf}
 use Rattle.quotient.proofs.Marked.{marked-within}
 use Rattle.quotient.specs.Reduce.{noShape, markedTo, markedMap, markedHops, markedShape, reduceAnswer, reduction, reduceOf, mapOutput, shortOutput}
 use Rattle.quotient.specs.declared.Reduction.{Reduction}

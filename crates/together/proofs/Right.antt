@@ -9,7 +9,7 @@ use Rattle.base_bounded.proofs.Tests.{length-listed, getD-listed}
 use Rattle.representatives.specs.Tables.{Reducible}
 use Rattle.lts.specs.Closes.{Sense}
 use Rattle.base_fixpoint.specs.Pairs.{Pairs}
-use Rattle.senses.specs.Senses.{markedIn}
+use Rattle.mark_senses.specs.Senses.{markedIn}
 use Rattle.representatives.specs.Representative.{mapOf}
 use Rattle.short.specs.Short.{shortHops, shortShape, mapList}
 use Rattle.quotient.proofs.Reduced.{map-inside, short-admitted, short-reduces}

@@ -10,9 +10,9 @@ use Rattle.base_outputs.specs.Output.{onFront}
 use Rattle.graph.specs.Hops.{count, from, label, to}
 use Rattle.graph.specs.declared.Shape.{Shape}
 use Rattle.base_fixpoint.specs.Pairs.{Pairs}
-use Rattle.confluence.specs.Held.{isMarked, markOf, marksOf}
-use Rattle.confluence.proofs.Marks.{marks-at}
-use Rattle.senses.specs.Senses.{setAt, markedBy}
+use Rattle.mark_confluence.specs.Held.{isMarked, markOf, marksOf}
+use Rattle.mark_confluence.proofs.Marks.{marks-at}
+use Rattle.mark_senses.specs.Senses.{setAt, markedBy}
 use Rattle.representatives.specs.Tables.{Reducible}
 use Rattle.repeating.specs.Repeating.{someMarked}
 

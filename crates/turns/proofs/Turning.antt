@@ -13,10 +13,10 @@ use Rattle.graph.specs.Hops.{count, flat, between}
 use Rattle.graph.proofs.Fronts.{flat-front, between-count}
 use Rattle.graph.proofs.Places.{length-flat}
 use Rattle.base_fixpoint.specs.Pairs.{Pairs, In, Within}
-use Rattle.confluence.specs.Rounds.{silentHops}
-use Rattle.confluence.specs.Held.{marksOf, heldBy}
-use Rattle.senses.specs.Senses.{senseOf, markedBy}
-use Rattle.senses.proofs.Marked.{in-silent}
+use Rattle.mark_confluence.specs.Rounds.{silentHops}
+use Rattle.mark_confluence.specs.Held.{marksOf, heldBy}
+use Rattle.mark_senses.specs.Senses.{senseOf, markedBy}
+use Rattle.mark_senses.proofs.Marked.{in-silent}
 use Rattle.short.specs.Short.{mapList}
 use Rattle.reducing.specs.Reducing.{shortGraph, mapLeft, shortLeft}
 use Rattle.reducing.specs.declared.ShortGraph.{ShortGraph}

@@ -11,9 +11,9 @@ use Rattle.graph.specs.declared.Shape.{Shape}
 use Rattle.graph.proofs.Ordered.{alike-itself, before-alike}
 use Rattle.graph_find.specs.Finding.{hopsBefore, findOf}
 use Rattle.base_fixpoint.specs.Pairs.{Pairs}
-use Rattle.due.specs.Due.{fell, standing, reached, shaken, due, testsIn, testsUpTo, testsOf}
-use Rattle.fast.specs.Fast.{countedOf}
-use Rattle.rounds.specs.Question.{silentPlace, questionAnswer, questionOf}
+use Rattle.mark_worklist.specs.Due.{fell, standing, reached, shaken, due, testsIn, testsUpTo, testsOf}
+use Rattle.mark_entry_fast.specs.Fast.{countedOf}
+use Rattle.mark_entry_round.specs.Question.{silentPlace, questionAnswer, questionOf}
 use Rattle.unlined.specs.Unlined.{Unlined}
 use Rattle.unlined.proofs.Checks.{count-same, from-same, label-same, to-same, has-same, check-same}
 use Rattle.unlined.proofs.Marking.{answers-same, survives-same, mark-answer-same}

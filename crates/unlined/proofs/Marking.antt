@@ -10,10 +10,10 @@ use Rattle.graph.specs.declared.Shape.{Shape}
 use Rattle.lts.specs.Closes.{Reach, nowhere, single, walks, Sense}
 use Rattle.base_fixpoint.specs.Pairs.{Pairs}
 use Rattle.base_fixpoint.specs.Rounds.{leftAfter}
-use Rattle.confluence.specs.Rounds.{Trials, closing, answer, hopAnswers, answers, tried, closes, silentHops, survives}
-use Rattle.confluence.specs.Held.{markOf, marksOf}
-use Rattle.senses.specs.Senses.{setAt, comes, takes, meets, takesTo, answersFrom, answeredIn, closesIn, markedIn, markedBy, senseOf}
-use Rattle.marks.specs.Mark.{marksMade, markAnswer, markOutput}
+use Rattle.mark_confluence.specs.Rounds.{Trials, closing, answer, hopAnswers, answers, tried, closes, silentHops, survives}
+use Rattle.mark_confluence.specs.Held.{markOf, marksOf}
+use Rattle.mark_senses.specs.Senses.{setAt, comes, takes, meets, takesTo, answersFrom, answeredIn, closesIn, markedIn, markedBy, senseOf}
+use Rattle.mark_entry.specs.Mark.{marksMade, markAnswer, markOutput}
 use Rattle.unlined.specs.Unlined.{Unlined}
 use Rattle.unlined.proofs.Checks.{count-same, from-same, label-same, to-same, labelled-same, has-same, check-same}
 use Rattle.unlined.proofs.Walks.{leads-by-same, ringless-same}

@@ -9,7 +9,7 @@ use lib.Dec.{eqb}
 use Rattle.base_bounded.specs.Tests.{any}
 use Rattle.graph.specs.Hops.{flat}
 use Rattle.graph.specs.declared.Shape.{Shape}
-use Rattle.senses.specs.Senses.{setAt}
+use Rattle.mark_senses.specs.Senses.{setAt}
 use Rattle.quotient.specs.Reduce.{markedMap, markedShape, markedHops}
 use Rattle.composing.specs.Chained.{chained}
 use Rattle.repeating.specs.Repeating.{Stage, firstStage, nextStage, someMarked, marksSome, repeated, lastOf, lastStage}

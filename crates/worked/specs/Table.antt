@@ -11,9 +11,9 @@ use Rattle.graph.specs.Answers.{accepted, refused}
 use Rattle.graph.specs.declared.Hop.{Hop}
 use Rattle.graph.specs.declared.Shape.{Shape}
 use Rattle.graph.specs.declared.Answer.{Answer}
-use Rattle.confluence.specs.Rounds.{survives}
-use Rattle.marks.specs.Mark.{marksMade, markAnswer}
-use Rattle.fast.specs.Fast.{countedOf}
+use Rattle.mark_confluence.specs.Rounds.{survives}
+use Rattle.mark_entry.specs.Mark.{marksMade, markAnswer}
+use Rattle.mark_entry_fast.specs.Fast.{countedOf}
 use Rattle.quotient.specs.Reduce.{markedMap, markedHops, reduceOf}
 use Rattle.quotient.specs.declared.Reduction.{Reduction}
 use Rattle.faults.specs.First.{fault, noFault}

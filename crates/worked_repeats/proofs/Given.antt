@@ -16,9 +16,9 @@ use Rattle.walk_reach.specs.Reaching.{leadsBy}
 use Rattle.walk_silent.specs.Silent.{onRing, lowestOnRing, ringless}
 use Rattle.base_fixpoint.specs.Rounds.{leftAfter}
 use Rattle.base_fixpoint.specs.Pairs.{Pairs}
-use Rattle.confluence.specs.Rounds.{tried}
-use Rattle.confluence.specs.Held.{isMarked, heldAt, heldBy, markOf, marksOf}
-use Rattle.senses.specs.Senses.{setAt, comes, takes, meets, takesTo, answersFrom, answeredIn, closesIn, markedIn, isSense, senseOf, senseAnswer}
+use Rattle.mark_confluence.specs.Rounds.{tried}
+use Rattle.mark_confluence.specs.Held.{isMarked, heldAt, heldBy, markOf, marksOf}
+use Rattle.mark_senses.specs.Senses.{setAt, comes, takes, meets, takesTo, answersFrom, answeredIn, closesIn, markedIn, isSense, senseOf, senseAnswer}
 use Rattle.representatives.specs.Representative.{markedFrom, resting, onward, followed, repOf, newOf, mapOf}
 use Rattle.insertion.specs.Insertion.{insert, collected}
 use Rattle.short.specs.Short.{gathered, shortHops, shortShape, mapList}

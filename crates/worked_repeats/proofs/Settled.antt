@@ -16,11 +16,11 @@ use Rattle.base_fixpoint.specs.Pairs.{In, Within}
 use Rattle.base_fixpoint.specs.Rounds.{leftAfter}
 use Rattle.base_fixpoint.proofs.Rounds.{kept-left}
 use Rattle.lts.specs.Closes.{Sense}
-use Rattle.confluence.specs.Rounds.{silentHops}
-use Rattle.confluence.specs.Held.{isMarked, heldBy}
-use Rattle.confluence.proofs.Held.{held-says, held-yes}
-use Rattle.senses.specs.Senses.{closesIn, markedIn}
-use Rattle.senses.proofs.Marked.{in-silent, in-kept, in-same}
+use Rattle.mark_confluence.specs.Rounds.{silentHops}
+use Rattle.mark_confluence.specs.Held.{isMarked, heldBy}
+use Rattle.mark_confluence.proofs.Held.{held-says, held-yes}
+use Rattle.mark_senses.specs.Senses.{closesIn, markedIn}
+use Rattle.mark_senses.proofs.Marked.{in-silent, in-kept, in-same}
 
 module _ (sense : Sense) (sh : Shape) (hs ms : List ℕ) where
   -- the hop at place i: if it is marked, it is silent and closes with the marked ones

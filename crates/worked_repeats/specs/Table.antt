@@ -9,7 +9,7 @@ use Rattle.graph.specs.Answers.{accepted, refused}
 use Rattle.graph.specs.declared.Hop.{Hop}
 use Rattle.graph.specs.declared.Shape.{Shape}
 use Rattle.graph.specs.declared.Answer.{Answer}
-use Rattle.confluence.specs.Held.{marksOf}
+use Rattle.mark_confluence.specs.Held.{marksOf}
 use Rattle.repeating.specs.Repeating.{Stage, firstStage, nextStage, markedAt}
 use Rattle.last_graph.specs.Shrink.{shrinkOf, lastMap, lastHops}
 use Rattle.last_graph.specs.declared.Shrinking.{Shrinking}

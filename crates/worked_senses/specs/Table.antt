@@ -8,8 +8,8 @@ use Rattle.graph.specs.Answers.{accepted, refused}
 use Rattle.graph.specs.declared.Hop.{Hop}
 use Rattle.graph.specs.declared.Shape.{Shape}
 use Rattle.graph.specs.declared.Answer.{Answer}
-use Rattle.confluence.specs.Held.{marksOf}
-use Rattle.senses.specs.Senses.{markedBy}
+use Rattle.mark_confluence.specs.Held.{marksOf}
+use Rattle.mark_senses.specs.Senses.{markedBy}
 use Rattle.quotient.specs.Reduce.{reduceAnswer, reduceOf, markedMap, markedHops}
 use Rattle.quotient.specs.declared.Reduction.{Reduction}
 

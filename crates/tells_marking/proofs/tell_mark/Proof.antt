@@ -3,7 +3,7 @@ use borrow.Author.Needs.{needs}
 use lib.ListN.{length}
 use mathlib.Core.List.{[]}
 use Rattle.graph.specs.declared.Answer.{Answer}
-use Rattle.marks.specs.Mark.{markAnswer, markOutput}
+use Rattle.mark_entry.specs.Mark.{markAnswer, markOutput}
 use Rattle.answers.specs.Numbers.{shapeOf, numbersOf}
 use Rattle.answers.proofs.Answers.{returned-of}
 use Rattle.answers.proofs.Told.{told-of, short-told, short-kept, left-long}

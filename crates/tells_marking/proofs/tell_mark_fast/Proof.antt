@@ -1,7 +1,7 @@
 -- `tells_marking::tell_mark_fast` meets its contract: where the answer slice is too short, only the answer is found. Assumes nothing.
 use mathlib.Core.Path.{ap}
-use Rattle.fast.specs.declared.Counted.{Counted}
-use Rattle.fast.specs.Fast.{countedOf}
+use Rattle.mark_entry_fast.specs.declared.Counted.{Counted}
+use Rattle.mark_entry_fast.specs.Fast.{countedOf}
 use Rattle.tells_marking.specs.Numbers.{countedNumbers}
 use Rattle.answers.proofs.Answers.{returned-of}
 use Rattle.answers.proofs.Told.{told-of, short-told, short-kept, left-long}

@@ -1,8 +1,8 @@
 -- `tells_marking::tell_round` meets its contract: what is told of the result is told of the round question's. Assumes nothing.
 use borrow.Author.Needs.{needs}
 use mathlib.Core.Path.{ap}
-use Rattle.rounds.specs.declared.RoundAnswer.{RoundAnswer}
-use Rattle.rounds.specs.Question.{questionOf}
+use Rattle.mark_entry_round.specs.declared.RoundAnswer.{RoundAnswer}
+use Rattle.mark_entry_round.specs.Question.{questionOf}
 use Rattle.tells_marking.specs.Numbers.{roundNumbers}
 use Rattle.answers.proofs.Answers.{returned-of}
 use Rattle.answers.proofs.Told.{told-of}

@@ -7,7 +7,7 @@ use borrow.Author.Tests.{eq-eqb, ne-eqb}
 use lib.ListN.{length}
 use Rattle.base_bounded.specs.Tests.{any}
 use Rattle.base_bounded.proofs.Tests.{any-none, any-more, any-found, any-done}
-use Rattle.confluence.specs.Held.{isMarked}
+use Rattle.mark_confluence.specs.Held.{isMarked}
 use Rattle.turns.proofs.is_any.Statement.{statement}
 use Rattle.turns.proofs.is_any.Tie as tie
 

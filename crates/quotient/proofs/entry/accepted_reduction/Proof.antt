@@ -1,7 +1,7 @@
 -- `quotient::entry::accepted_reduction` meets its contract: the marks are those of the sense's marked set. Assumes nothing.
 use native.Mathlib.Omega.{arith}
-use Rattle.senses.specs.Senses.{senseOf, markedBy}
-use Rattle.senses.proofs.Marked.{in-silent}
+use Rattle.mark_senses.specs.Senses.{senseOf, markedBy}
+use Rattle.mark_senses.proofs.Marked.{in-silent}
 use Rattle.representatives.proofs.Marked.{held-settles}
 use Rattle.quotient.proofs.Marked.{left-marks, left-made, left-map, left-short}
 use borrow.Author.Needs.{needs}

@@ -1,7 +1,7 @@
 -- `quotient::entry::mark_in` meets its contract: what the rounds leave is document 01's marked set, which is that of sense 1. Assumes nothing.
 use borrow.Author.Needs.{needs}
 use Rattle.graph_successors.proofs.Firsts.{admitted-ready}
-use Rattle.senses.proofs.Marked.{first-set}
+use Rattle.mark_senses.proofs.Marked.{first-set}
 use Rattle.quotient.proofs.entry.mark_in.Statement.{statement}
 use Rattle.quotient.proofs.entry.mark_in.Tie as tie
 

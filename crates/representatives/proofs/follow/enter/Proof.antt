@@ -1,6 +1,6 @@
 -- `representatives::follow::enter` meets its contract: the code is the definition. Assumes nothing.
 use borrow.Author.Tests.{eq-eqb, ne-eqb}
-use Rattle.confluence.specs.Held.{isMarked}
+use Rattle.mark_confluence.specs.Held.{isMarked}
 use Rattle.representatives.specs.Tables.{entered}
 use borrow.Author.Needs.{needs}
 use Rattle.representatives.proofs.follow.enter.Statement.{statement}

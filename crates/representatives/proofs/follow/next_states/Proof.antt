@@ -5,7 +5,7 @@ use native.Mathlib.Omega.{arith}
 use lib.ListN.{length, getD}
 use Rattle.graph.specs.Hops.{count}
 use Rattle.graph.specs.Answers.{most-states}
-use Rattle.confluence.specs.Held.{heldBy}
+use Rattle.mark_confluence.specs.Held.{heldBy}
 use Rattle.representatives.specs.Tables.{Own, FromIn, Onward}
 use Rattle.representatives.proofs.Nexts.{Ends, ends-none, ends-onward, entered-ends, length-entered}
 use borrow.Author.Needs.{needs}

@@ -1,0 +1,161 @@
+// One batch of hops tried together, for the weaker senses: at most 64 hops, one bit each, tried against every marked hop of their states. Who closes the
+// batch's ends, who leads there, who answers by a hop, who leads to these (`mark_batch_spread`, `mark_batch_tables`), and which marked hops are not answered then (`mark_batch_filter`).
+// Only here does code ask which sense it is. A mark that goes takes no hop of the marked set, since what is dropped does not close with a larger set. It stands
+// on `mark_senses` (what is marked) and `mark_sweeps` (what marks keep while they fall, for any condition).
+use base_bitset::WORD_BITS;
+use graph::MOST_HOPS;
+use graph::MOST_LABELS;
+use graph::MOST_STATES;
+use graph::Shape;
+use mark_batch_filter::judge;
+use mark_batch_spread::gather;
+use mark_batch_spread::pass_on;
+use mark_batch_spread::pass_once;
+use mark_batch_tables::put_answers;
+use mark_batch_tables::put_ends;
+use mark_batch_tables::put_froms;
+use mark_batch_tables::put_labels;
+ghost use Prim.Native.Nat.{_+_, _<_, _≤_};
+ghost use lib.ListN.{length};
+ghost use Rattle.graph.specs.Hops.{count};
+ghost use Rattle.graph_successors.specs.Starts.{Ready};
+ghost use Rattle.base_fixpoint.specs.Pairs.{In};
+ghost use Rattle.mark_confluence.specs.Held.{heldBy};
+ghost use Rattle.mark_sweeps.specs.Sweep.{Marking, Swept};
+ghost use Rattle.mark_senses.specs.Senses.{senseOf, markedBy};
+ghost use Rattle.base_bitset.specs.Bits.{word-bits};
+ghost use Rattle.walk_topological_order.specs.Line.{Line};
+ghost use Rattle.mark_batch_spread.specs.Spread.{Back, Forth};
+ghost use Rattle.mark_batch.specs.Batch.{Sweepable, TriedIn};
+
+// The closing: who is s4 for an end s3, by at most one marked hop or by a walk.
+fn close(
+    hops: &[u16],
+    marks: &[u8],
+    line: &[u16; MOST_HOPS],
+    n: usize,
+    sense: u32,
+    words: &mut [u64; MOST_STATES],
+)
+    requires ready { ⌜ Ready (now hops) ⌝ }
+    requires line { ⌜ Line (now hops) (now line) n ⌝ }
+    requires room { ⌜ count (now hops) ≤ length (now marks) ⌝ }
+    ensures { λ r. ⌜ Forth (In (heldBy (now (hops .entry)) (now (marks .entry)))) (senseOf sense .closing) (now (words .entry)) (now (words .exit)) ⌝ }
+{
+    if (sense == 1) | ((sense == 2) | (sense == 3)) {
+        pass_once(hops, marks, line, n, words);
+    } else {
+        pass_on(hops, marks, line, n, words);
+    }
+}
+
+// After the answering hop: who is s4 or leads to it.
+fn follow(
+    hops: &[u16],
+    marks: &[u8],
+    line: &[u16; MOST_HOPS],
+    n: usize,
+    sense: u32,
+    words: &mut [u64; MOST_STATES],
+)
+    requires ready { ⌜ Ready (now hops) ⌝ }
+    requires line { ⌜ Line (now hops) (now line) n ⌝ }
+    requires room { ⌜ count (now hops) ≤ length (now marks) ⌝ }
+    ensures { λ r. ⌜ Back (In (heldBy (now (hops .entry)) (now (marks .entry)))) (senseOf sense .after) (now (words .entry)) (now (words .exit)) ⌝ }
+{
+    if (sense == 1) | (sense == 3) {
+        return;
+    }
+    gather(hops, marks, line, n, words);
+}
+
+// Before the answering hop: who has it or leads to one that has.
+fn lead(
+    hops: &[u16],
+    marks: &[u8],
+    line: &[u16; MOST_HOPS],
+    n: usize,
+    sense: u32,
+    words: &mut [u64; MOST_STATES],
+)
+    requires ready { ⌜ Ready (now hops) ⌝ }
+    requires line { ⌜ Line (now hops) (now line) n ⌝ }
+    requires room { ⌜ count (now hops) ≤ length (now marks) ⌝ }
+    ensures { λ r. ⌜ Back (In (heldBy (now (hops .entry)) (now (marks .entry)))) (senseOf sense .before) (now (words .entry)) (now (words .exit)) ⌝ }
+{
+    if (sense == 1) | (sense == 2) {
+        return;
+    }
+    gather(hops, marks, line, n, words);
+}
+
+// Notes for the batch with the bit which states have anything in its tables; without a bit it notes nothing. Nothing is proved of what it notes, and nothing
+// rests on it: it only says what is worth running again, and the last sweep runs all.
+fn touch(
+    ends: &[u64; MOST_STATES],
+    answers: &[u64; MOST_STATES],
+    bit: u64,
+    touched: &mut [u64; MOST_STATES],
+) {
+    if bit == 0 {
+        return;
+    }
+    let mut s = 0;
+    while s < MOST_STATES {
+        let had = touched[s] | bit;
+        if ends[s] | answers[s] == 0 {
+            touched[s] = had ^ bit;
+        } else {
+            touched[s] = had;
+        }
+        s += 1;
+    }
+}
+
+// Tries the m hops from place `base` on against every marked hop of their states; returns how many marks went. The table of ends serves for the states
+// that the hops leave, too. What it touches is noted under the bit.
+pub fn try_batch(
+    shape: Shape,
+    hops: &[u16],
+    line: &[u16; MOST_HOPS],
+    n: usize,
+    sense: u32,
+    base: usize,
+    m: usize,
+    bit: u64,
+    marks: &mut [u8],
+    touched: &mut [u64; MOST_STATES],
+) -> usize
+    requires sweepable { ⌜ Sweepable shape (now hops) (now line) n ⌝ }
+    requires marking { ⌜ Marking (now hops) (markedBy sense shape (now hops)) (now marks) ⌝ }
+    requires batch { ⌜ m ≤ word-bits ⌝ }
+    requires within { ⌜ base + m ≤ count (now hops) ⌝ }
+    ensures { λ r. ⌜ Swept (now (hops .entry)) (markedBy sense shape (now (hops .entry))) (TriedIn (senseOf sense) (now (hops .entry)) base (base + m))
+        (now (marks .entry)) (now (marks .exit)) r ⌝ }
+{
+    let mut ends = [0u64; MOST_STATES];
+    let mut labels = [0u64; MOST_LABELS];
+    let mut answers = [0u64; MOST_STATES];
+    put_ends(hops, base, m, &mut ends);
+    close(hops, marks, line, n, sense, &mut ends);
+    follow(hops, marks, line, n, sense, &mut ends);
+    put_labels(shape, hops, base, m, &mut labels);
+    put_answers(shape, hops, &labels, &ends, &mut answers);
+    lead(hops, marks, line, n, sense, &mut answers);
+    touch(&ends, &answers, bit, touched);
+    put_froms(hops, base, m, &mut ends);
+    judge(hops, marks, &ends, &answers)
+}
+
+// How many hops the batch from place `base` on has, of n.
+pub fn batch_len(base: usize, n: usize) -> usize
+    requires { ⌜ base < n ⌝ }
+    ensures within { λ r. ⌜ base + r ≤ n ⌝ }
+    ensures most { λ r. ⌜ r ≤ word-bits ⌝ }
+    ensures some { λ r. ⌜ 0 < r ⌝ }
+{
+    if n - base < WORD_BITS {
+        return n - base;
+    }
+    WORD_BITS
+}

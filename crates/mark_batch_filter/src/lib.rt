@@ -1,0 +1,72 @@
+// Judging marks by two tables of words: a marked hop keeps its mark if every bit of the state that it leaves, in the one table, is at the state that it leads
+// to, in the other. In the weaker senses a bit is a hop tried, `froms` has it where that hop begins, and `answers` where it is answered (`mark_batch_tables`).
+// It stands on `base_bitset` and looks at hops by graph; what the bits mean is no matter of this crate.
+use base_bitset::holds;
+use graph::MOST_STATES;
+use graph::hops::hop_at;
+use graph::hops::hop_count;
+use graph_successors::wide;
+ghost use mathlib.Core.Path.{_≡_};
+ghost use mathlib.Core.Bool.{cond};
+ghost use Prim.Native.Nat.{_<_, _≤_};
+ghost use lib.ListN.{length, set};
+ghost use Rattle.graph.specs.Hops.{count};
+ghost use Rattle.graph_successors.specs.Starts.{Ready};
+ghost use Rattle.mark_batch_filter.specs.Judged.{fits, falls, Judged};
+
+// Whether every bit of where the hop at place i begins is where it ends.
+fn fits_at(hops: &[u16], froms: &[u64; MOST_STATES], answers: &[u64; MOST_STATES], i: usize) -> bool
+    requires ready { ⌜ Ready (now hops) ⌝ }
+    requires place { ⌜ i < count (now hops) ⌝ }
+    ensures { λ r. ⌜ r ≡ fits (now (hops .entry)) (now (froms .entry)) (now (answers .entry)) i ⌝ }
+{
+    let h = hop_at(hops, i);
+    holds(answers[wide(h.to)], froms[wide(h.from)])
+}
+
+// The hop at place i loses its mark if it is marked and does not fit; returns how many marks went.
+fn judge_at(
+    hops: &[u16],
+    marks: &mut [u8],
+    froms: &[u64; MOST_STATES],
+    answers: &[u64; MOST_STATES],
+    i: usize,
+) -> usize
+    requires ready { ⌜ Ready (now hops) ⌝ }
+    requires room { ⌜ count (now hops) ≤ length (now marks) ⌝ }
+    requires place { ⌜ i < count (now hops) ⌝ }
+    ensures marks { λ r. ⌜ now (marks .exit) ≡
+        cond (falls (now (hops .entry)) (now (marks .entry)) (now (froms .entry)) (now (answers .entry)) i)
+        (set (now (marks .entry)) i 0) (now (marks .entry)) ⌝ }
+    ensures lost { λ r. ⌜ r ≡ cond (falls (now (hops .entry)) (now (marks .entry)) (now (froms .entry)) (now (answers .entry)) i) 1 0 ⌝ }
+{
+    if marks[i] != 1 {
+        return 0;
+    }
+    if fits_at(hops, froms, answers, i) {
+        return 0;
+    }
+    marks[i] = 0;
+    1
+}
+
+// Every marked hop that does not fit loses its mark; returns how many marks went.
+pub fn judge(
+    hops: &[u16],
+    marks: &mut [u8],
+    froms: &[u64; MOST_STATES],
+    answers: &[u64; MOST_STATES],
+) -> usize
+    requires ready { ⌜ Ready (now hops) ⌝ }
+    requires room { ⌜ count (now hops) ≤ length (now marks) ⌝ }
+    ensures { λ r. ⌜ Judged (now (hops .entry)) (now (marks .entry)) (now (froms .entry)) (now (answers .entry)) (now (marks .exit)) r ⌝ }
+{
+    let n = hop_count(hops);
+    let mut lost = 0;
+    let mut i = 0;
+    while i < n {
+        lost += judge_at(hops, marks, froms, answers, i);
+        i += 1;
+    }
+    lost
+}

@@ -1,0 +1,123 @@
+-- One step more, in which a giver g gives what it has to a taker t. Where a table is what the steps D bring, it is afterwards what D and this step bring: for walks if t
+-- gives in no step so far nor in this one, for single hops if g took in none. `Back` is `Forth` along the hops turned round, so it is said once. Assumes nothing.
+use Prim.Native.Nat.{ℕ}
+use mathlib.Core.Path.{_≡_, refl, sym, _∙_}
+use mathlib.Core.Bool.{true, _&&_, _||_}
+use mathlib.Core.List.{List}
+use mathlib.Core.Logic.{_⊎_, inl, inr, ⊎-elim}
+use lib.Dec.{eqb}
+use borrow.Author.Tests.{eqb-true, eq-eqb}
+use Rattle.base_bounded.proofs.Bools.{and-yes, and-left, and-right, or-left, or-right, or-yes}
+use Rattle.lts.specs.Star.{Star, stay, go}
+use Rattle.lts.specs.Closes.{Reach, single, walks, Via, here, hop, walk}
+use Rattle.lts.proofs.Star.{one, join, wider}
+use Rattle.lts.proofs.Closes.{via-grows, via-walk}
+use Rattle.base_bitset.specs.Bits.{inTable}
+use Rattle.mark_batch_spread.specs.Spread.{Back, Forth}
+
+-- the steps E are D and one more, from g to t
+pub record More (D E : ℕ → ℕ → Type 0) (g t : ℕ) : Type 0 where
+  pub kept : (x y : ℕ) → D x y → E x y
+  pub new : E g t
+  pub only : (x y : ℕ) → E x y → D x y ⊎ ((x ≡ g) × (y ≡ t))
+
+-- what E brings is what D brings, and to t what D brings to g
+record Further (D E : ℕ → ℕ → Type 0) (r : Reach) (g t : ℕ) : Type 0 where
+  kept : {s z : ℕ} → Via D r s z → Via E r s z
+  new : {s : ℕ} → Via D r s g → Via E r s t
+  only : {s z : ℕ} → Via E r s z → Via D r s z ⊎ (Via D r s g × (z ≡ t))
+
+-- the table `next` is `now` with what g has given to t as well
+abbrev pub Gave : ℕ → ℕ → List ℕ → List ℕ → Type 0
+Gave g t now next = (z b : ℕ) → inTable next z b ≡ (inTable now z b || (eqb z t && inTable now g b))
+
+-- along the hops turned round
+module _ {D E : ℕ → ℕ → Type 0} (f : (x y : ℕ) → D x y → E y x) where
+  star-turned : {s t : ℕ} → Star D s t → Star E t s
+  star-turned stay = stay
+  star-turned (go {s} {m} d p) = join (star-turned p) (one (f s m d))
+
+  via-turned : {r : Reach} {s t : ℕ} → Via D r s t → Via E r t s
+  via-turned here = here
+  via-turned (hop {s} {t} d) = hop (f s t d)
+  via-turned (walk p) = walk (star-turned p)
+
+-- the same hops bring the same
+module _ {D E : ℕ → ℕ → Type 0} {r : Reach} (old new : List ℕ) where
+  pub forth-same : ((x y : ℕ) → D x y → E x y) → ((x y : ℕ) → E x y → D x y) → Forth D r old new → Forth E r old new
+  forth-same into back h t b = (
+    λ e. let (s, v, o) = h t b .0 e in (s, via-grows into v, o),
+    λ (s, v, o). h t b .1 (s, via-grows back v, o),
+  )
+
+  pub forth-back : ((x y : ℕ) → D x y → E y x) → ((x y : ℕ) → E x y → D y x) → Forth D r old new → Back E r old new
+  forth-back into back h s b = (
+    λ e. let (t, v, o) = h s b .0 e in (t, via-turned into v, o),
+    λ (t, v, o). h s b .1 (t, via-turned back v, o),
+  )
+
+-- along no hop each state has what it had
+module _ {D : ℕ → ℕ → Type 0} (none : (x y : ℕ) → D x y → ⊥) where
+  via-stays : {r : Reach} {s t : ℕ} → Via D r s t → s ≡ t
+  via-stays here = refl
+  via-stays (hop {s} {t} d) = absurd (none s t d)
+  via-stays (walk stay) = refl
+  via-stays (walk (go {s} {m} d p)) = absurd (none s m d)
+
+  pub forth-none : {r : Reach} (ws : List ℕ) → Forth D r ws ws
+  forth-none ws t b = (λ e. (t, here, e), λ (s, v, o). rw (← via-stays v) o)
+
+module _ {D E : ℕ → ℕ → Type 0} {g t : ℕ} (m : More D E g t) where
+  -- walks: none goes on from t
+  module _ (ends : (y : ℕ) → E t y → ⊥) where
+    split : {s z : ℕ} → Star E s z → Star D s z ⊎ (Star D s g × (z ≡ t))
+    split stay = inl stay
+    split (go {s} {m = x} e p) =
+        ⊎-elim (λ d. ⊎-elim (λ q. inl (go d q)) (λ (q, w). inr (go d q, w)) (split p)) (λ (a, w). last a w p) (m .only s x e) where
+          last : {s x z : ℕ} → s ≡ g → x ≡ t → Star E x z → Star D s z ⊎ (Star D s g × (z ≡ t))
+          last a w stay = inr (rw a stay, w)
+          last a w (go {m = y} e p) = absurd (ends y (rw w at e))
+
+    walks-further : Further D E walks g t
+    walks-further = record {
+      kept = via-grows (m .kept);
+      new = λ v. walk (join (wider (m .kept) (via-walk v)) (one (m .new)));
+      only = λ v. ⊎-elim (λ q. inl (walk q)) (λ (q, w). inr (walk q, w)) (split (via-walk v));
+    }
+
+  -- one hop: none leads to g
+  module _ (begins : (x : ℕ) → D x g → ⊥) where
+    new-hop : {s : ℕ} → Via D single s g → Via E single s t
+    new-hop here = hop (m .new)
+    new-hop (hop {s} d) = absurd (begins s d)
+
+    only-hop : {s z : ℕ} → Via E single s z → Via D single s z ⊎ (Via D single s g × (z ≡ t))
+    only-hop here = inl here
+    only-hop (hop {s} {t = z} e) = ⊎-elim (λ d. inl (hop d)) (λ (a, w). inr (rw a here, w)) (m .only s z e)
+
+    single-further : Further D E single g t
+    single-further = record { kept = via-grows (m .kept); new = new-hop; only = only-hop }
+
+module _ {D E : ℕ → ℕ → Type 0} {r : Reach} {g t : ℕ} (f : Further D E r g t) (old now next : List ℕ) (gave : Gave g t now next) where
+  forth-more : Forth D r old now → Forth E r old next
+  forth-more h z b = (into, back) where
+    into : inTable next z b ≡ true → (s : ℕ) × Via E r s z × (inTable old s b ≡ true)
+    into e =
+        ⊎-elim (λ w. let (s, v, o) = h z b .0 w in (s, f .kept v, o))
+        (λ w. taken (eqb-true z t (and-left (eqb z t) (inTable now g b) w)) (and-right (eqb z t) (inTable now g b) w))
+        (or-yes (inTable now z b) (eqb z t && inTable now g b) (sym (gave z b) ∙ e)) where
+          taken : z ≡ t → inTable now g b ≡ true → (s : ℕ) × Via E r s z × (inTable old s b ≡ true)
+          taken q e = let (s, v, o) = h g b .0 e in (s, rw q (f .new v), o)
+
+    back : (s : ℕ) × Via E r s z × (inTable old s b ≡ true) → inTable next z b ≡ true
+    back (s, v, o) =
+        gave z b ∙
+        ⊎-elim (λ w. or-left (eqb z t && inTable now g b) (h z b .1 (s, w, o)))
+        (λ (w, e). or-right (inTable now z b) (and-yes (eq-eqb z t e) (h g b .1 (s, w, o)))) (f .only v)
+
+module _ {D E : ℕ → ℕ → Type 0} {g t : ℕ} (m : More D E g t) (old now next : List ℕ) (gave : Gave g t now next) where
+  pub walks-more : ((y : ℕ) → E t y → ⊥) → Forth D walks old now → Forth E walks old next
+  walks-more ends = forth-more (walks-further m ends) old now next gave
+
+  pub single-more : ((x : ℕ) → D x g → ⊥) → Forth D single old now → Forth E single old next
+  single-more begins = forth-more (single-further m begins) old now next gave

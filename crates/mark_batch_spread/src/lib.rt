@@ -1,0 +1,121 @@
+// What states get from one another along marked hops: a table has one word a state, and each bit of a word is a question of its own. A state takes all
+// that the states it leads to have (`gather`), or gives what it has to those that a marked hop leads to (`pass_once`), or to all that it leads to
+// (`pass_on`). One pass over the line of silent hops (`walk_topological_order`) does each: the order sees to it that what is given is whole by then, or still the old.
+// It stands on `base_bitset` (words as sets), `walk_topological_order` (the line) and `mark_confluence` (the set that marks are), and decides nothing of a hop.
+use base_bitset::sized;
+use graph::MOST_HOPS;
+use graph::MOST_STATES;
+use graph::hops::from_at;
+use graph::hops::to_at;
+use graph_successors::wide;
+ghost use mathlib.Core.Path.{_≡_};
+ghost use Prim.Native.Nat.{_<_, _≤_};
+ghost use lib.ListN.{length};
+ghost use Rattle.graph.specs.Hops.{count};
+ghost use Rattle.graph.specs.Answers.{most-states, most-hops};
+ghost use Rattle.graph_successors.specs.Starts.{Ready};
+ghost use Rattle.base_fixpoint.specs.Pairs.{In};
+ghost use Rattle.lts.specs.Closes.{single, walks};
+ghost use Rattle.mark_confluence.specs.Held.{isMarked, heldBy};
+ghost use Rattle.walk_topological_order.specs.Line.{Line};
+ghost use Rattle.mark_batch_spread.specs.Spread.{Back, Forth};
+ghost use Rattle.mark_batch_spread.specs.Given.{given};
+
+// The line behind a reference is as long as its type says: see `base_bitset::sized`.
+fn sized_line(line: &[u16; MOST_HOPS])
+    ensures { λ r. ⌜ length (now (line .entry)) ≡ most-hops ⌝ }
+{
+    let all: &[u16] = line;
+}
+
+// Whether the hop at place i is marked.
+fn marked_at(marks: &[u8], i: usize) -> bool
+    requires { ⌜ i < length (now marks) ⌝ }
+    ensures { λ r. ⌜ r ≡ isMarked (now (marks .entry)) i ⌝ }
+{
+    marks[i] == 1
+}
+
+// State t has what s has, too.
+fn give(words: &mut [u64; MOST_STATES], s: usize, t: usize)
+    requires giver { ⌜ s < most-states ⌝ }
+    requires taker { ⌜ t < most-states ⌝ }
+    ensures { λ r. ⌜ now (words .exit) ≡ given (now (words .entry)) s t ⌝ }
+{
+    words[t] |= words[s];
+}
+
+// Each state takes what the states have that it leads to by walks of marked hops: along the line, where all hops that leave a hop's end come before it.
+pub fn gather(
+    hops: &[u16],
+    marks: &[u8],
+    line: &[u16; MOST_HOPS],
+    n: usize,
+    words: &mut [u64; MOST_STATES],
+)
+    requires ready { ⌜ Ready (now hops) ⌝ }
+    requires line { ⌜ Line (now hops) (now line) n ⌝ }
+    requires room { ⌜ count (now hops) ≤ length (now marks) ⌝ }
+    ensures { λ r. ⌜ Back (In (heldBy (now (hops .entry)) (now (marks .entry)))) walks (now (words .entry)) (now (words .exit)) ⌝ }
+{
+    sized(words);
+    sized_line(line);
+    let mut k = 0;
+    while k < n {
+        let i = wide(line[k]);
+        if marked_at(marks, i) {
+            give(words, wide(to_at(hops, i).0), wide(from_at(hops, i).0));
+        }
+        k += 1;
+    }
+}
+
+// Each state gives what it has to those that one marked hop leads to: along the line, where no hop into a state comes before one that leaves it.
+pub fn pass_once(
+    hops: &[u16],
+    marks: &[u8],
+    line: &[u16; MOST_HOPS],
+    n: usize,
+    words: &mut [u64; MOST_STATES],
+)
+    requires ready { ⌜ Ready (now hops) ⌝ }
+    requires line { ⌜ Line (now hops) (now line) n ⌝ }
+    requires room { ⌜ count (now hops) ≤ length (now marks) ⌝ }
+    ensures { λ r. ⌜ Forth (In (heldBy (now (hops .entry)) (now (marks .entry)))) single (now (words .entry)) (now (words .exit)) ⌝ }
+{
+    sized(words);
+    sized_line(line);
+    let mut k = 0;
+    while k < n {
+        let i = wide(line[k]);
+        if marked_at(marks, i) {
+            give(words, wide(from_at(hops, i).0), wide(to_at(hops, i).0));
+        }
+        k += 1;
+    }
+}
+
+// Each state gives what it has to all that it leads to by walks of marked hops: along the line backwards.
+pub fn pass_on(
+    hops: &[u16],
+    marks: &[u8],
+    line: &[u16; MOST_HOPS],
+    n: usize,
+    words: &mut [u64; MOST_STATES],
+)
+    requires ready { ⌜ Ready (now hops) ⌝ }
+    requires line { ⌜ Line (now hops) (now line) n ⌝ }
+    requires room { ⌜ count (now hops) ≤ length (now marks) ⌝ }
+    ensures { λ r. ⌜ Forth (In (heldBy (now (hops .entry)) (now (marks .entry)))) walks (now (words .entry)) (now (words .exit)) ⌝ }
+{
+    sized(words);
+    sized_line(line);
+    let mut k = n;
+    while k > 0 {
+        k -= 1;
+        let i = wide(line[k]);
+        if marked_at(marks, i) {
+            give(words, wide(from_at(hops, i).0), wide(to_at(hops, i).0));
+        }
+    }
+}

@@ -1,0 +1,322 @@
+// Marking by the weaker senses of RR-7000, behind the refusals. Marks start at 1 for every silent hop, and sweeps over all batches of hops go on until one
+// takes nothing (`batches`). Between two sweeps only those batches are run again that what fell can have touched; which these are is a guess that nothing
+// rests on, since the last sweep runs all. When that takes nothing the marks are the marked set's, in whatever order the others fell.
+// It stands on `mark_senses` (what is marked), `mark_sweeps` (what marks keep while they fall, for any condition) and `walk_topological_order` (the order of silent hops).
+use base_bitset::WORD_BITS;
+use base_bitset::bit_of;
+use graph::MOST_HOPS;
+use graph::MOST_STATES;
+use graph::Shape;
+use graph::hops::hop_at;
+use graph::hops::hop_count;
+use graph_successors::STARTS;
+use graph_successors::wide;
+use mark_batch::batch_len;
+use mark_batch::try_batch;
+use mark_confluence::start_marks;
+use walk_topological_order::line_of;
+ghost use mathlib.Core.Path.{_≡_};
+ghost use Prim.Native.Nat.{_+_, _*_, _<_, _≤_};
+ghost use lib.ListN.{length};
+ghost use Rattle.base_outputs.specs.Output.{onFront};
+ghost use Rattle.graph.specs.Hops.{count};
+ghost use Rattle.graph.specs.Answers.{most-hops};
+ghost use Rattle.graph_successors.specs.Starts.{Ready, Tabled};
+ghost use Rattle.walk_silent.specs.Silent.{ringless};
+ghost use Rattle.mark_confluence.specs.Held.{marksOf};
+ghost use Rattle.mark_sweeps.specs.Sweep.{Marking, Swept};
+ghost use Rattle.mark_senses.specs.Senses.{senseOf, markedBy};
+ghost use Rattle.base_bitset.specs.Bits.{word-bits};
+ghost use Rattle.mark_batch.specs.Batch.{Anything, Sweepable, TriedIn};
+
+// Every bit: all batches, or all places of a word.
+const ALL_BATCHES: u64 = 18446744073709551615;
+
+// How many sweeps note nothing: most graphs need no more.
+const PLAIN_SWEEPS: usize = 4;
+
+// What a turn over batches leaves: how many marks went, and which batches are due.
+struct Turn {
+    lost: usize,
+    due: u64,
+}
+
+// Which batches are due is one word: bit k stands for the batch from place 64 * k on. There are 64 at most.
+fn batch_bit(base: usize) -> u64 {
+    bit_of(base / WORD_BITS % WORD_BITS)
+}
+
+// Whether the mark at place i went since it was last asked; notes that it did. `was` has one bit a place.
+fn went(marks: &[u8], was: &mut [u64; WORD_BITS], i: usize) -> bool
+    requires { ⌜ i < length (now marks) ⌝ }
+{
+    if marks[i] == 1 {
+        return false;
+    }
+    let at = i / WORD_BITS % WORD_BITS;
+    let bit = bit_of(i % WORD_BITS);
+    if was[at] & bit == 0 {
+        return false;
+    }
+    was[at] ^= bit;
+    true
+}
+
+// Notes which marks went since it was last asked, and returns the batches that had anything at an end of such a hop.
+fn due_after(
+    hops: &[u16],
+    marks: &[u8],
+    was: &mut [u64; WORD_BITS],
+    touched: &[u64; MOST_STATES],
+) -> u64
+    requires ready { ⌜ Ready (now hops) ⌝ }
+    requires room { ⌜ count (now hops) ≤ length (now marks) ⌝ }
+{
+    let n = hop_count(hops);
+    let mut due = 0;
+    let mut i = 0;
+    while i < n {
+        if went(marks, was, i) {
+            let h = hop_at(hops, i);
+            due |= touched[wide(h.from)] | touched[wide(h.to)];
+        }
+        i += 1;
+    }
+    due
+}
+
+// One sweep over all hops; returns how many marks went. What the batches touch is noted for those that `noted` has.
+fn sweep(
+    shape: Shape,
+    hops: &[u16],
+    line: &[u16; MOST_HOPS],
+    n: usize,
+    sense: u32,
+    noted: u64,
+    marks: &mut [u8],
+    touched: &mut [u64; MOST_STATES],
+) -> usize
+    requires sweepable { ⌜ Sweepable shape (now hops) (now line) n ⌝ }
+    requires marking { ⌜ Marking (now hops) (markedBy sense shape (now hops)) (now marks) ⌝ }
+    ensures { λ r. ⌜ Swept (now (hops .entry)) (markedBy sense shape (now (hops .entry)))
+        (TriedIn (senseOf sense) (now (hops .entry)) 0 (count (now (hops .entry)))) (now (marks .entry)) (now (marks .exit)) r ⌝ }
+{
+    let past = hop_count(hops);
+    let mut lost = 0;
+    let mut base = 0;
+    while base < past {
+        let m = batch_len(base, past);
+        let bit = batch_bit(base) & noted;
+        lost += try_batch(shape, hops, line, n, sense, base, m, bit, marks, touched);
+        base += m;
+    }
+    lost
+}
+
+// Tries the m hops from place `base` on until they take nothing more; returns how many marks went.
+fn run_out(
+    shape: Shape,
+    hops: &[u16],
+    line: &[u16; MOST_HOPS],
+    n: usize,
+    sense: u32,
+    base: usize,
+    m: usize,
+    marks: &mut [u8],
+    touched: &mut [u64; MOST_STATES],
+) -> usize
+    requires sweepable { ⌜ Sweepable shape (now hops) (now line) n ⌝ }
+    requires marking { ⌜ Marking (now hops) (markedBy sense shape (now hops)) (now marks) ⌝ }
+    requires batch { ⌜ m ≤ word-bits ⌝ }
+    requires within { ⌜ base + m ≤ count (now hops) ⌝ }
+    ensures { λ r. ⌜ Swept (now (hops .entry)) (markedBy sense shape (now (hops .entry))) Anything (now (marks .entry)) (now (marks .exit)) r ⌝ }
+{
+    let bit = batch_bit(base);
+    let mut lost = 1;
+    let mut all = 0;
+    while lost > 0 {
+        lost = try_batch(shape, hops, line, n, sense, base, m, bit, marks, touched);
+        all += lost;
+    }
+    all
+}
+
+// Runs the batch from place `base` on if it is due, and says which are due then.
+fn run_due(
+    shape: Shape,
+    hops: &[u16],
+    line: &[u16; MOST_HOPS],
+    n: usize,
+    sense: u32,
+    base: usize,
+    due: u64,
+    marks: &mut [u8],
+    was: &mut [u64; WORD_BITS],
+    touched: &mut [u64; MOST_STATES],
+) -> Turn
+    requires sweepable { ⌜ Sweepable shape (now hops) (now line) n ⌝ }
+    requires marking { ⌜ Marking (now hops) (markedBy sense shape (now hops)) (now marks) ⌝ }
+    requires place { ⌜ base < count (now hops) ⌝ }
+    ensures { λ r. ⌜ Swept (now (hops .entry)) (markedBy sense shape (now (hops .entry))) Anything (now (marks .entry)) (now (marks .exit)) (r .lost) ⌝ }
+{
+    let bit = batch_bit(base);
+    if due & bit == 0 {
+        return Turn { lost: 0, due };
+    }
+    let m = batch_len(base, hop_count(hops));
+    let lost = run_out(shape, hops, line, n, sense, base, m, marks, touched);
+    let more = due_after(hops, marks, was, touched);
+    Turn {
+        lost,
+        due: (due | more | bit) ^ bit,
+    }
+}
+
+// How many batches n hops make.
+fn batch_count(n: usize) -> usize
+    requires { ⌜ n ≤ most-hops ⌝ }
+    ensures { λ r. ⌜ word-bits * r < n + word-bits ⌝ }
+{
+    (n + (WORD_BITS - 1)) / WORD_BITS
+}
+
+// Where the batch begins that a pass over so many batches of n hops runs after k others.
+fn turned_base(n: usize, batches: usize, down: bool, k: usize) -> usize
+    requires batches { ⌜ word-bits * batches < n + word-bits ⌝ }
+    requires most { ⌜ n ≤ most-hops ⌝ }
+    requires turn { ⌜ k < batches ⌝ }
+    ensures { λ r. ⌜ r < n ⌝ }
+{
+    if down {
+        return WORD_BITS * (batches - 1 - k);
+    }
+    WORD_BITS * k
+}
+
+// One pass over the batches that are due, downward or upward.
+fn pass_due(
+    shape: Shape,
+    hops: &[u16],
+    line: &[u16; MOST_HOPS],
+    n: usize,
+    sense: u32,
+    down: bool,
+    first: u64,
+    marks: &mut [u8],
+    was: &mut [u64; WORD_BITS],
+    touched: &mut [u64; MOST_STATES],
+) -> Turn
+    requires sweepable { ⌜ Sweepable shape (now hops) (now line) n ⌝ }
+    requires marking { ⌜ Marking (now hops) (markedBy sense shape (now hops)) (now marks) ⌝ }
+    ensures { λ r. ⌜ Swept (now (hops .entry)) (markedBy sense shape (now (hops .entry))) Anything (now (marks .entry)) (now (marks .exit)) (r .lost) ⌝ }
+{
+    let past = hop_count(hops);
+    let batches = batch_count(past);
+    let mut due = first;
+    let mut lost = 0;
+    let mut k = 0;
+    while k < batches {
+        let base = turned_base(past, batches, down, k);
+        let turn = run_due(shape, hops, line, n, sense, base, due, marks, was, touched);
+        due = turn.due;
+        lost += turn.lost;
+        k += 1;
+    }
+    Turn { lost, due }
+}
+
+// Between two sweeps: passes over the batches that what fell since can have touched, upward and downward by turns, until one takes nothing; returns how
+// many marks went.
+fn catch_up(
+    shape: Shape,
+    hops: &[u16],
+    line: &[u16; MOST_HOPS],
+    n: usize,
+    sense: u32,
+    marks: &mut [u8],
+    was: &mut [u64; WORD_BITS],
+    touched: &mut [u64; MOST_STATES],
+) -> usize
+    requires sweepable { ⌜ Sweepable shape (now hops) (now line) n ⌝ }
+    requires marking { ⌜ Marking (now hops) (markedBy sense shape (now hops)) (now marks) ⌝ }
+    ensures { λ r. ⌜ Swept (now (hops .entry)) (markedBy sense shape (now (hops .entry))) Anything (now (marks .entry)) (now (marks .exit)) r ⌝ }
+{
+    let mut due = due_after(hops, marks, was, touched);
+    let mut down = false;
+    let mut lost = 1;
+    let mut all = 0;
+    while lost > 0 {
+        let turn = pass_due(shape, hops, line, n, sense, down, due, marks, was, touched);
+        due = turn.due;
+        lost = turn.lost;
+        all += lost;
+        down = !down;
+    }
+    all
+}
+
+// The batches for which a sweep notes what they touch, when so many plain ones are still to come: none or all.
+fn noted_after(plain: usize) -> u64 {
+    if plain > 0 {
+        return 0;
+    }
+    ALL_BATCHES
+}
+
+// One less, if there is one.
+fn one_less(plain: usize) -> usize {
+    if plain > 0 {
+        return plain - 1;
+    }
+    0
+}
+
+// Sweeps until one takes nothing. After a sweep that takes something the batches catch up that are due by it: where marks fall one after the other, a sweep
+// each would run all batches for one mark. The first sweeps note nothing, so that nothing is due after them.
+fn settle(
+    shape: Shape,
+    hops: &[u16],
+    line: &[u16; MOST_HOPS],
+    n: usize,
+    sense: u32,
+    marks: &mut [u8],
+)
+    requires sweepable { ⌜ Sweepable shape (now hops) (now line) n ⌝ }
+    requires marking { ⌜ Marking (now hops) (markedBy sense shape (now hops)) (now marks) ⌝ }
+    ensures { λ r. ⌜ now (marks .exit) ≡
+        onFront (marksOf (now (hops .entry)) (markedBy sense shape (now (hops .entry)))) (now (marks .entry)) ⌝ }
+{
+    let mut touched = [0u64; MOST_STATES];
+    let mut was = [ALL_BATCHES; WORD_BITS];
+    let mut plain = PLAIN_SWEEPS;
+    let mut fell = 1;
+    while fell > 0 {
+        let noted = noted_after(plain);
+        fell = sweep(shape, hops, line, n, sense, noted, marks, &mut touched);
+        plain = one_less(plain);
+        if fell > 0 {
+            catch_up(shape, hops, line, n, sense, marks, &mut was, &mut touched);
+        }
+    }
+}
+
+// Marks by sweeps, in the sense with the number: the part of `mark` and `reduce` behind the refusals, for any sense but 1, which has its rounds (`mark_worklist_loop`).
+// It could be asked for 1 too. Whoever marks chooses between the two: as one function they would share a frame, and sense 1 would take more stack.
+pub fn mark_by_sweeps(
+    shape: Shape,
+    hops: &[u16],
+    starts: &[u16; STARTS],
+    sense: u32,
+    marks: &mut [u8],
+)
+    requires tabled { ⌜ Tabled shape (now hops) (now starts) ⌝ }
+    requires free { ⌜ ringless shape (now hops) .number ≡ 0 ⌝ }
+    requires room { ⌜ count (now hops) ≤ length (now marks) ⌝ }
+    ensures { λ r. ⌜ now (marks .exit) ≡
+        onFront (marksOf (now (hops .entry)) (markedBy sense shape (now (hops .entry)))) (now (marks .entry)) ⌝ }
+{
+    let mut line = [0u16; MOST_HOPS];
+    let n = line_of(shape, hops, starts, &mut line);
+    start_marks(hops, marks);
+    settle(shape, hops, &line, n, sense, marks);
+}

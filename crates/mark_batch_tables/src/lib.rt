@@ -1,0 +1,122 @@
+// A batch of hops tried together, for the weaker senses: bit b of a word stands for the hop at place base + b, so that what is asked of 64 hops tried is
+// asked once. Tables hold one word a state or a label: where the hops tried begin, end and how they are labelled (`put_froms`, `put_ends`, `put_labels`), who
+// answers them (`put_answers`). How bits go along marked hops in between, and which marks go by what the tables then have, is no matter of this crate.
+// It stands on `base_bitset` and looks at hops by graph.
+use base_bitset::bit_of;
+use base_bitset::sized;
+use graph::MOST_LABELS;
+use graph::MOST_STATES;
+use graph::Shape;
+use graph::hops::from_at;
+use graph::hops::hop_at;
+use graph::hops::hop_count;
+use graph::hops::label_at;
+use graph::hops::to_at;
+use graph_successors::wide;
+ghost use mathlib.Core.Path.{_≡_};
+ghost use Prim.Native.Nat.{_+_, _<_, _≤_, _^_};
+ghost use lib.Bits.{bitOr};
+ghost use lib.ListN.{getD, set, replicate};
+ghost use Rattle.graph.specs.Hops.{count, from, label, to};
+ghost use Rattle.graph.specs.Answers.{most-states};
+ghost use Rattle.graph_check.specs.Check.{Admitted};
+ghost use Rattle.graph_successors.specs.Starts.{Ready};
+ghost use Rattle.base_bitset.specs.Bits.{word-bits};
+ghost use Rattle.mark_batch_tables.specs.Trials.{Keyed, Still, Answering};
+
+// No bit anywhere.
+pub fn clear(words: &mut [u64; MOST_STATES])
+    ensures { λ r. ⌜ now (words .exit) ≡ replicate most-states 0 ⌝ }
+{
+    *words = [0u64; MOST_STATES];
+}
+
+// Bit b at s, besides what the table has.
+fn put_bit(words: &mut [u64; MOST_STATES], s: u16, b: usize)
+    requires state { ⌜ s < most-states ⌝ }
+    requires bit { ⌜ b < word-bits ⌝ }
+    ensures { λ r. ⌜ now (words .exit) ≡ set (now (words .entry)) s (bitOr (getD (now (words .entry)) s 0) (2 ^ b)) ⌝ }
+{
+    words[wide(s)] |= bit_of(b);
+}
+
+// Bit b where the hop at place base + b ends, for each b below m.
+pub fn put_ends(hops: &[u16], base: usize, m: usize, words: &mut [u64; MOST_STATES])
+    requires ready { ⌜ Ready (now hops) ⌝ }
+    requires batch { ⌜ m ≤ word-bits ⌝ }
+    requires within { ⌜ base + m ≤ count (now hops) ⌝ }
+    ensures { λ r. ⌜ Keyed (to (now (hops .entry))) base m (now (words .exit)) ⌝ }
+{
+    clear(words);
+    let mut b = 0;
+    while b < m {
+        put_bit(words, to_at(hops, base + b).0, b);
+        b += 1;
+    }
+}
+
+// Bit b where the hop at place base + b begins.
+pub fn put_froms(hops: &[u16], base: usize, m: usize, words: &mut [u64; MOST_STATES])
+    requires ready { ⌜ Ready (now hops) ⌝ }
+    requires batch { ⌜ m ≤ word-bits ⌝ }
+    requires within { ⌜ base + m ≤ count (now hops) ⌝ }
+    ensures { λ r. ⌜ Keyed (from (now (hops .entry))) base m (now (words .exit)) ⌝ }
+{
+    clear(words);
+    let mut b = 0;
+    while b < m {
+        put_bit(words, from_at(hops, base + b).0, b);
+        b += 1;
+    }
+}
+
+// Bit b at the label of the hop at place base + b. There are as many labels at most as states.
+pub fn put_labels(shape: Shape, hops: &[u16], base: usize, m: usize, words: &mut [u64; MOST_LABELS])
+    requires admitted { ⌜ Admitted shape (now hops) ⌝ }
+    requires batch { ⌜ m ≤ word-bits ⌝ }
+    requires within { ⌜ base + m ≤ count (now hops) ⌝ }
+    ensures { λ r. ⌜ Keyed (label (now (hops .entry))) base m (now (words .exit)) ⌝ }
+{
+    clear(words);
+    let mut b = 0;
+    while b < m {
+        put_bit(words, label_at(hops, base + b).0, b);
+        b += 1;
+    }
+}
+
+// Who answers by staying: a state that has a bit itself, where the silent label has it.
+fn put_still(labels: &[u64; MOST_LABELS], ends: &[u64; MOST_STATES], out: &mut [u64; MOST_STATES])
+    ensures { λ r. ⌜ Still (now (labels .entry)) (now (ends .entry)) (now (out .exit)) ⌝ }
+{
+    sized(ends);
+    sized(out);
+    let silent = labels[0];
+    let mut s = 0;
+    while s < MOST_STATES {
+        out[s] = ends[s] & silent;
+        s += 1;
+    }
+}
+
+// Who answers by a hop or by staying.
+pub fn put_answers(
+    shape: Shape,
+    hops: &[u16],
+    labels: &[u64; MOST_LABELS],
+    ends: &[u64; MOST_STATES],
+    out: &mut [u64; MOST_STATES],
+)
+    requires { ⌜ Admitted shape (now hops) ⌝ }
+    ensures { λ r. ⌜ Answering (now (hops .entry)) (now (labels .entry)) (now (ends .entry)) (now (out .exit)) ⌝ }
+{
+    put_still(labels, ends, out);
+    sized(out);
+    let n = hop_count(hops);
+    let mut i = 0;
+    while i < n {
+        let h = hop_at(hops, i);
+        out[wide(h.from)] |= ends[wide(h.to)] & labels[wide(h.label)];
+        i += 1;
+    }
+}

@@ -1,0 +1,110 @@
+// Whether a hop labelled a to s3 is answered by a hop of s2, with the set that a list of marks is, by a walk along both rows: s2's hops of that label and
+// s3's silent hops both ascend by their ends, so the two are walked side by side: each silent hop is searched for from where the search before it came to.
+// `mark_diamond_search` takes this way where neither is far shorter than the other.
+// It stands on `mark_confluence` (what closing is, and the set that marks are), `graph` (hops and the search) and `graph_successors` (where a state's hops begin).
+use graph::Found;
+use graph::Label;
+use graph::OldState;
+use graph::hops::hop_of;
+use graph::hops::label_at;
+use graph::hops::to_at;
+use graph::search::find_ahead;
+use graph::search::place_of;
+use graph_successors::STARTS;
+use graph_successors::start_of;
+use graph_successors::wide;
+ghost use mathlib.Core.Path.{_≡_};
+ghost use Prim.Native.Nat.{ℕ, _<_, _≤_};
+ghost use lib.ListN.{length};
+ghost use Rattle.graph.specs.Hops.{count};
+ghost use Rattle.graph.specs.Answers.{most-states};
+ghost use Rattle.graph.specs.declared.Found.the-variants.{At};
+ghost use Rattle.mark_confluence.specs.Rounds.{closing, hopAnswers};
+ghost use Rattle.mark_confluence.specs.Held.{heldBy};
+ghost use Rattle.graph_successors.specs.Starts.{Table, Ready};
+ghost use Rattle.mark_diamond_merge.specs.Row.{Row};
+ghost use Rattle.mark_diamond_merge.specs.Found.{markedAt};
+
+// The hops of a state from place `at` on; `past` is the place past its last.
+pub struct Rest {
+    pub state: OldState,
+    pub at: usize,
+    pub past: usize,
+}
+
+// Whether the hops labelled a that `few` begins with are far fewer than those labelled b that `many` begins with: the two are counted side by side, one for
+// each eight. Each way of asking gives the same answer; `mark_diamond_search` chooses by this.
+pub fn is_fewer(hops: &[u16], few: Rest, a: Label, many: Rest, b: Label) -> bool
+    requires ready { ⌜ Ready (now hops) ⌝ }
+    requires row { ⌜ few .past ≤ count (now hops) ⌝ }
+    requires other { ⌜ many .past ≤ count (now hops) ⌝ }
+{
+    let past = few.past;
+    let end = many.past;
+    let mut m = few.at;
+    let mut k = many.at;
+    while k < end {
+        if label_at(hops, k).0 != b.0 {
+            return false;
+        }
+        if m >= past {
+            return true;
+        }
+        if label_at(hops, m).0 != a.0 {
+            return true;
+        }
+        m += 1;
+        k += 8;
+    }
+    false
+}
+
+// Whether a hop that was searched for was found, and is marked.
+fn is_held(marks: &[u8], found: Found) -> bool
+    requires { ⌜ ((p : ℕ) → found ≡ At p → p < length (now marks)) ⌝ }
+    ensures { λ r. ⌜ r ≡ markedAt (now (marks .entry)) found ⌝ }
+{
+    match found {
+        Found::At(p) => marks[p] == 1,
+        Found::Gap(_) => false,
+    }
+}
+
+// Whether a hop labelled a of `rest` leads to an s4 that closes s3. `m` goes along s3's hops with the ends of those of `rest`: it never goes back.
+pub fn row_answers(
+    hops: &[u16],
+    starts: &[u16; STARTS],
+    marks: &[u8],
+    rest: Rest,
+    a: Label,
+    s3: OldState,
+) -> bool
+    requires ready { ⌜ Ready (now hops) ⌝ }
+    requires table { ⌜ Table (now hops) (now starts) ⌝ }
+    requires room { ⌜ count (now hops) ≤ length (now marks) ⌝ }
+    requires row { ⌜ Row (now hops) (rest .state .0) (a .0) (rest .at) (rest .past) ⌝ }
+    requires state { ⌜ s3 .0 < most-states ⌝ }
+    ensures { λ r. ⌜ r ≡ hopAnswers (now (hops .entry)) (closing (heldBy (now (hops .entry)) (now (marks .entry)))) (rest .state .0) (a .0) (s3 .0) ⌝ }
+{
+    let past = rest.past;
+    let t3 = wide(s3.0);
+    let end = start_of(starts, t3 + 1);
+    let mut m = start_of(starts, t3);
+    let mut k = rest.at;
+    while k < past {
+        if label_at(hops, k).0 != a.0 {
+            return false;
+        }
+        let s4 = to_at(hops, k);
+        if s3.0 == s4.0 {
+            return true;
+        }
+        let found = find_ahead(hops, hop_of(s3.0, 0, s4.0), m, end);
+        if is_held(marks, found) {
+            return true;
+        }
+        m = place_of(found);
+        k += 1;
+    }
+    false
+}

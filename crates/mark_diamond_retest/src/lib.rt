@@ -1,0 +1,87 @@
+// Whether a silent hop that closed before still closes with the set that a list of marks is: the test of a later round of marking. Of the hops from its start
+// only those to shed states, which lost a silent hop in the round before, are tried again; the others are answered as they were.
+// It stands on `mark_confluence` (what closing is, and the set that marks are), `graph` (hops and their order), `graph_successors` (where a state's hops begin, and the
+// search among them), `mark_diamond_merge` (the hops of a state from a label on), `mark_diamond_search` (whether a state has a hop) and `mark_diamond` (one trial).
+use graph::MOST_STATES;
+use graph::OldState;
+use graph::hops::from_at;
+use graph::hops::label_at;
+use graph::hops::to_at;
+use graph_successors::STARTS;
+use graph_successors::labelled_from;
+use graph_successors::start_of;
+use graph_successors::wide;
+use mark_diamond::is_answered;
+use mark_diamond_merge::Rest;
+use mark_diamond_search::leads_to;
+ghost use mathlib.Core.Path.{_≡_};
+ghost use Prim.Native.Nat.{_<_, _≤_};
+ghost use lib.ListN.{length};
+ghost use mathlib.Core.Bool.{true};
+ghost use Rattle.graph.specs.Hops.{count};
+ghost use Rattle.graph.specs.Answers.{most-states};
+ghost use Rattle.mark_confluence.specs.Rounds.{answered, closesAt};
+ghost use Rattle.mark_confluence.specs.Held.{heldBy};
+ghost use Rattle.graph_successors.specs.Starts.{Table, Ready};
+ghost use Rattle.mark_diamond_retest.specs.Again.{Unshed};
+
+// Y of the hop at place j against a silent hop to s2. The walk that `mark_diamond` goes side by side would pass over most of s2's hops here, so the like hop and
+// the place of the label are found by halving.
+fn passes(hops: &[u16], starts: &[u16; STARTS], marks: &[u8], s2: OldState, j: usize) -> bool
+    requires ready { ⌜ Ready (now hops) ⌝ }
+    requires table { ⌜ Table (now hops) (now starts) ⌝ }
+    requires room { ⌜ count (now hops) ≤ length (now marks) ⌝ }
+    requires place { ⌜ j < count (now hops) ⌝ }
+    requires asked { ⌜ s2 .0 < most-states ⌝ }
+    ensures { λ r. ⌜ r ≡ answered (now (hops .entry)) (heldBy (now (hops .entry)) (now (marks .entry))) (s2 .0) j ⌝ }
+{
+    let s3 = to_at(hops, j);
+    let a = label_at(hops, j);
+    if leads_to(hops, starts, s2, a, s3) {
+        return true;
+    }
+    let at = labelled_from(hops, starts, s2.0, a);
+    let past = start_of(starts, wide(s2.0) + 1);
+    is_answered(
+        hops,
+        starts,
+        marks,
+        Rest {
+            state: s2,
+            at,
+            past,
+        },
+        j,
+    )
+}
+
+// X of a silent hop, the one at place i, tested again: of the hops from its start only those to shed states are tried, since the others are answered as
+// before.
+pub fn closes_again(
+    hops: &[u16],
+    starts: &[u16; STARTS],
+    marks: &[u8],
+    shed: &[u8; MOST_STATES],
+    i: usize,
+) -> bool
+    requires ready { ⌜ Ready (now hops) ⌝ }
+    requires table { ⌜ Table (now hops) (now starts) ⌝ }
+    requires room { ⌜ count (now hops) ≤ length (now marks) ⌝ }
+    requires place { ⌜ i < count (now hops) ⌝ }
+    requires others { ⌜ Unshed (now hops) (now marks) (now shed) i ⌝ }
+    ensures { λ r. ⌜ r ≡ closesAt (now (hops .entry)) (heldBy (now (hops .entry)) (now (marks .entry))) i ⌝ }
+{
+    let s1 = wide(from_at(hops, i).0);
+    let s2 = to_at(hops, i);
+    let end = start_of(starts, s1 + 1);
+    let mut j = start_of(starts, s1);
+    while j < end {
+        if shed[wide(to_at(hops, j).0)] == 1 {
+            if !passes(hops, starts, marks, s2, j) {
+                return false;
+            }
+        }
+        j += 1;
+    }
+    true
+}

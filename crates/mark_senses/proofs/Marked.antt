@@ -1,0 +1,99 @@
+-- The marked set of a sense is of the sense, and it holds every set of it, decidable or not: so it is the union of all of them. The marks of a sense are
+-- among those of a weaker one. The sense is an argument throughout; R1 is named last, where its marked set is document 01's. Assumes nothing.
+use Prim.Native.Nat.{ℕ}
+use mathlib.Core.Path.{_≡_, ap, _∙_}
+use mathlib.Core.Bool.{true}
+use mathlib.Core.List.{List}
+use mathlib.Core.Logic.{_↔_}
+use Rattle.base_bounded.proofs.Bools.{same-test}
+use Rattle.graph.specs.Hops.{count}
+use Rattle.graph.specs.declared.Shape.{Shape}
+use Rattle.graph_check.specs.Check.{InRange}
+use Rattle.lts.specs.Closes.{Sense, r1, r2, r3, r8, SetOf, Greatest, Implies}
+use Rattle.lts.proofs.Closes.{r1→r2, r1→r3, weakest, set-among}
+use Rattle.lts.proofs.SenseForms.{r1-iff}
+use Rattle.walk_silent.specs.Silent.{HopOf}
+use Rattle.base_fixpoint.specs.Pairs.{Pairs, In, Within}
+use Rattle.base_fixpoint.specs.Rounds.{Monotone, Kept}
+use Rattle.base_fixpoint.proofs.Rounds.{left-within, left-greatest, left-kept, left-same}
+use Rattle.mark_confluence.specs.Rounds.{silentHops, marked, ConfluentSet}
+use Rattle.mark_confluence.proofs.Rounds.{silent-listed}
+use Rattle.mark_confluence.proofs.Marked.{marked-confluent, marked-greatest}
+use Rattle.mark_senses.specs.Senses.{closesIn, markedIn, markedBy}
+use Rattle.mark_senses.proofs.Row.{sense-1}
+use Rattle.mark_senses.proofs.Tests.{closes-says, closes-mono, closes-yes}
+
+module _ (sense : Sense) (sh : Shape) (hs : List ℕ) where
+  -- "the condition grows with U"
+  pub grows : Monotone (closesIn sense sh hs)
+  grows = closes-mono sense sh hs
+
+  pub in-silent : Within (In (markedIn sense sh hs)) (In (silentHops hs))
+  unfolding markedIn
+  in-silent = left-within (closesIn sense sh hs) (silentHops hs) (count hs)
+
+  -- a hop of the marked set closes with any set that holds the marked set
+  pub in-kept : Kept (closesIn sense sh hs) (In (markedIn sense sh hs))
+  unfolding markedIn
+  in-kept = left-kept (closesIn sense sh hs) (silentHops hs) grows (silent-listed hs)
+
+  -- and such a set of silent hops that all close with it is the marked set
+  pub in-same : (v : Pairs) → Within (In v) (In (silentHops hs)) → Within (In v) (In (closesIn sense sh hs v)) → Within (In (markedIn sense sh hs)) (In v) →
+      v ≡ markedIn sense sh hs
+  unfolding markedIn
+  in-same = left-same (closesIn sense sh hs) (silentHops hs) grows (silent-listed hs)
+
+  -- "the marked set is of that sense"
+  pub marked-of : SetOf sense (HopOf hs) (In (markedIn sense sh hs))
+  marked-of =
+      record {
+        silent = in-silent;
+        closed = λ s t e. closes-says sense sh hs (markedIn sense sh hs) s t (in-kept (markedIn sense sh hs) (λ x y m. m) s t e);
+      }
+
+  module _ (ranged : InRange sh hs) where
+    -- a set of the sense keeps itself through a round
+    pub set-kept : {W : ℕ → ℕ → Type 0} → SetOf sense (HopOf hs) W → Kept (closesIn sense sh hs) W
+    set-kept c v f s t m = closes-yes sense sh hs ranged (c .silent) v f s t m (c .closed s t m)
+
+    -- ".. and holds every set of it"
+    pub holds-every : Greatest sense (HopOf hs) (In (markedIn sense sh hs))
+    unfolding markedIn
+    holds-every W c = left-greatest (closesIn sense sh hs) (silentHops hs) grows (silent-listed hs) (c .silent) (set-kept c)
+
+    -- a hop is marked exactly when some set of the sense has it
+    pub marked-in-iff : (s t : ℕ) →
+        (markedIn sense sh hs s t ≡ true → (W : ℕ → ℕ → Type 0) × SetOf sense (HopOf hs) W × W s t) ×
+        ((W : ℕ → ℕ → Type 0) × SetOf sense (HopOf hs) W × W s t → markedIn sense sh hs s t ≡ true)
+    marked-in-iff s t = ((λ e. (In (markedIn sense sh hs), marked-of, e)), (λ (W, c, m). holds-every W c s t m))
+
+module _ (sh : Shape) (hs : List ℕ) (ranged : InRange sh hs) where
+  -- what is marked in a sense is marked in a weaker one
+  pub among : {sense weaker : Sense} → Implies sense weaker → Within (In (markedIn sense sh hs)) (In (markedIn weaker sh hs))
+  among {sense} {weaker} k = set-among k (marked-of sense sh hs) (holds-every weaker sh hs ranged)
+
+  -- "R1's marks are among R2's and R3's, and theirs among R8's"
+  pub among-r2 : Within (In (markedIn r1 sh hs)) (In (markedIn r2 sh hs))
+  among-r2 = among r1→r2
+
+  pub among-r3 : Within (In (markedIn r1 sh hs)) (In (markedIn r3 sh hs))
+  among-r3 = among r1→r3
+
+  pub among-r8 : (sense : Sense) → Within (In (markedIn sense sh hs)) (In (markedIn r8 sh hs))
+  among-r8 sense = among (weakest sense)
+
+  -- sense 1 is document 01's condition, and its marked set is document 01's
+  pub strong-set : {W : ℕ → ℕ → Type 0} → ConfluentSet hs W ↔ SetOf r1 (HopOf hs) W
+  strong-set {W} = (
+    (λ c. record { silent = c .silent; closed = r1-iff (HopOf hs) W .1 (c .closed) }),
+    (λ c. record { silent = c .silent; closed = r1-iff (HopOf hs) W .0 (c .closed) }),
+  )
+
+  pub strong : markedIn r1 sh hs ≡ marked hs
+  strong = λ k s t. same-test (markedIn r1 sh hs s t) (marked hs s t)
+      (marked-greatest hs (In (markedIn r1 sh hs)) (strong-set .1 (marked-of r1 sh hs)) s t)
+      (holds-every r1 sh hs ranged (In (marked hs)) (strong-set .0 (marked-confluent hs)) s t) k
+
+  -- which is that of the sense with number 1
+  pub first-set : markedBy 1 sh hs ≡ marked hs
+  first-set = ap (λ (k : Sense). markedIn k sh hs) sense-1 ∙ strong

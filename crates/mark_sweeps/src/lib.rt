@@ -1,0 +1,80 @@
+// The first marking, by sweeps in place, behind the refusals: which silent hops belong to some strongly confluent set. The marks start at 1 for every silent hop; a
+// sweep goes over the places in list order, and a marked hop that no longer closes loses its mark at once; sweeps go on until one takes nothing. The
+// marks hold the marked set throughout, and are a confluent set when they rest. The entries mark in rounds now (`mark_worklist_loop`), which leave the same marks
+// (`mark_entry_fast: joined`); this one stays as the plain way to them, with a proof that knows of no rounds.
+// What marks keep while they fall, and that they end as the greatest set, is said here of any condition (proofs/Settling); `mark_batch_sweeps` sweeps by it too.
+// It stands on `mark_confluence` (the marked set and its theorems) and `mark_diamond` (whether a hop closes with the marks).
+use graph::hops::hop_count;
+use graph_successors::STARTS;
+use graph_successors::starts_of;
+use mark_confluence::start_marks;
+use mark_diamond::closes_at;
+ghost use mathlib.Core.Path.{_≡_};
+ghost use Prim.Native.Nat.{_<_, _≤_};
+ghost use lib.ListN.{length};
+ghost use Rattle.base_outputs.specs.Output.{onFront};
+ghost use Rattle.graph.specs.Hops.{count};
+ghost use Rattle.mark_confluence.specs.Rounds.{marked};
+ghost use Rattle.mark_confluence.specs.Held.{marksOf};
+ghost use Rattle.mark_sweeps.specs.Sweep.{Marking, Swept, Stands, StandsTo};
+ghost use Rattle.graph_successors.specs.Starts.{Table, Ready};
+
+// Takes the mark of the hop at place i if it does not close; returns how many marks went.
+fn test_at(hops: &[u16], starts: &[u16; STARTS], marks: &mut [u8], i: usize) -> usize
+    requires ready { ⌜ Ready (now hops) ⌝ }
+    requires table { ⌜ Table (now hops) (now starts) ⌝ }
+    requires marking { ⌜ Marking (now hops) (marked (now hops)) (now marks) ⌝ }
+    requires place { ⌜ i < count (now hops) ⌝ }
+    ensures { λ r. ⌜ Swept (now (hops .entry)) (marked (now (hops .entry))) (Stands (now (hops .entry)) i) (now (marks .entry)) (now (marks .exit)) r ⌝ }
+{
+    if marks[i] == 0 {
+        return 0;
+    }
+    if closes_at(hops, starts, marks, i) {
+        return 0;
+    }
+    marks[i] = 0;
+    1
+}
+
+// One sweep; returns how many marks went.
+fn sweep(hops: &[u16], starts: &[u16; STARTS], marks: &mut [u8]) -> usize
+    requires ready { ⌜ Ready (now hops) ⌝ }
+    requires table { ⌜ Table (now hops) (now starts) ⌝ }
+    requires marking { ⌜ Marking (now hops) (marked (now hops)) (now marks) ⌝ }
+    ensures { λ r. ⌜ Swept (now (hops .entry)) (marked (now (hops .entry))) (StandsTo (now (hops .entry)) (count (now (hops .entry))))
+        (now (marks .entry)) (now (marks .exit)) r ⌝ }
+{
+    let n = hop_count(hops);
+    let mut lost = 0;
+    let mut i = 0;
+    while i < n {
+        lost += test_at(hops, starts, marks, i);
+        i += 1;
+    }
+    lost
+}
+
+// Sweeps until one takes nothing.
+fn settle(hops: &[u16], starts: &[u16; STARTS], marks: &mut [u8])
+    requires ready { ⌜ Ready (now hops) ⌝ }
+    requires table { ⌜ Table (now hops) (now starts) ⌝ }
+    requires marking { ⌜ Marking (now hops) (marked (now hops)) (now marks) ⌝ }
+    ensures { λ r. ⌜ now (marks .exit) ≡ onFront (marksOf (now (hops .entry)) (marked (now (hops .entry)))) (now (marks .entry)) ⌝ }
+{
+    let mut lost = 1;
+    while lost > 0 {
+        lost = sweep(hops, starts, marks);
+    }
+}
+
+// Marks by sweeps: the part of `mark` behind the refusals.
+pub fn mark_all(hops: &[u16], marks: &mut [u8])
+    requires ready { ⌜ Ready (now hops) ⌝ }
+    requires room { ⌜ count (now hops) ≤ length (now marks) ⌝ }
+    ensures { λ r. ⌜ now (marks .exit) ≡ onFront (marksOf (now (hops .entry)) (marked (now (hops .entry)))) (now (marks .entry)) ⌝ }
+{
+    let starts = starts_of(hops);
+    start_marks(hops, marks);
+    settle(hops, &starts, marks);
+}

@@ -1,0 +1,251 @@
+-- What testing only the due hops leaves: the same rounds. A hop that survives k rounds and is not due survives one more; a round without a due hop is the last;
+-- as many rounds as hops have all the tests. Assumes nothing.
+use Prim.Native.Nat.{ℕ, zero, suc, _+_, _<_, _≤_}
+use mathlib.Core.Path.{_≡_, refl, sym, _∙_}
+use mathlib.Core.Bool.{true, false, not, _&&_, _||_}
+use mathlib.Core.List.{List}
+use mathlib.Core.Logic.{_⊎_, inl, inr, ⊎-elim}
+use native.Mathlib.Omega.{arith}
+use lib.Dec.{eqb}
+use borrow.Author.Tests.{eq-eqb, eqb-true, not-true}
+use Rattle.base_bounded.specs.Tests.{any, tally, total}
+use Rattle.graph.specs.Hops.{count, from, label, to, has}
+use Rattle.base_bounded.proofs.Bools.{clash, decided, and-yes, and-left, and-right, and-no-right, or-right, or-yes, same-test, no-test, not-no}
+use Rattle.base_bounded.proofs.Tests.{any-at, any-found, tally-within, tally-less, tally-zero}
+use Rattle.graph.proofs.Places.{has-at, has-place}
+use Rattle.base_fixpoint.specs.Pairs.{Pairs, In}
+use Rattle.base_fixpoint.proofs.Rounds.{left-meets, left-yes, left-falls, left-rests}
+use Rattle.mark_confluence.specs.Rounds.{FirstPoint, answers, closes, silentHops, survives, marked}
+use Rattle.mark_confluence.proofs.Closing.{Reaches, Closed, reaches-yes, reaches-says, closes-says, closes-yes}
+use Rattle.mark_confluence.proofs.Rounds.{closes-monotone, silent-listed, survives-none, survives-silent}
+use Rattle.mark_worklist.specs.Due.{fell, standing, reached, shaken, due, testsIn, testsUpTo, testsOf}
+
+-- "a hop to try and an s4, by document 01's first point, with s3 to s4" in U
+abbrev pub Shaken : List ℕ → (ℕ → ℕ → Type 0) → ℕ → ℕ → Type 0
+Shaken hs U s1 s2 = (a : ℕ) × (s3 : ℕ) × (has hs s1 a s3 ≡ true) × Reaches hs U s2 a s3
+
+module _ (hs : List ℕ) where
+  -- the rounds one after the other
+  pub survives-closes : (k s t : ℕ) → survives hs (suc k) s t ≡ true → closes hs (survives hs k) s t ≡ true
+  unfolding survives
+  survives-closes = left-meets (closes hs) (silentHops hs)
+
+  pub survives-yes : (k s t : ℕ) → has hs s 0 t ≡ true → closes hs (survives hs k) s t ≡ true → survives hs (suc k) s t ≡ true
+  unfolding survives
+  survives-yes = left-yes (closes hs) (silentHops hs)
+
+  pub survives-falls : (k s t : ℕ) → survives hs (suc k) s t ≡ true → survives hs k s t ≡ true
+  unfolding survives
+  survives-falls = left-falls (closes hs) (silentHops hs) (closes-monotone hs)
+
+  -- the test says that, and the other way round
+  module _ (v : Pairs) where
+    pub shaken-yes : (s1 s2 : ℕ) → Shaken hs (In v) s1 s2 → shaken hs v s1 s2 ≡ true
+    unfolding shaken reached
+    shaken-yes s1 s2 (a, s3, h, x) =
+        let p = has-place hs s1 a s3 h in
+        any-found (reached hs v s1 s2) (count hs) (p .within)
+        (and-yes (eq-eqb (from hs (p .at)) s1 (p .from-is)) (rw (p .label-is, p .to-is) (reaches-yes hs v s2 a s3 x)))
+
+    pub shaken-says : (s1 s2 : ℕ) → shaken hs v s1 s2 ≡ true → Shaken hs (In v) s1 s2
+    unfolding shaken reached
+    shaken-says s1 s2 e =
+        let (j, l, w) = any-at (reached hs v s1 s2) (count hs) e in
+        let f : from hs j ≡ s1 = eqb-true (from hs j) s1 (and-left (eqb (from hs j) s1) (answers hs v s2 (label hs j) (to hs j)) w) in
+        (label hs j, to hs j, rw f at (has-at hs l), reaches-says hs v s2 (label hs j) (to hs j) (and-right (eqb (from hs j) s1) (answers hs v s2 (label hs j) (to hs j)) w))
+
+    pub shaken-iff : (s1 s2 : ℕ) → (shaken hs v s1 s2 ≡ true → Shaken hs (In v) s1 s2) × (Shaken hs (In v) s1 s2 → shaken hs v s1 s2 ≡ true)
+    shaken-iff s1 s2 = (shaken-says s1 s2, shaken-yes s1 s2)
+
+  -- a hop that closes with a set, and is not shaken by what the set loses, closes with what is left
+  closes-left : (u w v : Pairs) → ((s t : ℕ) → u s t ≡ true → w s t ≡ false → v s t ≡ true) →
+      (s1 s2 : ℕ) → closes hs u s1 s2 ≡ true → shaken hs v s1 s2 ≡ false → closes hs w s1 s2 ≡ true
+  closes-left u w v f s1 s2 c n = closes-yes hs w s1 s2 closed where
+    closed : Closed hs (In w) s1 s2
+    closed a s3 h = let (s4, x, y) = closes-says hs u s1 s2 c a s3 h in (s4, x, left s4 x y) where
+      left : (s4 : ℕ) → FirstPoint hs s2 a s4 → (s3 ≡ s4) ⊎ In u s3 s4 → (s3 ≡ s4) ⊎ In w s3 s4
+      left s4 x (inl e) = inl e
+      left s4 x (inr m) = ⊎-elim (λ e. inr e) (λ e. clash (shaken-yes v s1 s2 (a, s3, h, (s4, x, f s3 s4 m e))) n) (decided (w s3 s4))
+
+  pub fell-yes : (k s t : ℕ) → survives hs k s t ≡ true → survives hs (suc k) s t ≡ false → fell hs k s t ≡ true
+  unfolding fell
+  fell-yes k s t p q = and-yes p (not-no q)
+
+  pub fell-says : (k s t : ℕ) → fell hs k s t ≡ true → (survives hs k s t ≡ true) × (survives hs (suc k) s t ≡ false)
+  unfolding fell
+  fell-says k s t e =
+      (and-left (survives hs k s t) (not (survives hs (suc k) s t)) e, not-true (survives hs (suc k) s t) (and-right (survives hs k s t) (not (survives hs (suc k) s t)) e))
+
+  pub standing-yes : (k i : ℕ) → label hs i ≡ 0 → survives hs k (from hs i) (to hs i) ≡ true → standing hs k i ≡ true
+  unfolding standing
+  standing-yes k i q e = and-yes (eq-eqb (label hs i) 0 q) e
+
+  pub standing-silent : (k i : ℕ) → standing hs k i ≡ true → label hs i ≡ 0
+  unfolding standing
+  standing-silent k i e = eqb-true (label hs i) 0 (and-left (eqb (label hs i) 0) (survives hs k (from hs i) (to hs i)) e)
+
+  pub standing-survives : (k i : ℕ) → standing hs k i ≡ true → survives hs k (from hs i) (to hs i) ≡ true
+  unfolding standing
+  standing-survives k i e = and-right (eqb (label hs i) 0) (survives hs k (from hs i) (to hs i)) e
+
+  pub standing-falls : (k i : ℕ) → standing hs (suc k) i ≡ true → standing hs k i ≡ true
+  standing-falls k i e =
+      standing-yes k i (standing-silent (suc k) i e) (survives-falls k (from hs i) (to hs i) (standing-survives (suc k) i e))
+
+  -- a due hop is still marked
+  pub due-standing : (k i : ℕ) → i < count hs → due hs k i ≡ true → standing hs k i ≡ true
+  unfolding due
+  due-standing zero i l e =
+      let q : label hs i ≡ 0 = eqb-true (label hs i) 0 e in
+      standing-yes 0 i q (survives-none hs (from hs i) (to hs i) ∙ (rw q at (has-at hs l)))
+  due-standing (suc k) i l e = and-left (standing hs (suc k) i) (shaken hs (fell hs k) (from hs i) (to hs i)) e
+
+  -- (a) a hop that survives k rounds and is not due in round k + 1 survives that round
+  pub not-due-stands : (k i : ℕ) → standing hs k i ≡ true → due hs k i ≡ false → standing hs (suc k) i ≡ true
+  unfolding due
+  not-due-stands zero i e n = clash (eq-eqb (label hs i) 0 (standing-silent 0 i e)) n
+  not-due-stands (suc k) i e n =
+      let s : survives hs (suc k) (from hs i) (to hs i) ≡ true = standing-survives (suc k) i e in
+      standing-yes (suc (suc k)) i (standing-silent (suc k) i e)
+      (survives-yes (suc k) (from hs i) (to hs i) (survives-silent hs (suc k) (from hs i) (to hs i) s)
+      (closes-left (survives hs k) (survives hs (suc k)) (fell hs k) (fell-yes k) (from hs i) (to hs i)
+      (survives-closes k (from hs i) (to hs i) s) unshaken)) where
+        unshaken : shaken hs (fell hs k) (from hs i) (to hs i) ≡ false
+        unshaken =
+            no-test (shaken hs (fell hs k) (from hs i) (to hs i)) (λ h. clash (and-yes e h) n)
+
+  -- (b) so a round takes the due hops that do not close, and no other
+  pub round-takes : (k i : ℕ) → standing hs (suc k) i ≡ (standing hs k i && (not (due hs k i) || closes hs (survives hs k) (from hs i) (to hs i)))
+  round-takes k i =
+      same-test (standing hs (suc k) i) (standing hs k i && (not (due hs k i) || closes hs (survives hs k) (from hs i) (to hs i))) on back where
+        on : standing hs (suc k) i ≡ true → (standing hs k i && (not (due hs k i) || closes hs (survives hs k) (from hs i) (to hs i))) ≡ true
+        on e = and-yes (standing-falls k i e) (or-right (not (due hs k i)) (survives-closes k (from hs i) (to hs i) (standing-survives (suc k) i e)))
+
+        back : (standing hs k i && (not (due hs k i) || closes hs (survives hs k) (from hs i) (to hs i))) ≡ true → standing hs (suc k) i ≡ true
+        back e = ⊎-elim (λ n. not-due-stands k i h (not-true (due hs k i) n)) closed (or-yes (not (due hs k i)) (closes hs (survives hs k) (from hs i) (to hs i)) g) where
+          h : standing hs k i ≡ true
+          h = and-left (standing hs k i) (not (due hs k i) || closes hs (survives hs k) (from hs i) (to hs i)) e
+
+          g : (not (due hs k i) || closes hs (survives hs k) (from hs i) (to hs i)) ≡ true
+          g = and-right (standing hs k i) (not (due hs k i) || closes hs (survives hs k) (from hs i) (to hs i)) e
+
+          closed : closes hs (survives hs k) (from hs i) (to hs i) ≡ true → standing hs (suc k) i ≡ true
+          closed c =
+              standing-yes (suc k) i (standing-silent k i h)
+              (survives-yes k (from hs i) (to hs i) (survives-silent hs k (from hs i) (to hs i) (standing-survives k i h)) c)
+
+  -- what fell stood at a place, and was due there
+  pub record FellAt (k s t : ℕ) : Type 0 where
+    pub at : ℕ
+    pub within : at < count hs
+    pub from-is : from hs at ≡ s
+    pub to-is : to hs at ≡ t
+    pub stood : standing hs k at ≡ true
+    pub falls : standing hs (suc k) at ≡ false
+    pub tested : due hs k at ≡ true
+
+  pub fell-place : (k s t : ℕ) → fell hs k s t ≡ true → FellAt k s t
+  fell-place k s t e =
+      let (a, b) = fell-says k s t e in
+      let p = has-place hs s 0 t (survives-silent hs k s t a) in
+      let on : standing hs k (p .at) ≡ true = standing-yes k (p .at) (p .label-is) (rw (p .from-is, p .to-is) a) in
+      let off : standing hs (suc k) (p .at) ≡ false = no-test (standing hs (suc k) (p .at))
+      (λ h. clash (rw (p .from-is, p .to-is) at (standing-survives (suc k) (p .at) h)) b) in
+      record {
+        at = p .at;
+        within = p .within;
+        from-is = p .from-is;
+        to-is = p .to-is;
+        stood = on;
+        falls = off;
+        tested = ⊎-elim (λ d. d) (λ d. clash (not-due-stands k (p .at) on d) off) (decided (due hs k (p .at)));
+      }
+
+  -- a round without a due hop
+  abbrev pub Idle : ℕ → Type 0
+  Idle k = (i : ℕ) → i < count hs → due hs k i ≡ false
+
+  -- (c) takes nothing,
+  idle-none-falls : (k : ℕ) → Idle k → (s t : ℕ) → fell hs k s t ≡ false
+  idle-none-falls k n s t = no-test (fell hs k s t) (λ e. let p = fell-place k s t e in clash (p .tested) (n (p .at) (p .within)))
+
+  idle-still : (k : ℕ) → Idle k → (s t : ℕ) → survives hs (suc k) s t ≡ survives hs k s t
+  idle-still k n s t =
+      same-test (survives hs (suc k) s t) (survives hs k s t) (survives-falls k s t)
+      (λ e. ⊎-elim (λ h. h) (λ h. clash (fell-yes k s t e h) (idle-none-falls k n s t)) (decided (survives hs (suc k) s t)))
+
+  -- and after a round in which nothing falls no hop is due
+  pub none-idle : (k : ℕ) → ((s t : ℕ) → fell hs k s t ≡ false) → Idle (suc k)
+  unfolding due
+  none-idle k f i l =
+      and-no-right (standing hs (suc k) i) (no-test (shaken hs (fell hs k) (from hs i) (to hs i))
+      (λ h. let (a, s3, x, (s4, y, e)) = shaken-says (fell hs k) (from hs i) (to hs i) h in clash e (f s3 s4)))
+
+  -- so only such rounds follow
+  idle-next : (k : ℕ) → Idle k → Idle (suc k)
+  idle-next k n = none-idle k (idle-none-falls k n)
+
+  pub idle-after : (k : ℕ) → Idle k → (m : ℕ) → Idle (m + k)
+  idle-after k n zero = rw zero-left n where
+    zero-left : 0 + k ≡ k
+    zero-left = omega arith
+  idle-after k n (suc m) = rw suc-left (idle-next (m + k) (idle-after k n m)) where
+    suc-left : suc m + k ≡ suc (m + k)
+    suc-left = omega arith
+
+  pub idle-rests : (k : ℕ) → Idle k → (m s t : ℕ) → survives hs (m + k) s t ≡ survives hs k s t
+  idle-rests k n zero s t = rw zero-left where
+    zero-left : 0 + k ≡ k
+    zero-left = omega arith
+  idle-rests k n (suc m) s t = rw suc-left (idle-still (m + k) (idle-after k n m) s t ∙ idle-rests k n m s t) where
+    suc-left : suc m + k ≡ suc (m + k)
+    suc-left = omega arith
+
+  pub idle-marked : (k : ℕ) → Idle k → (s t : ℕ) → survives hs k s t ≡ marked hs s t
+  unfolding marked survives
+  idle-marked k n s t = sym (idle-rests k n (count hs) s t) ∙ (rw turned (sym (left-rests (closes hs) (silentHops hs) (closes-monotone hs) (silent-listed hs) k s t))) where
+    turned : count hs + k ≡ k + count hs
+    turned = omega arith
+
+  -- each round with a due hop has lost a hop more: only as many rounds as hops have any
+  spent : (k i : ℕ) → i < count hs → due hs k i ≡ true → tally (count hs) (standing hs k) + k ≤ count hs
+  unfolding due
+  spent zero i l e = omega (arith, tally-within (standing hs 0) (count hs))
+  spent (suc k) i l e =
+      let (a, s3, x, (s4, y, f)) = shaken-says (fell hs k) (from hs i) (to hs i) (and-right (standing hs (suc k) i) (shaken hs (fell hs k) (from hs i) (to hs i)) e) in
+      let p = fell-place k s3 s4 f in
+      omega (arith, spent k (p .at) (p .within) (p .tested), tally-less (standing hs (suc k)) (standing hs k) (count hs) (λ z w. standing-falls k z) (p .within) (p .falls) (p .stood))
+
+  pub due-early : (k i : ℕ) → i < count hs → due hs k i ≡ true → k < count hs
+  due-early k i l e =
+      omega (arith, spent k i l e, tally-less (λ (j : ℕ). false) (standing hs k) (count hs) (λ j m h. clash h refl) l refl (due-standing k i l e))
+
+  pub idle-late : (m : ℕ) → Idle (m + count hs)
+  idle-late m i l = no-test (due hs (m + count hs) i) (λ e. absurd (omega (arith, due-early (m + count hs) i l e)))
+
+  -- so the number of tests is that of any number of rounds at whose end no hop is due
+  idle-tests : (k : ℕ) → Idle k → testsIn hs k ≡ 0
+  unfolding testsIn
+  idle-tests k n = tally-zero (due hs k) (count hs) n
+
+  tests-rest : (k : ℕ) → Idle k → (m : ℕ) → testsUpTo hs (m + k) ≡ testsUpTo hs k
+  unfolding testsUpTo total
+  tests-rest k n zero = rw zero-left where
+    zero-left : 0 + k ≡ k
+    zero-left = omega arith
+  tests-rest k n (suc m) =
+      rw suc-left (omega (arith, idle-tests (m + k) (idle-after k n m), tests-rest k n m)) where
+        suc-left : suc m + k ≡ suc (m + k)
+        suc-left = omega arith
+
+  -- the bound is no cut
+  pub tests-all : (m : ℕ) → testsUpTo hs (m + count hs) ≡ testsOf hs
+  unfolding testsOf
+  tests-all m = tests-rest (count hs) (rw zero-left at (idle-late 0)) m where
+    zero-left : 0 + count hs ≡ count hs
+    zero-left = omega arith
+
+  pub tests-end : (k : ℕ) → Idle k → testsUpTo hs k ≡ testsOf hs
+  tests-end k n = sym (tests-rest k n (count hs)) ∙ (rw turned (tests-all k)) where
+    turned : count hs + k ≡ k + count hs
+    turned = omega arith

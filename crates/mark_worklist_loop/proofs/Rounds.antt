@@ -1,0 +1,248 @@
+-- From one round to the next: what is noted from the hops that fell is what is due, and its tests, with the marks taken, make the next round. The first round,
+-- and the end: where nothing falls the marks are those of the marked set and all tests are made. Assumes nothing.
+use Prim.Native.Nat.{ℕ, zero, suc, _+_, _*_, _<_, _≤_}
+use mathlib.Core.Path.{_≡_, refl, sym, _∙_}
+use mathlib.Core.Bool.{Bool, true, false, cond, _&&_}
+use mathlib.Core.List.{List}
+use mathlib.Core.Logic.{_⊎_, inl, inr, ⊎-elim}
+use native.Mathlib.Nat.{not-suc-le-zero}
+use native.Mathlib.Numerals.{add-one}
+use native.Mathlib.Omega.{arith}
+use lib.ListN.{length, getD, replicate, getD-replicate}
+use lib.Dec.{ltb}
+use borrow.Author.Tests.{lt-ltb, le-ltb}
+use Rattle.base_bounded.specs.Tests.{tally, total}
+use Rattle.base_bounded.proofs.Bools.{clash, decided, eq-or-not, lt-or-le, and-yes, and-left, and-right, same-test, no-test}
+use Rattle.base_bounded.proofs.Tests.{tally-same, tally-mono, tally-within, tally-less, total-more, total-most}
+use Rattle.base_outputs.specs.Output.{onFront}
+use Rattle.graph.specs.Hops.{count, from, label, to, has}
+use Rattle.graph.specs.Answers.{most-hops}
+use Rattle.graph.proofs.Places.{has-at}
+use Rattle.base_fixpoint.specs.Pairs.{In}
+use Rattle.mark_confluence.specs.Rounds.{answered, closes, survives, marked}
+use Rattle.mark_confluence.specs.Held.{isMarked, markOf, marksOf, everyPair}
+use Rattle.mark_confluence.proofs.Rounds.{survives-none}
+use Rattle.mark_confluence.proofs.Closing.{Answered, answers-yes, closes-says}
+use Rattle.mark_diamond_retest.specs.Again.{Unshed}
+use Rattle.mark_confluence.proofs.Marks.{mark-one, mark-visible, marks-at, marks-room, marks-beyond, marks-made}
+use Rattle.mark_worklist.specs.Due.{fell, standing, shaken, due, testsIn, testsUpTo, testsOf}
+use Rattle.mark_worklist.proofs.Due.{survives-closes, due-standing, fell-yes, fell-place, standing-yes, standing-silent, standing-survives, standing-falls, shaken-yes, shaken-says, not-due-stands, Idle, none-idle, idle-marked, due-early, tests-end}
+use Rattle.mark_worklist_push.specs.Queue.{Among, Leaving, Queue, Noted, ClosedByAny, Listed, Unset}
+use Rattle.mark_worklist_push.proofs.Queueing.{flag-no, queue-none}
+use Rattle.mark_worklist_round.specs.Testing.{Lists, Spared, Shed, Tested, Taken, Falls}
+use Rattle.mark_worklist_loop.specs.Falling.{After}
+use Rattle.mark_worklist_round.proofs.Parts.{held-survives, mark-test, falls-all, marks-next, taken-none}
+
+module _ (hs : List ℕ) where
+  -- what fell is the set of the hops whose places are listed
+  module _ (k : ℕ) {fl : List ℕ} {n : ℕ} (f : Falls hs k fl n) where
+    fell-listed : (p : ℕ) → Among fl n p → fell hs k (from hs p) (to hs p) ≡ true
+    fell-listed p (q, m, e) =
+        let (l, a, b) = f .each q m in
+        let on : standing hs k p ≡ true = rw e at a in
+        let off : standing hs (suc k) p ≡ false = rw e at b in
+        fell-yes hs k (from hs p) (to hs p) (standing-survives hs k p on)
+        (no-test (survives hs (suc k) (from hs p) (to hs p)) (λ h. clash (standing-yes hs (suc k) p (standing-silent hs k p on) h) off))
+
+    closed-shaken : (i : ℕ) → ClosedByAny hs fl n i → shaken hs (fell hs k) (from hs i) (to hs i) ≡ true
+    closed-shaken i (p, m, (a, h, x)) = shaken-yes hs (fell hs k) (from hs i) (to hs i) (a, from hs p, h, (to hs p, x, fell-listed p m))
+
+    shaken-closed : (i : ℕ) → shaken hs (fell hs k) (from hs i) (to hs i) ≡ true → ClosedByAny hs fl n i
+    shaken-closed i e =
+        let (a, s3, h, (s4, x, d)) = shaken-says hs (fell hs k) (from hs i) (to hs i) e in
+        let p = fell-place hs k s3 s4 d in
+        (p .at, f .all (p .at) (p .within) (p .stood) (p .falls), (a, rw (p .from-is) h, rw (p .to-is) x))
+
+    -- where none is listed nothing fell
+    none-fell : n ≡ 0 → (s t : ℕ) → fell hs k s t ≡ false
+    none-fell z s t = no-test (fell hs k s t) (λ e. let p = fell-place hs k s t e in nothing (f .all (p .at) (p .within) (p .stood) (p .falls))) where
+      nothing : {i : ℕ} → Among fl n i → ⊥
+      nothing (q, m, e) = omega arith
+
+    -- a round in which a hop falls has one that is due, so there are no more such rounds than hops
+    pub falls-early : 0 < n → k < count hs
+    falls-early l =
+        let (w, a, b) = f .each 0 l in
+        due-early hs k (getD fl 0 0) w (⊎-elim (λ d. d) (λ d. clash (not-due-stands hs k (getD fl 0 0) a d) b) (decided (due hs k (getD fl 0 0))))
+
+  -- "The tests fit": at most 4,096 a round
+  pub tests-most : (k : ℕ) → count hs ≤ most-hops → testsUpTo hs k ≤ k * most-hops
+  unfolding testsUpTo testsIn
+  tests-most k l = total-most (testsIn hs) most-hops k (λ j m. omega (arith, tally-within (due hs j) (count hs)))
+
+  tests-next : (k : ℕ) {t r : ℕ} → t ≡ testsUpTo hs k → r ≡ testsIn hs k → t + r ≡ testsUpTo hs (suc k)
+  unfolding testsUpTo
+  tests-next k e d = rw (← add-one k) (total-more (testsIn hs) k e d)
+
+  module _ {k : ℕ} {ms out fl : List ℕ} {n t : ℕ} (a : After hs k ms out fl n t) where
+    -- what is noted is what is due
+    module _ {f0 q0 fs qs : List ℕ} {r : ℕ} (q : Queue hs f0 q0 0) (g : Noted hs ms (ClosedByAny hs fl n) f0 fs qs r) where
+      flag-due : (i : ℕ) → i < count hs → isMarked fs i ≡ due hs (suc k) i
+      unfolding due
+      flag-due i l = same-test (isMarked fs i) (standing hs (suc k) i && shaken hs (fell hs k) (from hs i) (to hs i)) on back where
+        empty : isMarked f0 i ≡ true → ⊥
+        empty e = let (j, m, x) = q .all i l e in not-suc-le-zero m
+
+        on : isMarked fs i ≡ true → (standing hs (suc k) i && shaken hs (fell hs k) (from hs i) (to hs i)) ≡ true
+        on e =
+            ⊎-elim (λ h. absurd (empty h))
+            (λ w. and-yes (sym (mark-test hs (suc k) ms out (a .marks) l) ∙ w .marked) (closed-shaken k (a .falls) i (w .inside))) (g .came i l e)
+
+        back : (standing hs (suc k) i && shaken hs (fell hs k) (from hs i) (to hs i)) ≡ true → isMarked fs i ≡ true
+        back e =
+            let s : standing hs (suc k) i ≡ true = and-left (standing hs (suc k) i) (shaken hs (fell hs k) (from hs i) (to hs i)) e in
+            g .all i l (record {
+              silent = standing-silent hs (suc k) i s;
+              marked = mark-test hs (suc k) ms out (a .marks) l ∙ s;
+              inside = shaken-closed k (a .falls) i (and-right (standing hs (suc k) i) (shaken hs (fell hs k) (from hs i) (to hs i)) e);
+            })
+
+      pub noted-lists : Lists (count hs) (due hs (suc k)) qs r
+      noted-lists = record {
+        counted = g .queue .counted ∙ tally-same (isMarked fs) (due hs (suc k)) (count hs) flag-due;
+        each = λ j m. let (l, e) = g .queue .each j m in (l, sym (flag-due (getD qs j 0) l) ∙ e);
+        all = λ i l e. g .queue .all i l (flag-due i l ∙ e);
+      }
+
+      pub noted-most : r ≤ count hs
+      noted-most = omega (arith, g .queue .counted, tally-within (isMarked fs) (count hs))
+
+      -- what leads to a state that nothing fell from is answered as it was in the round before
+      pub noted-spared : (sh : List ℕ) → Shed hs fl n sh → Spared hs ms sh false qs r
+      unfolding Spared Shed Unshed answered
+      noted-spared sh f b m l j v e o = rw (held-survives hs (suc k) ms out (a .marks)) (answers-yes hs (survives hs (suc k)) (to hs i) (label hs j) (to hs j) (still (closes-says hs (survives hs k) (from hs i) (to hs i) closed (label hs j) (to hs j) (rw e at (has-at hs v))))) where
+        i : ℕ
+        i = getD qs m 0
+
+        closed : closes hs (survives hs k) (from hs i) (to hs i) ≡ true
+        closed =
+            survives-closes hs k (from hs i) (to hs i)
+            (standing-survives hs (suc k) i (due-standing hs (suc k) i (noted-lists .each m l .0) (noted-lists .each m l .1)))
+
+        still : Answered hs (In (survives hs k)) (to hs i) (label hs j) (to hs j) → Answered hs (In (survives hs (suc k))) (to hs i) (label hs j) (to hs j)
+        still (s4, x, inl y) = (s4, x, inl y)
+        still (s4, x, inr y) = (s4, x, inr (⊎-elim (λ z. z) (λ z. fallen z) (decided (survives hs (suc k) (to hs j) s4)))) where
+          fallen : survives hs (suc k) (to hs j) s4 ≡ false → survives hs (suc k) (to hs j) s4 ≡ true
+          fallen z =
+              let p = fell-place hs k (to hs j) s4 (fell-yes hs k (to hs j) s4 y z) in
+              let (q, w, d) = a .falls .all (p .at) (p .within) (p .stood) (p .falls) in
+              let u : isMarked sh (to hs j) ≡ true = rw (d, p .from-is) at (f q w) in
+              clash u o
+
+      -- and its tests make the next round
+      module _ {new fl' : List ℕ} {n' : ℕ} (d : Tested hs ms qs r fs new fl' n') where
+        pub tested-queue : Queue hs new qs 0
+        unfolding Unset
+        tested-queue = queue-none hs ms (d .flags) (g .queue .room) unset where
+          unset : Unset hs new
+          unset i l = no-test (isMarked new i) (λ e. clash e (d .taken i (g .queue .all i l (d .kept i e))))
+
+        pub next-falls : Falls hs (suc k) fl' n'
+        next-falls = falls-all hs (suc k) ms out (a .marks) qs r noted-lists d
+
+        module _ {ms' : List ℕ} (room : count hs ≤ length ms') (w : Taken ms fl' n' ms') where
+          pub after-next : n' ≤ most-hops → After hs (suc k) ms' out fl' n' (t + r)
+          unfolding testsIn
+          after-next l = record {
+            marks = marks-next hs (suc k) ms out (a .marks) room next-falls w;
+            falls = next-falls;
+            most = l;
+            room = d .room;
+            tests = tests-next (suc k) (a .tests) (noted-lists .counted);
+          }
+
+          fewer : (i : ℕ) → i < count hs → isMarked ms' i ≡ true → isMarked ms i ≡ true
+          fewer i l e =
+              mark-test hs (suc k) ms out (a .marks) l ∙
+              standing-falls hs (suc k) i (sym (mark-test hs (suc (suc k)) ms' out (marks-next hs (suc k) ms out (a .marks) room next-falls w) l) ∙ e)
+
+          pub leaving-next : (ls : List ℕ) → Leaving hs ms ls → Leaving hs ms' ls
+          unfolding Leaving
+          leaving-next ls f i l e = f i l (fewer i l e)
+
+          -- marks are lost, or nothing more falls
+          pub after-less : 0 < n → tally (count hs) (isMarked ms') + cond (ltb 0 n') 1 0 < tally (count hs) (isMarked ms) + cond (ltb 0 n) 1 0
+          after-less l = rw (lt-ltb 0 n l) (go (lt-or-le 0 n')) where
+            go : (0 < n') ⊎ (n' ≤ 0) → tally (count hs) (isMarked ms') + cond (ltb 0 n') 1 0 < tally (count hs) (isMarked ms) + 1
+            go (inl m) =
+                let (x, y, z) = next-falls .each 0 m in
+                let o : isMarked ms (getD fl' 0 0) ≡ true = mark-test hs (suc k) ms out (a .marks) x ∙ y in
+                let p : isMarked ms' (getD fl' 0 0) ≡ false = mark-test hs (suc (suc k)) ms' out (marks-next hs (suc k) ms out (a .marks) room next-falls w) x ∙ z in
+                rw (lt-ltb 0 n' m) (omega (arith, tally-less (isMarked ms') (isMarked ms) (count hs) fewer x p o))
+            go (inr m) = rw (le-ltb 0 n' m) (omega (arith, tally-mono (isMarked ms') (isMarked ms) (count hs) fewer))
+
+    pub after-early : 0 < n → k < count hs
+    after-early = falls-early k (a .falls)
+
+    -- the end
+    module _ (z : n ≡ 0) where
+      idle : Idle hs (suc k)
+      idle = none-idle hs k (none-fell k (a .falls) z)
+
+      pub after-tests : t ≡ testsOf hs
+      after-tests = a .tests ∙ tests-end hs (suc k) idle
+
+      all-survive : survives hs (suc k) ≡ marked hs
+      all-survive = λ j s t. idle-marked hs (suc k) idle s t j
+
+      pub after-marks : ms ≡ onFront (marksOf hs (marked hs)) out
+      after-marks = rw all-survive at (a .marks)
+
+  -- marks that are written at the front of a list are at the front of what is left
+  pub after-itself : {k : ℕ} {ms out fl : List ℕ} {n t : ℕ} → count hs ≤ length ms → After hs k ms out fl n t → After hs k ms ms fl n t
+  after-itself {k} {ms} {out} room a = record {
+    marks = marks-made hs (survives hs (suc k)) ms ms room (λ i l. marks-at hs (survives hs (suc k)) ms out (a .marks) l) refl;
+    falls = a .falls;
+    most = a .most;
+    room = a .room;
+    tests = a .tests;
+  }
+
+  -- the first round
+  module _ (ms out : List ℕ) (room : count hs ≤ length out) (e : ms ≡ onFront (marksOf hs everyPair) out) where
+    first-marks : ms ≡ onFront (marksOf hs (survives hs 0)) out
+    first-marks =
+        marks-made hs (survives hs 0) ms out (rw (marks-room hs everyPair ms out e room) room) at-place (marks-beyond hs everyPair ms out e) where
+          at-place : (i : ℕ) → i < count hs → getD ms i 0 ≡ markOf hs (survives hs 0) i
+          at-place i l = marks-at hs everyPair ms out e l ∙ go (eq-or-not (label hs i) 0) where
+            go : (label hs i ≡ 0) ⊎ (label hs i ≡ 0 → ⊥) → markOf hs everyPair i ≡ markOf hs (survives hs 0) i
+            go (inl q) =
+                mark-one hs everyPair i q refl ∙ sym (mark-one hs (survives hs 0) i q (survives-none hs (from hs i) (to hs i) ∙ (rw q at (has-at hs l))))
+            go (inr q) = mark-visible hs everyPair i q ∙ sym (mark-visible hs (survives hs 0) i q)
+
+    pub after-first : {qs old new fl ms' : List ℕ} {n r : ℕ} → Lists (count hs) (due hs 0) qs n → Tested hs ms qs n old new fl r → r ≤ most-hops →
+        Taken ms fl r ms' → count hs ≤ length ms' → After hs 0 ms' out fl r n
+    unfolding testsUpTo testsIn total
+    after-first {qs} {n = n} d x l w m = record {
+      marks = marks-next hs 0 ms out first-marks m (falls-all hs 0 ms out first-marks qs n d x) w;
+      falls = falls-all hs 0 ms out first-marks qs n d x;
+      most = l;
+      room = x .room;
+      tests = omega (arith, d .counted);
+    }
+
+    -- in which nothing fell
+    pub after-still : {qs old new fl : List ℕ} {n r : ℕ} → Lists (count hs) (due hs 0) qs n → Tested hs ms qs n old new fl r → r ≡ 0 → After hs 0 ms out fl r n
+    after-still {fl = fl} d x z =
+        after-first d x (omega arith) (rw z (taken-none ms fl)) (rw (marks-room hs everyPair ms out e room) room)
+
+  pub lists-listed : {p : ℕ → Bool} {qs : List ℕ} {n : ℕ} → Lists (count hs) p qs n → Listed hs qs n
+  unfolding Listed
+  lists-listed d j m = d .each j m .0
+
+  pub first-queue : {ms qs old new fl : List ℕ} {n r : ℕ} → Tested hs ms qs n old new fl r → count hs ≤ length qs → Unset hs old → Queue hs new qs 0
+  unfolding Unset
+  first-queue {ms} {new = new} x l u = queue-none hs ms (x .flags) l (λ i m. no-test (isMarked new i) (λ h. clash (x .kept i h) (u i m)))
+
+  -- what is listed as fallen was listed to be tested
+  pub tested-inside : {p : ℕ → Bool} {ms qs old new fl : List ℕ} {n r : ℕ} → Lists (count hs) p qs n → Tested hs ms qs n old new fl r →
+      (q : ℕ) → q < r → getD fl q 0 < count hs
+  tested-inside d x q l = let ((j, m, e), y) = x .each q l in rw e at (d .each j m .0)
+
+  pub lists-most : {p : ℕ → Bool} {qs : List ℕ} {n : ℕ} → Lists (count hs) p qs n → n ≤ count hs
+  lists-most {p} d = omega (arith, d .counted, tally-within p (count hs))
+
+  -- flags that are all 0
+  pub zeros-unset : count hs ≤ most-hops → Unset hs (replicate most-hops 0)
+  unfolding Unset
+  zeros-unset l i m = flag-no (replicate most-hops 0) i (λ e. absurd (omega (arith, getD-replicate {A = ℕ} most-hops i 0 0 (omega arith))))

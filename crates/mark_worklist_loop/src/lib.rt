@@ -1,0 +1,115 @@
+// Marking in rounds that test only what is due, behind the refusals: document 02's faster marking, with the number of its tests. The first round tests every
+// silent hop, and each later one those that a fall in the round before can have shaken. Rounds are synchronous: a round tests against the marks as they
+// were when it began, and takes the marks of what fell at its end. Whoever has refused already calls `mark_rounds`: `mark`, `mark_fast`, `reduce`, the program.
+// It stands on `mark_worklist` (which hops a round tests, and that the others survive it), `mark_worklist_next` (which finds them) and `mark_worklist_round` (the parts of a round).
+use graph::MOST_HOPS;
+use graph::MOST_STATES;
+use graph_predecessors::begins_of;
+use graph_predecessors::places_of;
+use graph_successors::STARTS;
+use mark_confluence::start_marks;
+use mark_worklist_next::leaving_of;
+use mark_worklist_next::next_due;
+use mark_worklist_round::list_silent;
+use mark_worklist_round::shed_of;
+use mark_worklist_round::take_fallen;
+use mark_worklist_round::test_due;
+ghost use mathlib.Core.Path.{_≡_};
+ghost use Prim.Native.Nat.{_≤_};
+ghost use lib.ListN.{length};
+ghost use Rattle.base_outputs.specs.Output.{onFront};
+ghost use Rattle.graph.specs.Hops.{count};
+ghost use Rattle.mark_confluence.specs.Rounds.{marked};
+ghost use Rattle.mark_confluence.specs.Held.{marksOf};
+ghost use Rattle.graph_successors.specs.Starts.{Table, Ready};
+ghost use Rattle.mark_worklist.specs.Due.{testsOf};
+ghost use Rattle.mark_worklist_push.specs.Queue.{Queue};
+ghost use Rattle.mark_worklist_loop.specs.Falling.{AfterSome};
+
+// The rounds after the first, in which `lost` hops fell; returns the number of all tests. The table of the hops into a state is made here, since most
+// graphs need none: nothing falls in the first round.
+fn later_rounds(
+    hops: &[u16],
+    starts: &[u16; STARTS],
+    marks: &mut [u8],
+    queue: &mut [u16; MOST_HOPS],
+    flags: &mut [u8; MOST_HOPS],
+    fallen: &mut [u16; MOST_HOPS],
+    lost: usize,
+    tests: usize,
+) -> usize
+    requires ready { ⌜ Ready (now hops) ⌝ }
+    requires table { ⌜ Table (now hops) (now starts) ⌝ }
+    requires room { ⌜ count (now hops) ≤ length (now marks) ⌝ }
+    requires queue { ⌜ Queue (now hops) (now flags) (now queue) 0 ⌝ }
+    requires after { ⌜ AfterSome (now hops) (now marks) (now marks) (now fallen) lost tests ⌝ }
+    ensures tests { λ r. ⌜ r ≡ testsOf (now (hops .entry)) ⌝ }
+    ensures writes { λ r. ⌜ now (marks .exit) ≡ onFront (marksOf (now (hops .entry)) (marked (now (hops .entry)))) (now (marks .entry)) ⌝ }
+{
+    let begins = begins_of(hops);
+    let places = places_of(hops, &begins);
+    let leaving = leaving_of(hops, marks);
+    let mut left = lost;
+    let mut sum = tests;
+    while left > 0 {
+        let n = next_due(
+            hops,
+            starts,
+            &begins,
+            &places,
+            &leaving,
+            marks,
+            fallen,
+            left,
+            flags,
+            queue,
+        );
+        sum += n;
+        let shed = shed_of(hops, fallen, left);
+        left = test_due(hops, starts, marks, &shed, false, queue, n, flags, fallen);
+        take_fallen(marks, fallen, left);
+    }
+    sum
+}
+
+// Marks by rounds, by the table of first places, which the refusals made already; returns the number of tests.
+pub fn mark_rounds(hops: &[u16], starts: &[u16; STARTS], marks: &mut [u8]) -> usize
+    requires ready { ⌜ Ready (now hops) ⌝ }
+    requires table { ⌜ Table (now hops) (now starts) ⌝ }
+    requires room { ⌜ count (now hops) ≤ length (now marks) ⌝ }
+    ensures tests { λ r. ⌜ r ≡ testsOf (now (hops .entry)) ⌝ }
+    ensures writes { λ r. ⌜ now (marks .exit) ≡ onFront (marksOf (now (hops .entry)) (marked (now (hops .entry)))) (now (marks .entry)) ⌝ }
+{
+    let mut queue = [0u16; MOST_HOPS];
+    let mut flags = [0u8; MOST_HOPS];
+    let mut fallen = [0u16; MOST_HOPS];
+    start_marks(hops, marks);
+    let n = list_silent(hops, &mut queue);
+    // the first round leaves nothing out, and does not look at this
+    let unasked = [0u8; MOST_STATES];
+    let lost = test_due(
+        hops,
+        starts,
+        marks,
+        &unasked,
+        true,
+        &queue,
+        n,
+        &mut flags,
+        &mut fallen,
+    );
+    if lost == 0 {
+        return n;
+    }
+    take_fallen(marks, &fallen, lost);
+    later_rounds(
+        hops,
+        starts,
+        marks,
+        &mut queue,
+        &mut flags,
+        &mut fallen,
+        lost,
+        n,
+    )
+}

@@ -1,0 +1,167 @@
+// Which hops the next round tests, found from those that fell: from each fallen hop s3 to s4 over the hops into s3, which are hops to try of the states
+// that they leave, and for each of them, s1, a, s3, over the silent hops of s1 where its whole row is at most a few hops longer than what leads to s4, else over the
+// hops into s4, of which those labelled a answer. So a pair costs at most the hops into s4 and those few, and is met for one fallen hop at most.
+// It stands on `mark_worklist_push` (what one such pair brings to the queue), `graph_predecessors` (the hops into a state) and `graph_successors` (those out of it).
+use graph::MOST_HOPS;
+use graph::MOST_STATES;
+use graph::hops::from_at;
+use graph::hops::hop_count;
+use graph::hops::to_at;
+use graph_predecessors::place_at;
+use graph_successors::STARTS;
+use graph_successors::start_of;
+use graph_successors::wide;
+use mark_worklist_push::note_into;
+use mark_worklist_push::note_out;
+ghost use Prim.Native.Nat.{_<_, _≤_};
+ghost use lib.ListN.{length};
+ghost use Rattle.graph.specs.Hops.{count};
+ghost use Rattle.graph.specs.Answers.{most-hops};
+ghost use Rattle.graph_successors.specs.Starts.{Ready};
+ghost use Rattle.mark_worklist_push.specs.Queue.{Tables, Leaving, Queue, Noted, Trying, ClosedBy, ClosedByAny, Listed};
+
+// A state with so few hops more than lead to s4 is gone over by its own: that asks for no search where none of them is marked.
+const FEW: usize = 16;
+
+// The states that a marked hop leaves: 1 for each of them. Marks only fall, so what is said of another state stays true.
+pub fn leaving_of(hops: &[u16], marks: &[u8]) -> [u8; MOST_STATES]
+    requires ready { ⌜ Ready (now hops) ⌝ }
+    requires room { ⌜ count (now hops) ≤ length (now marks) ⌝ }
+    ensures { λ r. ⌜ Leaving (now (hops .entry)) (now (marks .entry)) r ⌝ }
+{
+    let mut leaving = [0u8; MOST_STATES];
+    let n = hop_count(hops);
+    let mut i = 0;
+    while i < n {
+        if marks[i] == 1 {
+            let s = wide(from_at(hops, i).0);
+            leaving[s] = 1;
+        }
+        i += 1;
+    }
+    leaving
+}
+
+// Queues the silent hops that have the hop to try at place j and the end of the hop at place p for an s4, by the way that costs less.
+fn note_hop(
+    hops: &[u16],
+    starts: &[u16; STARTS],
+    begins: &[u16; STARTS],
+    places: &[u16; MOST_HOPS],
+    leaving: &[u8; MOST_STATES],
+    marks: &[u8],
+    flags: &mut [u8; MOST_HOPS],
+    queue: &mut [u16; MOST_HOPS],
+    n: usize,
+    j: usize,
+    p: usize,
+) -> usize
+    requires tables { ⌜ Tables (now hops) (now starts) (now begins) (now places) ⌝ }
+    requires leaving { ⌜ Leaving (now hops) (now marks) (now leaving) ⌝ }
+    requires room { ⌜ count (now hops) ≤ length (now marks) ⌝ }
+    requires queue { ⌜ Queue (now hops) (now flags) (now queue) n ⌝ }
+    requires tried { ⌜ j < count (now hops) ⌝ }
+    requires fallen { ⌜ p < count (now hops) ⌝ }
+    ensures { λ r. ⌜ Noted (now (hops .entry)) (now (marks .entry)) (Trying (now (hops .entry)) j p)
+        (now (flags .entry)) (now (flags .exit)) (now (queue .exit)) r ⌝ }
+{
+    let s1 = wide(from_at(hops, j).0);
+    if leaving[s1] != 1 {
+        return n;
+    }
+    let s4 = wide(to_at(hops, p).0);
+    if start_of(starts, s1 + 1) + start_of(begins, s4)
+        <= start_of(begins, s4 + 1) + start_of(starts, s1) + FEW
+    {
+        return note_out(hops, starts, marks, flags, queue, n, j, p);
+    }
+    note_into(hops, starts, begins, places, marks, flags, queue, n, j, p)
+}
+
+// Queues the marked hops of which the hop at place p, s3 to s4, is a closing hop: each hop into s3 is one to try.
+fn note_fallen(
+    hops: &[u16],
+    starts: &[u16; STARTS],
+    begins: &[u16; STARTS],
+    places: &[u16; MOST_HOPS],
+    leaving: &[u8; MOST_STATES],
+    marks: &[u8],
+    flags: &mut [u8; MOST_HOPS],
+    queue: &mut [u16; MOST_HOPS],
+    n: usize,
+    p: usize,
+) -> usize
+    requires tables { ⌜ Tables (now hops) (now starts) (now begins) (now places) ⌝ }
+    requires leaving { ⌜ Leaving (now hops) (now marks) (now leaving) ⌝ }
+    requires room { ⌜ count (now hops) ≤ length (now marks) ⌝ }
+    requires queue { ⌜ Queue (now hops) (now flags) (now queue) n ⌝ }
+    requires fallen { ⌜ p < count (now hops) ⌝ }
+    ensures { λ r. ⌜ Noted (now (hops .entry)) (now (marks .entry)) (ClosedBy (now (hops .entry)) p)
+        (now (flags .entry)) (now (flags .exit)) (now (queue .exit)) r ⌝ }
+{
+    let s3 = wide(from_at(hops, p).0);
+    let past = start_of(begins, s3 + 1);
+    let mut length = n;
+    let mut k = start_of(begins, s3);
+    while k < past {
+        let j = place_at(places, k);
+        length = note_hop(
+            hops,
+            starts,
+            begins,
+            places,
+            leaving,
+            marks,
+            flags,
+            queue,
+            length,
+            j,
+            p,
+        );
+        k += 1;
+    }
+    length
+}
+
+// Queues the marked hops of which one of the fallen hops is a closing hop; returns how many there are.
+pub fn next_due(
+    hops: &[u16],
+    starts: &[u16; STARTS],
+    begins: &[u16; STARTS],
+    places: &[u16; MOST_HOPS],
+    leaving: &[u8; MOST_STATES],
+    marks: &[u8],
+    fallen: &[u16; MOST_HOPS],
+    lost: usize,
+    flags: &mut [u8; MOST_HOPS],
+    queue: &mut [u16; MOST_HOPS],
+) -> usize
+    requires tables { ⌜ Tables (now hops) (now starts) (now begins) (now places) ⌝ }
+    requires leaving { ⌜ Leaving (now hops) (now marks) (now leaving) ⌝ }
+    requires room { ⌜ count (now hops) ≤ length (now marks) ⌝ }
+    requires queue { ⌜ Queue (now hops) (now flags) (now queue) 0 ⌝ }
+    requires most { ⌜ lost ≤ most-hops ⌝ }
+    requires fallen { ⌜ Listed (now hops) (now fallen) lost ⌝ }
+    ensures { λ r. ⌜ Noted (now (hops .entry)) (now (marks .entry)) (ClosedByAny (now (hops .entry)) (now (fallen .entry)) lost)
+        (now (flags .entry)) (now (flags .exit)) (now (queue .exit)) r ⌝ }
+{
+    let mut length = 0;
+    let mut q = 0;
+    while q < lost {
+        let p = place_at(fallen, q);
+        length = note_fallen(
+            hops,
+            starts,
+            begins,
+            places,
+            leaving,
+            marks,
+            flags,
+            queue,
+            length,
+            p,
+        );
+        q += 1;
+    }
+    length
+}

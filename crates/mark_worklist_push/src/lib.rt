@@ -1,0 +1,266 @@
+// One pair of a hop to try and a hop that fell: which silent hops they send to the next test. For the hop s1, a, s3 and the fallen hop s3 to s4 these are the
+// marked hops of s1 to a state that s4 answers for, found by s1's own silent hops (`note_out`) or by the hops into s4 (`note_into`). A hop that is to be tested
+// comes to a queue, once. `mark_worklist_next` asks this of each such pair.
+// It stands on `graph_predecessors` (the hops into a state), `graph_successors` (those out of it) and `mark_confluence` (marks, and document 01's first point).
+use graph::Found;
+use graph::Label;
+use graph::MOST_HOPS;
+use graph::OldState;
+use graph::hops::from_at;
+use graph::hops::hop_of;
+use graph::hops::label_at;
+use graph::hops::to_at;
+use graph_predecessors::place_at;
+use graph_successors::STARTS;
+use graph_successors::find_row;
+use graph_successors::labelled_past;
+use graph_successors::start_of;
+use graph_successors::wide;
+ghost use mathlib.Core.Path.{_≡_};
+ghost use Prim.Native.Nat.{_<_, _≤_};
+ghost use lib.ListN.{length};
+ghost use Rattle.graph.specs.Hops.{count, label};
+ghost use Rattle.graph.specs.Answers.{most-states};
+ghost use Rattle.graph_successors.specs.Starts.{Table, Ready};
+ghost use Rattle.mark_worklist_push.specs.Queue.{Tables, Queue, Noted, Only, Joining, Like, Answering, Trying, Asked, Point};
+
+// Queues the silent hop at place i if it is marked, and not queued yet; returns how long the queue is.
+fn note(
+    hops: &[u16],
+    marks: &[u8],
+    flags: &mut [u8; MOST_HOPS],
+    queue: &mut [u16; MOST_HOPS],
+    n: usize,
+    i: usize,
+) -> usize
+    requires ready { ⌜ Ready (now hops) ⌝ }
+    requires room { ⌜ count (now hops) ≤ length (now marks) ⌝ }
+    requires queue { ⌜ Queue (now hops) (now flags) (now queue) n ⌝ }
+    requires place { ⌜ i < count (now hops) ⌝ }
+    requires silent { ⌜ label (now hops) i ≡ 0 ⌝ }
+    ensures { λ r. ⌜ Noted (now (hops .entry)) (now (marks .entry)) (Only i) (now (flags .entry)) (now (flags .exit)) (now (queue .exit)) r ⌝ }
+{
+    if marks[i] != 1 {
+        return n;
+    }
+    if flags[i] == 1 {
+        return n;
+    }
+    flags[i] = 1;
+    queue[n] = i as u16;
+    n + 1
+}
+
+// Queues the silent hop from s1 to s2.
+fn note_pair(
+    hops: &[u16],
+    starts: &[u16; STARTS],
+    marks: &[u8],
+    flags: &mut [u8; MOST_HOPS],
+    queue: &mut [u16; MOST_HOPS],
+    n: usize,
+    s1: OldState,
+    s2: OldState,
+) -> usize
+    requires ready { ⌜ Ready (now hops) ⌝ }
+    requires table { ⌜ Table (now hops) (now starts) ⌝ }
+    requires room { ⌜ count (now hops) ≤ length (now marks) ⌝ }
+    requires queue { ⌜ Queue (now hops) (now flags) (now queue) n ⌝ }
+    requires state { ⌜ s1 .0 < most-states ⌝ }
+    ensures { λ r. ⌜ Noted (now (hops .entry)) (now (marks .entry)) (Joining (now (hops .entry)) (s1 .0) (s2 .0))
+        (now (flags .entry)) (now (flags .exit)) (now (queue .exit)) r ⌝ }
+{
+    let Found::At(i) = find_row(hops, starts, hop_of(s1.0, 0, s2.0)) else {
+        return n;
+    };
+    note(hops, marks, flags, queue, n, i)
+}
+
+// Queues the silent hop from where the hop at place j begins to where the one at place m does, if the two have one label.
+fn note_like(
+    hops: &[u16],
+    starts: &[u16; STARTS],
+    marks: &[u8],
+    flags: &mut [u8; MOST_HOPS],
+    queue: &mut [u16; MOST_HOPS],
+    n: usize,
+    j: usize,
+    m: usize,
+) -> usize
+    requires ready { ⌜ Ready (now hops) ⌝ }
+    requires table { ⌜ Table (now hops) (now starts) ⌝ }
+    requires room { ⌜ count (now hops) ≤ length (now marks) ⌝ }
+    requires queue { ⌜ Queue (now hops) (now flags) (now queue) n ⌝ }
+    requires tried { ⌜ j < count (now hops) ⌝ }
+    requires answer { ⌜ m < count (now hops) ⌝ }
+    ensures { λ r. ⌜ Noted (now (hops .entry)) (now (marks .entry)) (Like (now (hops .entry)) j m)
+        (now (flags .entry)) (now (flags .exit)) (now (queue .exit)) r ⌝ }
+{
+    let a = label_at(hops, m);
+    if a.0 != label_at(hops, j).0 {
+        return n;
+    }
+    note_pair(
+        hops,
+        starts,
+        marks,
+        flags,
+        queue,
+        n,
+        from_at(hops, j),
+        from_at(hops, m),
+    )
+}
+
+// Queues s1's silent hops to states that have a hop to s4 of the label of the hop at place j, which leaves s1: each hop into s4 is asked.
+fn note_answers(
+    hops: &[u16],
+    starts: &[u16; STARTS],
+    begins: &[u16; STARTS],
+    places: &[u16; MOST_HOPS],
+    marks: &[u8],
+    flags: &mut [u8; MOST_HOPS],
+    queue: &mut [u16; MOST_HOPS],
+    n: usize,
+    j: usize,
+    p: usize,
+) -> usize
+    requires tables { ⌜ Tables (now hops) (now starts) (now begins) (now places) ⌝ }
+    requires room { ⌜ count (now hops) ≤ length (now marks) ⌝ }
+    requires queue { ⌜ Queue (now hops) (now flags) (now queue) n ⌝ }
+    requires tried { ⌜ j < count (now hops) ⌝ }
+    requires fallen { ⌜ p < count (now hops) ⌝ }
+    ensures { λ r. ⌜ Noted (now (hops .entry)) (now (marks .entry)) (Answering (now (hops .entry)) j p)
+        (now (flags .entry)) (now (flags .exit)) (now (queue .exit)) r ⌝ }
+{
+    let s4 = wide(to_at(hops, p).0);
+    let past = start_of(begins, s4 + 1);
+    let mut length = n;
+    let mut k = start_of(begins, s4);
+    while k < past {
+        let m = place_at(places, k);
+        length = note_like(hops, starts, marks, flags, queue, length, j, m);
+        k += 1;
+    }
+    length
+}
+
+// The same, with the silent hop to s4 itself where the hop to try is silent.
+pub fn note_into(
+    hops: &[u16],
+    starts: &[u16; STARTS],
+    begins: &[u16; STARTS],
+    places: &[u16; MOST_HOPS],
+    marks: &[u8],
+    flags: &mut [u8; MOST_HOPS],
+    queue: &mut [u16; MOST_HOPS],
+    n: usize,
+    j: usize,
+    p: usize,
+) -> usize
+    requires tables { ⌜ Tables (now hops) (now starts) (now begins) (now places) ⌝ }
+    requires room { ⌜ count (now hops) ≤ length (now marks) ⌝ }
+    requires queue { ⌜ Queue (now hops) (now flags) (now queue) n ⌝ }
+    requires tried { ⌜ j < count (now hops) ⌝ }
+    requires fallen { ⌜ p < count (now hops) ⌝ }
+    ensures { λ r. ⌜ Noted (now (hops .entry)) (now (marks .entry)) (Trying (now (hops .entry)) j p)
+        (now (flags .entry)) (now (flags .exit)) (now (queue .exit)) r ⌝ }
+{
+    let length = note_answers(hops, starts, begins, places, marks, flags, queue, n, j, p);
+    if label_at(hops, j).0 == 0 {
+        let s1 = from_at(hops, j);
+        let s4 = to_at(hops, p);
+        return note_pair(hops, starts, marks, flags, queue, length, s1, s4);
+    }
+    length
+}
+
+// Whether s4 is an s4 of s2 for a hop labelled a: document 01's first point.
+fn is_point(hops: &[u16], starts: &[u16; STARTS], s2: OldState, a: Label, s4: OldState) -> bool
+    requires ready { ⌜ Ready (now hops) ⌝ }
+    requires table { ⌜ Table (now hops) (now starts) ⌝ }
+    requires state { ⌜ s2 .0 < most-states ⌝ }
+    ensures { λ r. ⌜ Point (now (hops .entry)) (s2 .0) (a .0) (s4 .0) r ⌝ }
+{
+    if a.0 == 0 {
+        if s4.0 == s2.0 {
+            return true;
+        }
+    }
+    match find_row(hops, starts, hop_of(s2.0, a.0, s4.0)) {
+        Found::At(_) => true,
+        Found::Gap(_) => false,
+    }
+}
+
+// Queues the silent hop at place i if it is marked, not queued yet, and the end of the one at p is an s4 of its end for the label of the one at j.
+fn note_answered(
+    hops: &[u16],
+    starts: &[u16; STARTS],
+    marks: &[u8],
+    flags: &mut [u8; MOST_HOPS],
+    queue: &mut [u16; MOST_HOPS],
+    n: usize,
+    i: usize,
+    j: usize,
+    p: usize,
+) -> usize
+    requires ready { ⌜ Ready (now hops) ⌝ }
+    requires table { ⌜ Table (now hops) (now starts) ⌝ }
+    requires room { ⌜ count (now hops) ≤ length (now marks) ⌝ }
+    requires queue { ⌜ Queue (now hops) (now flags) (now queue) n ⌝ }
+    requires place { ⌜ i < count (now hops) ⌝ }
+    requires silent { ⌜ label (now hops) i ≡ 0 ⌝ }
+    requires tried { ⌜ j < count (now hops) ⌝ }
+    requires fallen { ⌜ p < count (now hops) ⌝ }
+    ensures { λ r. ⌜ Noted (now (hops .entry)) (now (marks .entry)) (Asked (now (hops .entry)) j p i)
+        (now (flags .entry)) (now (flags .exit)) (now (queue .exit)) r ⌝ }
+{
+    if marks[i] != 1 {
+        return n;
+    }
+    if flags[i] == 1 {
+        return n;
+    }
+    if is_point(
+        hops,
+        starts,
+        to_at(hops, i),
+        label_at(hops, j),
+        to_at(hops, p),
+    ) {
+        return note(hops, marks, flags, queue, n, i);
+    }
+    n
+}
+
+// As `note_into`, each silent hop of s1 asked.
+pub fn note_out(
+    hops: &[u16],
+    starts: &[u16; STARTS],
+    marks: &[u8],
+    flags: &mut [u8; MOST_HOPS],
+    queue: &mut [u16; MOST_HOPS],
+    n: usize,
+    j: usize,
+    p: usize,
+) -> usize
+    requires ready { ⌜ Ready (now hops) ⌝ }
+    requires table { ⌜ Table (now hops) (now starts) ⌝ }
+    requires room { ⌜ count (now hops) ≤ length (now marks) ⌝ }
+    requires queue { ⌜ Queue (now hops) (now flags) (now queue) n ⌝ }
+    requires tried { ⌜ j < count (now hops) ⌝ }
+    requires fallen { ⌜ p < count (now hops) ⌝ }
+    ensures { λ r. ⌜ Noted (now (hops .entry)) (now (marks .entry)) (Trying (now (hops .entry)) j p)
+        (now (flags .entry)) (now (flags .exit)) (now (queue .exit)) r ⌝ }
+{
+    let s1 = from_at(hops, j);
+    let past = labelled_past(hops, starts, s1.0, Label(0));
+    let mut length = n;
+    let mut i = start_of(starts, wide(s1.0));
+    while i < past {
+        length = note_answered(hops, starts, marks, flags, queue, length, i, j, p);
+        i += 1;
+    }
+    length
+}

@@ -1,0 +1,235 @@
+-- The parts of a round, place by place, and that together they make one: what is tested and does not close is what falls, and without the marks of what fell
+-- the marks are those of the hops that survive the round. Where nothing falls the rounds are over. Assumes nothing.
+use Prim.Native.Nat.{ℕ, zero, suc, _+_, _<_, _≤_}
+use mathlib.Core.Path.{_≡_, refl, sym, _∙_}
+use mathlib.Core.Bool.{Bool, true, false, not, cond}
+use mathlib.Core.List.{List}
+use mathlib.Core.Logic.{_⊎_, inl, inr, ⊎-elim}
+use native.Mathlib.Nat.{not-suc-le-zero}
+use native.Mathlib.Omega.{arith}
+use lib.ListN.{length, getD, set, drop, length-set}
+use lib.Seq.{getD-set-same, getD-set-other, drop-set-lt}
+use borrow.Author.Tests.{eq-eqb, ne-eqb}
+use Rattle.base_bounded.specs.Tests.{tally}
+use Rattle.base_bounded.proofs.Bools.{clash, decided, eq-or-not, lt-or-le, no-test}
+use Rattle.base_bounded.proofs.Tests.{tally-none, tally-more, tally-skip}
+use Rattle.base_outputs.specs.Output.{onFront}
+use Rattle.graph.specs.Hops.{count, from, label, to}
+use Rattle.graph.specs.Answers.{most-hops}
+use Rattle.mark_confluence.specs.Rounds.{closes, closesAt, survives}
+use Rattle.mark_confluence.specs.Held.{isMarked, heldBy, markOf, marksOf}
+use Rattle.mark_confluence.proofs.Rounds.{survives-silent}
+use Rattle.mark_confluence.proofs.Marks.{marks-at, marks-beyond, marks-made, held-set}
+use Rattle.mark_worklist.specs.Due.{fell, standing, due}
+use Rattle.mark_worklist.proofs.Due.{survives-closes, survives-yes, standing-yes, standing-silent, standing-survives, standing-falls, due-standing, not-due-stands}
+use Rattle.mark_worklist_push.specs.Queue.{Among}
+use Rattle.mark_worklist_push.proofs.Queueing.{flag-yes, flag-no, flag-here, flag-there}
+use Rattle.mark_worklist_round.specs.Testing.{Lists, Shed, Tested, Taken, Falls}
+
+-- a list of places that grows by one
+module _ (xs : List ℕ) (n v : ℕ) where
+  pub among-more : (i : ℕ) → n < length xs → Among xs n i → Among (set xs n v) (n + 1) i
+  among-more i l (k, m, e) = (k, omega arith, getD-set-other xs n k v 0 (λ q. absurd (omega arith)) ∙ e)
+
+  pub among-last : n < length xs → Among (set xs n v) (n + 1) v
+  among-last l = (n, omega arith, getD-set-same xs n v 0 l)
+
+-- the first of a list, and its last
+among-next : (xs : List ℕ) (k : ℕ) {v : ℕ} (i : ℕ) → v ≡ getD xs k 0 → Among xs (k + 1) i → Among xs k i ⊎ (i ≡ v)
+among-next xs k i q (m, l, e) = ⊎-elim (λ h. inl (m, h, e)) (λ h. let d : m ≡ k = omega arith in inr (sym e ∙ (rw d (sym q)))) (lt-or-le m k)
+
+among-wider : (xs : List ℕ) (k : ℕ) (i : ℕ) → Among xs k i → Among xs (k + 1) i
+among-wider xs k i (m, l, e) = (m, omega arith, e)
+
+among-none : (xs : List ℕ) (i : ℕ) → Among xs 0 i → ⊥
+among-none xs i (m, l, e) = not-suc-le-zero l
+
+-- listing the silent hops
+module _ (c : ℕ) (p : ℕ → Bool) where
+  pub record ListsUpTo (i : ℕ) (qs : List ℕ) (n : ℕ) : Type 0 where
+    pub counted : n ≡ tally i p
+    pub most : n ≤ i
+    pub each : (k : ℕ) → k < n → (getD qs k 0 < i) × (p (getD qs k 0) ≡ true)
+    pub all : (j : ℕ) → j < i → p j ≡ true → Among qs n j
+
+  pub lists-none : {qs : List ℕ} → ListsUpTo 0 qs 0
+  lists-none = record { counted = sym (tally-none p); most = omega arith; each = λ k l. absurd (not-suc-le-zero l); all = λ j l e. absurd (not-suc-le-zero l) }
+
+  -- a place is put behind the list, and stays in it if it passes
+  module _ {i n : ℕ} {qs : List ℕ} (s : ListsUpTo i qs n) (l : n < length qs) where
+    pub lists-more : p i ≡ true → ListsUpTo (i + 1) (set qs n i) (n + 1)
+    lists-more e = record { counted = tally-more p i (s .counted) e; most = omega (arith, s .most); each = each; all = all } where
+      each : (k : ℕ) → k < n + 1 → (getD (set qs n i) k 0 < i + 1) × (p (getD (set qs n i) k 0) ≡ true)
+      each k m = go (eq-or-not k n) where
+        go : (k ≡ n) ⊎ (k ≡ n → ⊥) → (getD (set qs n i) k 0 < i + 1) × (p (getD (set qs n i) k 0) ≡ true)
+        go (inl d) = rw (d, getD-set-same qs n i 0 l) (omega arith, e)
+        go (inr d) = let h = s .each k (omega arith) in rw (getD-set-other qs n k i 0 d) (omega (arith, h .0), h .1)
+
+      all : (j : ℕ) → j < i + 1 → p j ≡ true → Among (set qs n i) (n + 1) j
+      all j m q =
+          ⊎-elim (λ h. among-more qs n i j l (s .all j h q)) (λ h. let d : j ≡ i = omega arith in rw d (among-last qs n i l)) (lt-or-le j i)
+
+    pub lists-skip : p i ≡ false → ListsUpTo (i + 1) (set qs n i) n
+    lists-skip e = record { counted = tally-skip p i (s .counted) e; most = omega (arith, s .most); each = each; all = all } where
+      each : (k : ℕ) → k < n → (getD (set qs n i) k 0 < i + 1) × (p (getD (set qs n i) k 0) ≡ true)
+      each k m = let h = s .each k m in rw (getD-set-other qs n k i 0 (λ d. absurd (omega arith))) (omega (arith, h .0), h .1)
+
+      all : (j : ℕ) → j < i + 1 → p j ≡ true → Among (set qs n i) n j
+      all j m q =
+          ⊎-elim (λ h. let (k, w, x) = s .all j h q in (k, w, getD-set-other qs n k i 0 (λ d. absurd (omega arith)) ∙ x))
+          (λ h. let d : j ≡ i = omega arith in clash (rw d at q) e) (lt-or-le j i)
+
+  module _ {i n : ℕ} {qs : List ℕ} (s : ListsUpTo i qs n) where
+    pub lists-done : i ≡ c → Lists c p qs n
+    lists-done e = record { counted = rw e at (s .counted); each = rw e at (s .each); all = rw e at (s .all) }
+
+-- the states that hops fell from
+pub shed-more : (hs fl : List ℕ) (k : ℕ) {s : ℕ} (sh : List ℕ) → Shed hs fl k sh → s ≡ from hs (getD fl k 0) → s < length sh → Shed hs fl (k + 1) (set sh s 1)
+unfolding Shed
+shed-more hs fl k {s} sh f e l j m = go (eq-or-not (from hs (getD fl j 0)) s) where
+  go : (from hs (getD fl j 0) ≡ s) ⊎ (from hs (getD fl j 0) ≡ s → ⊥) → isMarked (set sh s 1) (from hs (getD fl j 0)) ≡ true
+  go (inl d) = rw d (flag-here sh l)
+  go (inr d) =
+      flag-there sh s 1 (from hs (getD fl j 0)) d ∙ f j (⊎-elim (λ h. h) (λ h. absurd (d (let x : j ≡ k = omega arith in rw x (sym e)))) (lt-or-le j k))
+
+-- testing
+module _ (hs ms qs old : List ℕ) where
+  pub tested-none : {fl : List ℕ} → most-hops ≤ length fl → count hs ≤ length old → Tested hs ms qs 0 old old fl 0
+  tested-none l m = record {
+    most = omega arith;
+    room = l;
+    flags = m;
+    each = λ k h. absurd (not-suc-le-zero h);
+    all = λ i a e. absurd (among-none qs i a);
+    taken = λ i a. absurd (among-none qs i a);
+    kept = λ i e. e;
+  }
+
+  module _ {k r i : ℕ} {new fl : List ℕ} (t : Tested hs ms qs k old new fl r) (q : i ≡ getD qs k 0) (l : i < count hs) where
+    off-here : isMarked (set new i 0) i ≡ false
+    off-here = flag-no (set new i 0) i (λ e. absurd (omega (arith, getD-set-same new i 0 0 (omega (arith, t .flags)))))
+
+    cleared : (j : ℕ) → Among qs (k + 1) j → isMarked (set new i 0) j ≡ false
+    cleared j a = go (eq-or-not j i) (among-next qs k j q a) where
+      go : (j ≡ i) ⊎ (j ≡ i → ⊥) → Among qs k j ⊎ (j ≡ i) → isMarked (set new i 0) j ≡ false
+      go (inl d) b = rw d off-here
+      go (inr d) (inl b) = flag-there new i 0 j d ∙ t .taken j b
+      go (inr d) (inr b) = absurd (d b)
+
+    kept-on : (j : ℕ) → isMarked (set new i 0) j ≡ true → isMarked old j ≡ true
+    kept-on j e = ⊎-elim (λ d. clash (rw d at e) off-here) (λ d. t .kept j (sym (flag-there new i 0 j d) ∙ e)) (eq-or-not j i)
+
+    pub tested-closes : {v : Bool} → v ≡ closesAt hs (heldBy hs ms) i → v ≡ true → Tested hs ms qs (k + 1) old (set new i 0) fl r
+    tested-closes e d = record {
+      most = omega (arith, t .most);
+      room = t .room;
+      flags = simp length-set (t .flags);
+      each = λ j m. let h = t .each j m in (among-wider qs k _ (h .0), h .1);
+      all = λ j a n. ⊎-elim (λ b. t .all j b n) (λ b. clash (sym e ∙ d) (rw b at n)) (among-next qs k j q a);
+      taken = cleared;
+      kept = kept-on;
+    }
+
+    pub tested-falls : r < most-hops → {v : Bool} → v ≡ closesAt hs (heldBy hs ms) i → v ≡ false → Tested hs ms qs (k + 1) old (set new i 0) (set fl r i) (r + 1)
+    tested-falls w e d = record {
+      most = omega (arith, t .most);
+      room = simp length-set (t .room);
+      flags = simp length-set (t .flags);
+      each = each;
+      all = λ j a n. ⊎-elim (λ b. among-more fl r i j fits (t .all j b n)) (λ b. rw b (among-last fl r i fits)) (among-next qs k j q a);
+      taken = cleared;
+      kept = kept-on;
+    } where
+      fits : r < length fl
+      fits = omega (arith, t .room)
+
+      each : (j : ℕ) → j < r + 1 → Among qs (k + 1) (getD (set fl r i) j 0) × (closesAt hs (heldBy hs ms) (getD (set fl r i) j 0) ≡ false)
+      each j m = go (eq-or-not j r) where
+        go : (j ≡ r) ⊎ (j ≡ r → ⊥) → Among qs (k + 1) (getD (set fl r i) j 0) × (closesAt hs (heldBy hs ms) (getD (set fl r i) j 0) ≡ false)
+        go (inl x) = rw (x, getD-set-same fl r i 0 fits) ((k, omega arith, sym q), sym e ∙ d)
+        go (inr x) = let h = t .each j (omega arith) in rw (getD-set-other fl r j i 0 x) (among-wider qs k _ (h .0), h .1)
+
+-- taking marks
+module _ (ms fl : List ℕ) where
+  pub taken-none : Taken ms fl 0 ms
+  taken-none = record { taken = λ i a. absurd (among-none fl i a); other = λ i n. refl; beyond = λ c f. refl }
+
+  pub taken-more : {k i : ℕ} {new : List ℕ} → Taken ms fl k new → i ≡ getD fl k 0 → i < length new → Taken ms fl (k + 1) (set new i 0)
+  taken-more {k} {i} {new} t q l = record { taken = taken; other = other; beyond = beyond } where
+    taken : (j : ℕ) → Among fl (k + 1) j → getD (set new i 0) j 0 ≡ 0
+    taken j a = go (eq-or-not j i) (among-next fl k j q a) where
+      go : (j ≡ i) ⊎ (j ≡ i → ⊥) → Among fl k j ⊎ (j ≡ i) → getD (set new i 0) j 0 ≡ 0
+      go (inl d) b = rw d (getD-set-same new i 0 0 l)
+      go (inr d) (inl b) = getD-set-other new i j 0 0 d ∙ t .taken j b
+      go (inr d) (inr b) = absurd (d b)
+
+    other : (j : ℕ) → (Among fl (k + 1) j → ⊥) → getD (set new i 0) j 0 ≡ getD ms j 0
+    other j n =
+        getD-set-other new i j 0 0 (λ d. n (k, omega arith, sym q ∙ sym d)) ∙ t .other j (λ a. n (among-wider fl k j a))
+
+    beyond : (c : ℕ) → ((h : ℕ) → h < k + 1 → getD fl h 0 < c) → drop c (set new i 0) ≡ drop c ms
+    beyond c f = drop-set-lt c new i 0 (rw q (f k (omega arith))) ∙ t .beyond c (λ h m. f h (omega arith))
+
+module _ (hs : List ℕ) where
+  -- the mark of a hop, where the marks are those of the hops that survive k rounds
+  module _ (k : ℕ) (ms out : List ℕ) (e : ms ≡ onFront (marksOf hs (survives hs k)) out) where
+    pub mark-is : {i : ℕ} → i < count hs → getD ms i 0 ≡ cond (standing hs k i) 1 0
+    unfolding markOf standing
+    mark-is l = marks-at hs (survives hs k) ms out e l
+
+    pub mark-test : {i : ℕ} → i < count hs → isMarked ms i ≡ standing hs k i
+    mark-test {i} l = go (standing hs k i) (mark-is l) where
+      go : (b : Bool) → getD ms i 0 ≡ cond b 1 0 → isMarked ms i ≡ b
+      go true d = flag-yes ms i d
+      go false d = flag-no ms i (λ q. absurd (omega arith))
+
+    pub held-survives : heldBy hs ms ≡ survives hs k
+    held-survives = held-set hs (survives hs k) ms out e (survives-silent hs k)
+
+    -- what is due and does not close falls
+    module _ (qs : List ℕ) (n : ℕ) (d : Lists (count hs) (due hs k) qs n) {old new fl : List ℕ} {r : ℕ} (t : Tested hs ms qs n old new fl r) where
+      closes-is : (i : ℕ) → closesAt hs (heldBy hs ms) i ≡ closes hs (survives hs k) (from hs i) (to hs i)
+      closes-is i = rw held-survives
+
+      pub falls-all : Falls hs k fl r
+      falls-all = record { each = each; all = all } where
+        each : (q : ℕ) → q < r → (getD fl q 0 < count hs) × (standing hs k (getD fl q 0) ≡ true) × (standing hs (suc k) (getD fl q 0) ≡ false)
+        each q m =
+            let ((j, l, x), c) = t .each q m in
+            let (a, b) = d .each j l in
+            let w : getD fl q 0 < count hs = rw x at a in
+            let y : due hs k (getD fl q 0) ≡ true = rw x at b in (
+              w,
+              due-standing hs k (getD fl q 0) w y,
+              no-test (standing hs (suc k) (getD fl q 0))
+                  (λ s. clash (survives-closes hs k (from hs (getD fl q 0)) (to hs (getD fl q 0)) (standing-survives hs (suc k) (getD fl q 0) s)) (sym (closes-is (getD fl q 0)) ∙ c)),
+            )
+
+        all : (i : ℕ) → i < count hs → standing hs k i ≡ true → standing hs (suc k) i ≡ false → Among fl r i
+        all i l s f =
+            t .all i (d .all i l (⊎-elim (λ h. h) (λ h. clash (not-due-stands hs k i s h) f) (decided (due hs k i))))
+            (closes-is i ∙ no-test (closes hs (survives hs k) (from hs i) (to hs i))
+            (λ c. clash (standing-yes hs (suc k) i (standing-silent hs k i s) (survives-yes hs k (from hs i) (to hs i) (survives-silent hs k (from hs i) (to hs i) (standing-survives hs k i s)) c)) f))
+
+    -- and without the marks of what fell, the marks are those of the next round
+    pub marks-next : {fl new : List ℕ} {r : ℕ} → count hs ≤ length new → Falls hs k fl r → Taken ms fl r new → new ≡ onFront (marksOf hs (survives hs (suc k))) out
+    unfolding markOf standing
+    marks-next {fl} {new} {r} room f t =
+        marks-made hs (survives hs (suc k)) new out room at-place (t .beyond (count hs) (λ q m. f .each q m .0) ∙ marks-beyond hs (survives hs k) ms out e) where
+          at-place : (i : ℕ) → i < count hs → getD new i 0 ≡ markOf hs (survives hs (suc k)) i
+          at-place i l = go (decided (standing hs (suc k) i)) (decided (standing hs k i)) where
+            go : (standing hs (suc k) i ≡ true) ⊎ (standing hs (suc k) i ≡ false) → (standing hs k i ≡ true) ⊎ (standing hs k i ≡ false) →
+                getD new i 0 ≡ cond (standing hs (suc k) i) 1 0
+            go (inl a) b =
+                rw a (t .other i (λ (q, m, x). clash (rw (sym x) at a) (f .each q m .2)) ∙ (mark-is l ∙ (rw (standing-falls hs k i a))))
+            go (inr a) (inl b) = rw a (t .taken i (f .all i l b a))
+            go (inr a) (inr b) = rw a (t .other i (λ (q, m, x). clash (f .each q m .1) (rw (sym x) at b)) ∙ (mark-is l ∙ (rw b)))
+
+  -- the first round tests the silent hops
+  pub first-yes : (i : ℕ) {a : ℕ} → a ≡ label hs i → a ≡ 0 → due hs 0 i ≡ true
+  unfolding due
+  first-yes i e z = eq-eqb (label hs i) 0 (sym e ∙ z)
+
+  pub first-no : (i : ℕ) {a : ℕ} → a ≡ label hs i → (a ≡ 0 → ⊥) → due hs 0 i ≡ false
+  unfolding due
+  first-no i e n = ne-eqb (label hs i) 0 (λ z. n (e ∙ z))

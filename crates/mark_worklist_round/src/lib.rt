@@ -1,0 +1,139 @@
+// The parts of a round of the faster marking: which hops it tests are listed, they are tested against the marks as they are, and those that do not close lose
+// their marks at the end. The first round tests each silent hop whole; a later one tries only what leads to a state that a hop fell from. `mark_worklist_loop` puts
+// the parts together.
+// It stands on `mark_diamond` and `mark_diamond_retest` (the two tests), `mark_worklist` (which hops the first round tests) and `mark_worklist_push` (the queue).
+use graph::MOST_HOPS;
+use graph::MOST_STATES;
+use graph::hops::from_at;
+use graph::hops::hop_count;
+use graph::hops::label_at;
+use graph_predecessors::place_at;
+use graph_successors::STARTS;
+use graph_successors::wide;
+use mark_diamond::closes_at;
+use mark_diamond_retest::closes_again;
+ghost use mathlib.Core.Path.{_≡_};
+ghost use mathlib.Core.Bool.{false};
+ghost use Prim.Native.Nat.{ℕ, _<_, _≤_};
+ghost use lib.ListN.{length, getD};
+ghost use Rattle.graph.specs.Hops.{count};
+ghost use Rattle.graph.specs.Answers.{most-hops};
+ghost use Rattle.mark_confluence.specs.Rounds.{closesAt};
+ghost use Rattle.mark_confluence.specs.Held.{heldBy};
+ghost use Rattle.graph_successors.specs.Starts.{Table, Ready};
+ghost use Rattle.mark_diamond_retest.specs.Again.{Unshed};
+ghost use Rattle.mark_worklist.specs.Due.{due};
+ghost use Rattle.mark_worklist_push.specs.Queue.{Listed};
+ghost use Rattle.mark_worklist_round.specs.Testing.{Lists, Spared, Shed, Tested, Taken};
+
+// Lists the silent hops: the first round tests them all. Returns how many there are. Each place is put behind the list, and stays in it if it is silent, so
+// that nothing hangs on a branch that cannot be foreseen.
+pub fn list_silent(hops: &[u16], queue: &mut [u16; MOST_HOPS]) -> usize
+    requires ready { ⌜ Ready (now hops) ⌝ }
+    requires room { ⌜ most-hops ≤ length (now queue) ⌝ }
+    ensures lists { λ r. ⌜ Lists (count (now (hops .entry))) (due (now (hops .entry)) 0) (now (queue .exit)) r ⌝ }
+    ensures room { λ r. ⌜ most-hops ≤ length (now (queue .exit)) ⌝ }
+{
+    let past = hop_count(hops);
+    let mut n = 0;
+    let mut i = 0;
+    while i < past {
+        queue[n] = i as u16;
+        if label_at(hops, i).0 == 0 {
+            n += 1;
+        }
+        i += 1;
+    }
+    n
+}
+
+// The states that a fallen hop leaves: 1 for each of them. Of the hops tried only those to such a state can have lost an answer.
+pub fn shed_of(hops: &[u16], fallen: &[u16; MOST_HOPS], n: usize) -> [u8; MOST_STATES]
+    requires ready { ⌜ Ready (now hops) ⌝ }
+    requires most { ⌜ n ≤ most-hops ⌝ }
+    requires listed { ⌜ Listed (now hops) (now fallen) n ⌝ }
+    ensures { λ r. ⌜ Shed (now (hops .entry)) (now (fallen .entry)) n r ⌝ }
+{
+    let mut shed = [0u8; MOST_STATES];
+    let mut k = 0;
+    while k < n {
+        let s = wide(from_at(hops, place_at(fallen, k)).0);
+        shed[s] = 1;
+        k += 1;
+    }
+    shed
+}
+
+// One test: in the first round of every hop tried, and later of those to a state that a hop fell from.
+fn stands(
+    hops: &[u16],
+    starts: &[u16; STARTS],
+    marks: &[u8],
+    shed: &[u8; MOST_STATES],
+    first: bool,
+    i: usize,
+) -> bool
+    requires ready { ⌜ Ready (now hops) ⌝ }
+    requires table { ⌜ Table (now hops) (now starts) ⌝ }
+    requires room { ⌜ count (now hops) ≤ length (now marks) ⌝ }
+    requires place { ⌜ i < count (now hops) ⌝ }
+    requires others { ⌜ (first ≡ false → Unshed (now hops) (now marks) (now shed) i) ⌝ }
+    ensures { λ r. ⌜ r ≡ closesAt (now (hops .entry)) (heldBy (now (hops .entry)) (now (marks .entry))) i ⌝ }
+{
+    if first {
+        return closes_at(hops, starts, marks, i);
+    }
+    closes_again(hops, starts, marks, shed, i)
+}
+
+// Tests the first n hops of the queue against the marks, which stay as they are, and takes their flags; lists those that do not close, and returns how
+// many.
+pub fn test_due(
+    hops: &[u16],
+    starts: &[u16; STARTS],
+    marks: &[u8],
+    shed: &[u8; MOST_STATES],
+    first: bool,
+    queue: &[u16; MOST_HOPS],
+    n: usize,
+    flags: &mut [u8; MOST_HOPS],
+    fallen: &mut [u16; MOST_HOPS],
+) -> usize
+    requires ready { ⌜ Ready (now hops) ⌝ }
+    requires table { ⌜ Table (now hops) (now starts) ⌝ }
+    requires marks { ⌜ count (now hops) ≤ length (now marks) ⌝ }
+    requires spared { ⌜ Spared (now hops) (now marks) (now shed) first (now queue) n ⌝ }
+    requires flags { ⌜ count (now hops) ≤ length (now flags) ⌝ }
+    requires room { ⌜ most-hops ≤ length (now fallen) ⌝ }
+    requires most { ⌜ n ≤ most-hops ⌝ }
+    requires listed { ⌜ Listed (now hops) (now queue) n ⌝ }
+    ensures { λ r. ⌜ Tested (now (hops .entry)) (now (marks .entry)) (now (queue .entry)) n
+        (now (flags .entry)) (now (flags .exit)) (now (fallen .exit)) r ⌝ }
+{
+    let mut lost = 0;
+    let mut k = 0;
+    while k < n {
+        let i = place_at(queue, k);
+        flags[i] = 0;
+        if !stands(hops, starts, marks, shed, first, i) {
+            fallen[lost] = i as u16;
+            lost += 1;
+        }
+        k += 1;
+    }
+    lost
+}
+
+// Takes the marks of the first n fallen hops.
+pub fn take_fallen(marks: &mut [u8], fallen: &[u16; MOST_HOPS], n: usize)
+    requires most { ⌜ n ≤ most-hops ⌝ }
+    requires inside { ⌜ ((k : ℕ) → k < n → getD (now fallen) k 0 < length (now marks)) ⌝ }
+    ensures { λ _. ⌜ Taken (now (marks .entry)) (now (fallen .entry)) n (now (marks .exit)) ⌝ }
+{
+    let mut k = 0;
+    while k < n {
+        let i = place_at(fallen, k);
+        marks[i] = 0;
+        k += 1;
+    }
+}
