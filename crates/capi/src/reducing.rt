@@ -4,7 +4,7 @@ use tells_reducing::tell_reduce;
 use tells_shrinking::tell_shrink;
 ghost use mathlib.Core.Path.{_≡_};
 ghost use lib.ListN.{length};
-ghost use Rattle.quotient.specs.Reduce.{reduceAnswer, reduceOf, mapOutput, shortOutput};
+ghost use Rattle.reduce_entry.specs.Reduce.{reduceAnswer, reduceOf, mapOutput, shortOutput};
 ghost use Rattle.last_graph.specs.Shrink.{shrinkOf, lastMap, lastHops};
 ghost use Rattle.fitting.specs.Fitting.{auditAnswer};
 ghost use Rattle.bisimulation.specs.Auditing.{auditOf};

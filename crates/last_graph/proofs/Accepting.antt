@@ -12,7 +12,7 @@ use Rattle.graph.specs.declared.Shape.{Shape}
 use Rattle.graph.specs.declared.Answer.{Answer}
 use Rattle.graph.proofs.Fronts.{between-count}
 use Rattle.graph_check.specs.Check.{Admitted}
-use Rattle.representatives.specs.Tables.{Reducible}
+use Rattle.reduce_representatives.specs.Tables.{Reducible}
 use Rattle.repeating.specs.Repeating.{Stage, lastStage}
 use Rattle.repeating.proofs.Last.{last-staged}
 use Rattle.turns.specs.Reached.{stageOf}

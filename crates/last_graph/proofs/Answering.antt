@@ -10,8 +10,8 @@ use Rattle.base_outputs.specs.Output.{onFront, written}
 use Rattle.graph.specs.Answers.{accepted}
 use Rattle.graph.specs.declared.Shape.{Shape}
 use Rattle.graph.specs.declared.Answer.{Answer}
-use Rattle.quotient.specs.Reduce.{reduceAnswer}
-use Rattle.quotient.proofs.Answering.{reduce-accepted}
+use Rattle.reduce_entry.specs.Reduce.{reduceAnswer}
+use Rattle.reduce_entry.proofs.Answering.{reduce-accepted}
 use Rattle.repeating.specs.Repeating.{lastStage}
 use Rattle.last_graph.specs.Shrink.{refusal, shrinking, shrinkOf, lastMap, lastHops}
 

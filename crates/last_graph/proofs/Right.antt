@@ -7,9 +7,9 @@ use lib.ListN.{length, take}
 use lib.Seq.{take-at}
 use Rattle.graph.specs.Hops.{count, between}
 use Rattle.graph.specs.declared.Shape.{Shape}
-use Rattle.representatives.specs.Tables.{Reducible}
-use Rattle.quotient.specs.Reduce.{reduceAnswer}
-use Rattle.quotient.proofs.Answering.{reduce-reducible}
+use Rattle.reduce_representatives.specs.Tables.{Reducible}
+use Rattle.reduce_entry.specs.Reduce.{reduceAnswer}
+use Rattle.reduce_entry.proofs.Answering.{reduce-reducible}
 use Rattle.bisimulation.specs.Auditing.{auditOf, faultless}
 use Rattle.bisimulation.proofs.Answering.{faultless-iff}
 use Rattle.repeating.specs.Repeating.{Stage, lastStage}

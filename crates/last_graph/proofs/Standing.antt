@@ -12,7 +12,7 @@ use Rattle.base_bounded.proofs.Bools.{clash, decided}
 use Rattle.graph.specs.Hops.{count, between}
 use Rattle.graph.specs.Answers.{most-states}
 use Rattle.graph.specs.declared.Shape.{Shape}
-use Rattle.representatives.specs.Tables.{Reducible}
+use Rattle.reduce_representatives.specs.Tables.{Reducible}
 use Rattle.fitting.proofs.Fits.{Audited}
 use Rattle.bisimulation.proofs.Answering.{faultless-iff}
 use Rattle.composing.specs.Chained.{ownMap, Into}

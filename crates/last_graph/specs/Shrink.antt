@@ -9,7 +9,7 @@ use Rattle.base_outputs.specs.Output.{written}
 use Rattle.graph.specs.Hops.{count}
 use Rattle.graph.specs.declared.Shape.{Shape}
 use Rattle.graph.specs.declared.Answer.{Answer}
-use Rattle.quotient.specs.Reduce.{reduceAnswer, noShape}
+use Rattle.reduce_entry.specs.Reduce.{reduceAnswer, noShape}
 use Rattle.repeating.specs.Repeating.{lastStage}
 use Rattle.last_graph.specs.declared.Shrinking.{Shrinking}
 

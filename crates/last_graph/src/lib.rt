@@ -1,5 +1,5 @@
 // The entry `shrink`: reduces again and again in the sense asked, until no hop is marked, and gives the last graph and the map from first states to last.
-// It refuses as `reduce` does, and asks the rows once: no short graph breaks them. Stands on quotient (the rows), turns (one reduction, and its map behind
+// It refuses as `reduce` does, and asks the rows once: no short graph breaks them. Stands on reduce_entry (the rows), turns (one reduction, and its map behind
 // the map) and repeating (what it all means).
 use base_outputs::put_numbers;
 use composing::put_own;
@@ -9,7 +9,7 @@ use graph::Shape;
 use graph::answers::accept;
 use graph::hops::hop_count;
 use graph::hops::part;
-use quotient::entry::reduce_answer;
+use reduce_entry::entry::reduce_answer;
 use turns::Reached;
 use turns::turn;
 ghost use mathlib.Core.Path.{_≡_};
@@ -18,7 +18,7 @@ ghost use lib.ListN.{length};
 ghost use Rattle.base_outputs.specs.Output.{onFront};
 ghost use Rattle.graph.specs.Hops.{count, between};
 ghost use Rattle.graph.specs.Answers.{accepted};
-ghost use Rattle.representatives.specs.Tables.{Reducible};
+ghost use Rattle.reduce_representatives.specs.Tables.{Reducible};
 ghost use Rattle.repeating.specs.Repeating.{lastStage};
 ghost use Rattle.turns.specs.Reached.{stageOf};
 ghost use Rattle.last_graph.specs.Shrink.{refusal, shrinking, shrinkOf, lastMap, lastHops};

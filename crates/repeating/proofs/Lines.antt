@@ -14,12 +14,12 @@ use Rattle.graph.specs.declared.Shape.{Shape}
 use Rattle.graph.proofs.Places.{same-alike, alike-same, has-place, has-at}
 use Rattle.graph.proofs.Ordered.{alike-itself, alike-back, alike-then, ascending-place}
 use Rattle.base_fixpoint.specs.Pairs.{Pairs}
-use Rattle.sources.specs.Lines.{smallestLine, Smallest}
-use Rattle.sources.proofs.Lines.{smallest-is, smallest-only}
-use Rattle.representatives.specs.Representative.{resting, newOf, mapOf}
-use Rattle.short.specs.Short.{becomes, image, shortHops, comesFrom}
-use Rattle.short.proofs.Images.{short-ascending, short-has}
-use Rattle.short.proofs.Lines.{short-line-means}
+use Rattle.reduce_smallest_line.specs.Lines.{smallestLine, Smallest}
+use Rattle.reduce_smallest_line.proofs.Lines.{smallest-is, smallest-only}
+use Rattle.reduce_representatives.specs.Representative.{resting, newOf, mapOf}
+use Rattle.reduce_short_graph.specs.Short.{becomes, image, shortHops, comesFrom}
+use Rattle.reduce_short_graph.proofs.Images.{short-ascending, short-has}
+use Rattle.reduce_short_graph.proofs.Lines.{short-line-means}
 use Rattle.repeating.specs.Repeating.{Stage, nextStage, markedAt, marksSome, repeated, comesThrough, firstStage, lastStage, lastOf}
 
 -- hops that are alike become hops that are alike, and come to the same hops in the end

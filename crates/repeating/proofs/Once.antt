@@ -14,14 +14,14 @@ use Rattle.lts.proofs.Once.{once}
 use Rattle.base_fixpoint.specs.Pairs.{Pairs, In}
 use Rattle.mark_senses.specs.Senses.{markedIn, senseOf}
 use Rattle.mark_senses.proofs.Marked.{marked-of, holds-every}
-use Rattle.representatives.specs.Representative.{mapOf}
-use Rattle.representatives.specs.Tables.{Reducible}
-use Rattle.representatives.proofs.Resting.{rep-rests}
-use Rattle.representatives.proofs.Mapped.{map-own}
-use Rattle.short.specs.Short.{shortHops, shortShape}
-use Rattle.short.proofs.Images.{short-only}
-use Rattle.short.proofs.Reduces.{short-left}
-use Rattle.quotient.proofs.Marked.{marked-settles}
+use Rattle.reduce_representatives.specs.Representative.{mapOf}
+use Rattle.reduce_representatives.specs.Tables.{Reducible}
+use Rattle.reduce_representatives.proofs.Resting.{rep-rests}
+use Rattle.reduce_representatives.proofs.Mapped.{map-own}
+use Rattle.reduce_short_graph.specs.Short.{shortHops, shortShape}
+use Rattle.reduce_short_graph.proofs.Images.{short-only}
+use Rattle.reduce_short_graph.proofs.Reduces.{short-left}
+use Rattle.reduce_entry.proofs.Marked.{marked-settles}
 use Rattle.repeating.specs.Repeating.{Stage, firstStage, nextStage, marksSome, lastStage}
 use Rattle.repeating.proofs.Stages.{some-marked, first-staged}
 use Rattle.repeating.proofs.Last.{last-again, last-still}

@@ -16,11 +16,11 @@ use Rattle.graph.proofs.Places.{has-place, length-flat}
 use Rattle.base_fixpoint.specs.Pairs.{In}
 use Rattle.mark_senses.specs.Senses.{senseOf, setAt}
 use Rattle.mark_senses.proofs.Marked.{marked-of}
-use Rattle.representatives.specs.Tables.{Reducible}
-use Rattle.short.proofs.Again.{short-all}
-use Rattle.quotient.specs.Reduce.{markedHops}
-use Rattle.quotient.proofs.Marked.{marked-within}
-use Rattle.quotient.proofs.Reduced.{short-again, short-fewer}
+use Rattle.reduce_representatives.specs.Tables.{Reducible}
+use Rattle.reduce_short_graph.proofs.Again.{short-all}
+use Rattle.reduce_entry.specs.Reduce.{markedHops}
+use Rattle.reduce_entry.proofs.Marked.{marked-within}
+use Rattle.reduce_entry.proofs.Reduced.{short-again, short-fewer}
 use Rattle.bisimulation.specs.Auditing.{auditOf, faultless}
 use Rattle.composing.proofs.Composed.{audits-compose, own-faultless}
 use Rattle.together.proofs.Right.{reduce-right}

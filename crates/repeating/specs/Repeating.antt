@@ -9,9 +9,9 @@ use Rattle.graph.specs.declared.Hop.{Hop}
 use Rattle.graph.specs.declared.Shape.{Shape}
 use Rattle.base_fixpoint.specs.Pairs.{Pairs, In}
 use Rattle.mark_senses.specs.Senses.{setAt, markedBy}
-use Rattle.representatives.specs.Representative.{resting}
-use Rattle.short.specs.Short.{becomes}
-use Rattle.quotient.specs.Reduce.{markedMap, markedHops, markedShape}
+use Rattle.reduce_representatives.specs.Representative.{resting}
+use Rattle.reduce_short_graph.specs.Short.{becomes}
+use Rattle.reduce_entry.specs.Reduce.{markedMap, markedHops, markedShape}
 use Rattle.composing.specs.Chained.{chained, ownMap}
 
 -- how far a repetition has come: a graph, the map to it from the first states, and how many reductions marked something on the way

@@ -23,13 +23,13 @@ use Rattle.base_fixpoint.specs.Pairs.{Pairs}
 use Rattle.mark_confluence.specs.Rounds.{marked}
 use Rattle.mark_confluence.specs.Held.{markOf}
 use Rattle.mark_confluence.proofs.Marked.{marked-confluent}
-use Rattle.representatives.specs.Representative.{Settles, markedFrom, resting, mapOf}
-use Rattle.representatives.specs.Tables.{Reducible}
-use Rattle.representatives.proofs.Marked.{silent-settles}
-use Rattle.short.specs.Short.{shortHops, shortShape}
-use Rattle.short.proofs.Images.{short-few}
-use Rattle.short.proofs.Lines.{short-line-means}
-use Rattle.short.proofs.Reduces.{shape-admitted, map-inside}
+use Rattle.reduce_representatives.specs.Representative.{Settles, markedFrom, resting, mapOf}
+use Rattle.reduce_representatives.specs.Tables.{Reducible}
+use Rattle.reduce_representatives.proofs.Marked.{silent-settles}
+use Rattle.reduce_short_graph.specs.Short.{shortHops, shortShape}
+use Rattle.reduce_short_graph.proofs.Images.{short-few}
+use Rattle.reduce_short_graph.proofs.Lines.{short-line-means}
+use Rattle.reduce_short_graph.proofs.Reduces.{shape-admitted, map-inside}
 use Rattle.text.specs.Text.{digits, decimal, spaced, numbered, line, lines, in-word, marked-word, map-word, out-word, hop-word, no-word}
 use Rattle.rows.specs.Rows.{markedLine, mapLine, hopLine, linesOf, refusalOf}
 use Rattle.report.specs.Report.{reportOf, most-text}

@@ -25,13 +25,13 @@ use Rattle.mark_confluence.specs.Rounds.{silentHops, marked}
 use Rattle.mark_confluence.specs.Held.{heldBy, markOf, marksOf}
 use Rattle.mark_confluence.proofs.Marked.{marked-confluent}
 use Rattle.mark_confluence.proofs.Marks.{marks-at}
-use Rattle.representatives.specs.Representative.{mapOf}
-use Rattle.representatives.specs.Tables.{Reducible}
-use Rattle.short.specs.Short.{shortHops, shortShape, mapList}
-use Rattle.short.proofs.Images.{short-within}
-use Rattle.reducing.specs.Reducing.{shortGraph, mapLeft, shortLeft}
-use Rattle.reducing.specs.declared.ShortGraph.{ShortGraph}
-use Rattle.quotient.proofs.Marked.{left-map, left-short, left-shape, left-hops}
+use Rattle.reduce_representatives.specs.Representative.{mapOf}
+use Rattle.reduce_representatives.specs.Tables.{Reducible}
+use Rattle.reduce_short_graph.specs.Short.{shortHops, shortShape, mapList}
+use Rattle.reduce_short_graph.proofs.Images.{short-within}
+use Rattle.reduce_by_marks.specs.Reducing.{shortGraph, mapLeft, shortLeft}
+use Rattle.reduce_by_marks.specs.declared.ShortGraph.{ShortGraph}
+use Rattle.reduce_entry.proofs.Marked.{left-map, left-short, left-shape, left-hops}
 use Rattle.fields.specs.Format.{hopsIn, shapeIn, hopListIn}
 use Rattle.fields.proofs.Laws.{length-hop-list, count-hop-list}
 use Rattle.format.specs.Rows.{formatAnswer}

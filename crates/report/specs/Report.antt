@@ -12,8 +12,8 @@ use Rattle.graph.specs.declared.Answer.{Answer}
 use Rattle.walk_silent.specs.Silent.{ringless}
 use Rattle.mark_confluence.specs.Rounds.{marked}
 use Rattle.mark_confluence.specs.Held.{markOf}
-use Rattle.representatives.specs.Representative.{mapOf}
-use Rattle.short.specs.Short.{shortHops, shortShape}
+use Rattle.reduce_representatives.specs.Representative.{mapOf}
+use Rattle.reduce_short_graph.specs.Short.{shortHops, shortShape}
 use Rattle.fields.specs.Format.{shapeIn, hopListIn}
 use Rattle.format.specs.Rows.{formatAnswer}
 use Rattle.rows.specs.Rows.{linesOf, refusalOf}

@@ -4,8 +4,8 @@ use mathlib.Core.Path.{_≡_, refl}
 use mathlib.Core.List.{List}
 use lib.Dec.{eqb}
 use Rattle.graph.specs.declared.Shape.{Shape}
-use Rattle.quotient.specs.declared.Reduction.{Reduction}
-use Rattle.quotient.specs.Reduce.{reduceAnswer, reduceOf}
+use Rattle.reduce_entry.specs.declared.Reduction.{Reduction}
+use Rattle.reduce_entry.specs.Reduce.{reduceAnswer, reduceOf}
 use Rattle.answers.proofs.Answers.{either-answer}
 
 pub reduced-answer : (sh : Shape) (hs : List ℕ) (k map-room short-room : ℕ) →

@@ -1,14 +1,14 @@
 // Reduce, as the entry for C and Rust tells it: capi exports the function unchanged. It finds the entry's answer and tells it, and leaves the map and the
-// short hops alone where the answer slice is too short. Stands on quotient (reduce) and answers (what is told and returned).
+// short hops alone where the answer slice is too short. Stands on reduce_entry (reduce) and answers (what is told and returned).
 use answers::short_number;
 use answers::tell;
 use graph::Shape;
-use quotient::Reduction;
-use quotient::entry::reduce;
-use quotient::entry::reduce_answer;
+use reduce_entry::Reduction;
+use reduce_entry::entry::reduce;
+use reduce_entry::entry::reduce_answer;
 ghost use mathlib.Core.Path.{_≡_};
 ghost use lib.ListN.{length};
-ghost use Rattle.quotient.specs.Reduce.{reduceAnswer, reduceOf, mapOutput, shortOutput};
+ghost use Rattle.reduce_entry.specs.Reduce.{reduceAnswer, reduceOf, mapOutput, shortOutput};
 ghost use Rattle.answers.specs.Numbers.{shapeOf, returned, told, unlessShort};
 ghost use Rattle.tells_reducing.specs.Numbers.{reductionNumbers};
 

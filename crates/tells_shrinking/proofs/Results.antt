@@ -4,7 +4,7 @@ use mathlib.Core.Path.{_≡_, refl}
 use mathlib.Core.List.{List}
 use lib.Dec.{eqb}
 use Rattle.graph.specs.declared.Shape.{Shape}
-use Rattle.quotient.specs.Reduce.{reduceAnswer}
+use Rattle.reduce_entry.specs.Reduce.{reduceAnswer}
 use Rattle.last_graph.specs.declared.Shrinking.{Shrinking}
 use Rattle.last_graph.specs.Shrink.{shrinkOf}
 use Rattle.answers.proofs.Answers.{either-answer}

@@ -14,12 +14,12 @@ use Rattle.graph.specs.declared.Shape.{Shape}
 use Rattle.graph.specs.declared.Answer.{Answer}
 use Rattle.base_bounded.proofs.Tests.{length-listed}
 use Rattle.graph.proofs.Fronts.{flat-front}
-use Rattle.short.specs.Short.{mapList}
+use Rattle.reduce_short_graph.specs.Short.{mapList}
 use Rattle.mark_senses.specs.Senses.{senseOf}
-use Rattle.quotient.proofs.Marked.{marked-within}
-use Rattle.quotient.specs.Reduce.{noShape, markedTo, markedMap, markedHops, markedShape, reduceAnswer, reduction, reduceOf, mapOutput, shortOutput}
-use Rattle.quotient.specs.declared.Reduction.{Reduction}
-use Rattle.quotient.proofs.Answering.{reduce-reducible, reduce-map-room, reduce-short-room, accepted-returns, accepted-map, accepted-short}
+use Rattle.reduce_entry.proofs.Marked.{marked-within}
+use Rattle.reduce_entry.specs.Reduce.{noShape, markedTo, markedMap, markedHops, markedShape, reduceAnswer, reduction, reduceOf, mapOutput, shortOutput}
+use Rattle.reduce_entry.specs.declared.Reduction.{Reduction}
+use Rattle.reduce_entry.proofs.Answering.{reduce-reducible, reduce-map-room, reduce-short-room, accepted-returns, accepted-map, accepted-short}
 use Rattle.bisimulation.specs.declared.Audit.{Audit}
 use Rattle.bisimulation.specs.Auditing.{faultless}
 use Rattle.together.specs.Together.{auditLeft}

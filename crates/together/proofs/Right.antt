@@ -6,13 +6,13 @@ use mathlib.Core.List.{List}
 use Rattle.graph.specs.Hops.{flat}
 use Rattle.graph.specs.declared.Shape.{Shape}
 use Rattle.base_bounded.proofs.Tests.{length-listed, getD-listed}
-use Rattle.representatives.specs.Tables.{Reducible}
+use Rattle.reduce_representatives.specs.Tables.{Reducible}
 use Rattle.lts.specs.Closes.{Sense}
 use Rattle.base_fixpoint.specs.Pairs.{Pairs}
 use Rattle.mark_senses.specs.Senses.{markedIn}
-use Rattle.representatives.specs.Representative.{mapOf}
-use Rattle.short.specs.Short.{shortHops, shortShape, mapList}
-use Rattle.quotient.proofs.Reduced.{map-inside, short-admitted, short-reduces}
+use Rattle.reduce_representatives.specs.Representative.{mapOf}
+use Rattle.reduce_short_graph.specs.Short.{shortHops, shortShape, mapList}
+use Rattle.reduce_entry.proofs.Reduced.{map-inside, short-admitted, short-reduces}
 use Rattle.graph.specs.Map.{mapped}
 use Rattle.faults.specs.Faults.{faultsOf}
 use Rattle.bisimulation.specs.Bisimulation.{BranchingBisimulation, MapRelation, JoinsInitial}

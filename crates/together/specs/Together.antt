@@ -6,7 +6,7 @@ use lib.ListN.{take}
 use lib.Dec.{eqb}
 use Rattle.graph.specs.Hops.{between}
 use Rattle.graph.specs.declared.Shape.{Shape}
-use Rattle.quotient.specs.declared.Reduction.{Reduction}
+use Rattle.reduce_entry.specs.declared.Reduction.{Reduction}
 use Rattle.faults.specs.First.{noFault}
 use Rattle.bisimulation.specs.Auditing.{auditOf}
 use Rattle.bisimulation.specs.declared.Audit.{Audit}

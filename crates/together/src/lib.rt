@@ -1,18 +1,18 @@
 // Reduce and audit together: demand 3 as one function, whose contract says that the audit of what an accepted `reduce` left, in the sense asked, finds no
 // fault, whatever the outputs held before. It is the house's proof that reducing is right, in words that the audit alone defines; nobody need call it.
-// It stands on quotient and on the audit.
+// It stands on reduce_entry and on the audit.
 use bisimulation::Audit;
 use bisimulation::auditing::audit;
 use faults::first::no_fault;
 use graph::Shape;
 use graph::hops::part;
-use quotient::Reduction;
-use quotient::entry::reduce;
+use reduce_entry::Reduction;
+use reduce_entry::entry::reduce;
 ghost use mathlib.Core.Path.{_≡_};
 ghost use Prim.Native.Nat.{_≤_};
 ghost use lib.ListN.{length};
 ghost use Rattle.graph.specs.Hops.{count};
-ghost use Rattle.quotient.specs.Reduce.{reduceOf, mapOutput, shortOutput};
+ghost use Rattle.reduce_entry.specs.Reduce.{reduceOf, mapOutput, shortOutput};
 ghost use Rattle.bisimulation.specs.Auditing.{faultless};
 ghost use Rattle.together.specs.Together.{auditLeft};
 

@@ -13,7 +13,7 @@ use Rattle.base_fixpoint.specs.Pairs.{Pairs}
 use Rattle.mark_confluence.specs.Held.{isMarked, markOf, marksOf}
 use Rattle.mark_confluence.proofs.Marks.{marks-at}
 use Rattle.mark_senses.specs.Senses.{setAt, markedBy}
-use Rattle.representatives.specs.Tables.{Reducible}
+use Rattle.reduce_representatives.specs.Tables.{Reducible}
 use Rattle.repeating.specs.Repeating.{someMarked}
 
 module _ (hs : List ℕ) (u : Pairs) (ms out : List ℕ) (e : ms ≡ onFront (marksOf hs u) out) where

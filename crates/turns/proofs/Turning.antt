@@ -17,11 +17,11 @@ use Rattle.mark_confluence.specs.Rounds.{silentHops}
 use Rattle.mark_confluence.specs.Held.{marksOf, heldBy}
 use Rattle.mark_senses.specs.Senses.{senseOf, markedBy}
 use Rattle.mark_senses.proofs.Marked.{in-silent}
-use Rattle.short.specs.Short.{mapList}
-use Rattle.reducing.specs.Reducing.{shortGraph, mapLeft, shortLeft}
-use Rattle.reducing.specs.declared.ShortGraph.{ShortGraph}
-use Rattle.quotient.specs.Reduce.{markedTo, markedMap, markedHops, markedShape}
-use Rattle.quotient.proofs.Marked.{marked-within, left-shape, left-hops, left-map, left-short}
+use Rattle.reduce_short_graph.specs.Short.{mapList}
+use Rattle.reduce_by_marks.specs.Reducing.{shortGraph, mapLeft, shortLeft}
+use Rattle.reduce_by_marks.specs.declared.ShortGraph.{ShortGraph}
+use Rattle.reduce_entry.specs.Reduce.{markedTo, markedMap, markedHops, markedShape}
+use Rattle.reduce_entry.proofs.Marked.{marked-within, left-shape, left-hops, left-map, left-short}
 use Rattle.composing.specs.Chained.{chained}
 use Rattle.repeating.specs.Repeating.{Stage, nextStage}
 use Rattle.turns.specs.Reached.{stageOf}

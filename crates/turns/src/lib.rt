@@ -1,5 +1,5 @@
 // One turn of the repeated reduction: the graph is marked in the sense asked, and where something is marked it is reduced, the short hops take the place
-// of the hops, and the map to them goes behind the map. For `shrink`, which turns until nothing is marked; it stands on quotient (the marking), reducing and
+// of the hops, and the map to them goes behind the map. For `shrink`, which turns until nothing is marked; it stands on reduce_entry (the marking), reduce_by_marks and
 // composing.
 use base_outputs::put_numbers;
 use composing::put_behind;
@@ -10,8 +10,8 @@ use graph::Shape;
 use graph::hops::hop_count;
 use graph::hops::part;
 use graph_successors::starts_of;
-use quotient::entry::mark_in;
-use reducing::reduce_marked;
+use reduce_by_marks::reduce_marked;
+use reduce_entry::entry::mark_in;
 ghost use mathlib.Core.Path.{_≡_};
 ghost use mathlib.Core.Bool.{cond, not, _&&_};
 ghost use Prim.Native.Nat.{_<_, _≤_};
@@ -23,7 +23,7 @@ ghost use Rattle.graph.specs.Hops.{count, between};
 ghost use Rattle.graph.specs.Answers.{most-states};
 ghost use Rattle.mark_confluence.specs.Held.{isMarked, marksOf};
 ghost use Rattle.mark_senses.specs.Senses.{markedBy};
-ghost use Rattle.representatives.specs.Tables.{Reducible};
+ghost use Rattle.reduce_representatives.specs.Tables.{Reducible};
 ghost use Rattle.composing.specs.Chained.{Into};
 ghost use Rattle.repeating.specs.Repeating.{someMarked, marksSome, nextStage};
 ghost use Rattle.turns.specs.Reached.{stageOf};

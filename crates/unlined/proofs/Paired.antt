@@ -10,8 +10,8 @@ use Rattle.graph.specs.Order.{before}
 use Rattle.graph.specs.declared.Hop.{Hop}
 use Rattle.graph.proofs.Places.{length-flat, flat-at}
 use Rattle.graph.proofs.Ordered.{alike-itself, before-alike}
-use Rattle.sources.specs.Lines.{joined}
-use Rattle.insertion.specs.Insertion.{insert, collected}
+use Rattle.reduce_smallest_line.specs.Lines.{joined}
+use Rattle.reduce_insertion.specs.Insertion.{insert, collected}
 use Rattle.unlined.specs.Unlined.{Unlined}
 
 unfoldable pub Paired : List Hop → List Hop → Type 0

@@ -10,9 +10,9 @@ use Rattle.base_bounded.specs.Tests.{any, least, tally, listed}
 use Rattle.graph.specs.Hops.{count, Alike, flat}
 use Rattle.graph.specs.declared.Shape.{Shape}
 use Rattle.base_fixpoint.specs.Pairs.{Pairs}
-use Rattle.representatives.specs.Representative.{markedFrom, resting, onward, followed, repOf, newOf, mapOf}
-use Rattle.short.specs.Short.{image, gathered, shortHops, shortShape, mapList}
-use Rattle.quotient.specs.Reduce.{markedMap, markedHops, markedShape, reduceAnswer, reduceOf, mapOutput}
+use Rattle.reduce_representatives.specs.Representative.{markedFrom, resting, onward, followed, repOf, newOf, mapOf}
+use Rattle.reduce_short_graph.specs.Short.{image, gathered, shortHops, shortShape, mapList}
+use Rattle.reduce_entry.specs.Reduce.{markedMap, markedHops, markedShape, reduceAnswer, reduceOf, mapOutput}
 use Rattle.unlined.specs.Unlined.{Unlined}
 use Rattle.unlined.proofs.Checks.{count-same, from-same, label-same, to-same, check-same}
 use Rattle.unlined.proofs.Walks.{ringless-same}

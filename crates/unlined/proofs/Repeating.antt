@@ -10,7 +10,7 @@ use Rattle.base_bounded.specs.Tests.{any}
 use Rattle.graph.specs.Hops.{flat}
 use Rattle.graph.specs.declared.Shape.{Shape}
 use Rattle.mark_senses.specs.Senses.{setAt}
-use Rattle.quotient.specs.Reduce.{markedMap, markedShape, markedHops}
+use Rattle.reduce_entry.specs.Reduce.{markedMap, markedShape, markedHops}
 use Rattle.composing.specs.Chained.{chained}
 use Rattle.repeating.specs.Repeating.{Stage, firstStage, nextStage, someMarked, marksSome, repeated, lastOf, lastStage}
 use Rattle.last_graph.specs.Shrink.{shrinkOf, lastMap}

@@ -13,10 +13,10 @@ use Rattle.mark_senses.specs.Senses.{setAt, comes, takes, meets, takesTo, answe
 use Rattle.mark_entry.specs.Mark.{markAnswer}
 use Rattle.mark_worklist.specs.Due.{fell, standing, reached, shaken, due, testsIn, testsUpTo, testsOf}
 use Rattle.mark_entry_fast.specs.Fast.{countedOf}
-use Rattle.representatives.specs.Representative.{markedFrom, resting, onward, followed, repOf, newOf, mapOf}
-use Rattle.insertion.specs.Insertion.{insert, collected}
-use Rattle.short.specs.Short.{gathered, shortHops, shortShape, mapList}
-use Rattle.quotient.specs.Reduce.{reduceAnswer, reduceOf}
+use Rattle.reduce_representatives.specs.Representative.{markedFrom, resting, onward, followed, repOf, newOf, mapOf}
+use Rattle.reduce_insertion.specs.Insertion.{insert, collected}
+use Rattle.reduce_short_graph.specs.Short.{gathered, shortHops, shortShape, mapList}
+use Rattle.reduce_entry.specs.Reduce.{reduceAnswer, reduceOf}
 use Rattle.faults.specs.Faults.{initialFault, kept, lostFaults, offers, backed, matched, madeUp, madeUpFaults, faultsOf}
 use Rattle.faults.specs.First.{firstInitial, lostPlace, firstLost, madeUpPlace, madeUpState, firstMadeUp, firstFault}
 use Rattle.fitting.specs.Fitting.{firstHigh, mapFits, auditAnswer}

@@ -14,8 +14,8 @@ use Rattle.graph.specs.declared.Answer.{Answer}
 use Rattle.mark_confluence.specs.Rounds.{survives}
 use Rattle.mark_entry.specs.Mark.{marksMade, markAnswer}
 use Rattle.mark_entry_fast.specs.Fast.{countedOf}
-use Rattle.quotient.specs.Reduce.{markedMap, markedHops, reduceOf}
-use Rattle.quotient.specs.declared.Reduction.{Reduction}
+use Rattle.reduce_entry.specs.Reduce.{markedMap, markedHops, reduceOf}
+use Rattle.reduce_entry.specs.declared.Reduction.{Reduction}
 use Rattle.faults.specs.First.{fault, noFault}
 use Rattle.faults.specs.declared.Fault.{Fault}
 use Rattle.bisimulation.specs.Auditing.{auditOf}

@@ -10,11 +10,11 @@ use Rattle.base_fixpoint.specs.Rounds.{leftAfter}
 use Rattle.mark_confluence.specs.Rounds.{tried}
 use Rattle.mark_confluence.specs.Held.{marksOf, markOf}
 use Rattle.mark_senses.specs.Senses.{setAt, comes, takes, meets, takesTo, answersFrom, answeredIn, closesIn, markedIn, isSense, senseOf, senseAnswer}
-use Rattle.representatives.specs.Representative.{markedFrom, resting, onward, followed, repOf, newOf, mapOf}
-use Rattle.sources.specs.Lines.{lesserLine}
-use Rattle.insertion.specs.Insertion.{insert, collected}
-use Rattle.short.specs.Short.{gathered, shortHops, shortShape, mapList}
-use Rattle.quotient.specs.Reduce.{reduceAnswer}
+use Rattle.reduce_representatives.specs.Representative.{markedFrom, resting, onward, followed, repOf, newOf, mapOf}
+use Rattle.reduce_smallest_line.specs.Lines.{lesserLine}
+use Rattle.reduce_insertion.specs.Insertion.{insert, collected}
+use Rattle.reduce_short_graph.specs.Short.{gathered, shortHops, shortShape, mapList}
+use Rattle.reduce_entry.specs.Reduce.{reduceAnswer}
 use Rattle.worked_lines.specs.Table.{tableOf, table}
 
 pub given : tableOf table ≡ table

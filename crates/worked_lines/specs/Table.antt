@@ -7,7 +7,7 @@ use Rattle.graph.specs.Answers.{accepted, refused}
 use Rattle.graph.specs.declared.Hop.{Hop}
 use Rattle.graph.specs.declared.Shape.{Shape}
 use Rattle.graph.specs.declared.Answer.{Answer}
-use Rattle.quotient.specs.Reduce.{reduceAnswer, markedHops}
+use Rattle.reduce_entry.specs.Reduce.{reduceAnswer, markedHops}
 
 -- a hop with its line; a state count and a label count, with initial state 0
 abbrev pub hop : ℕ → ℕ → ℕ → ℕ → Hop

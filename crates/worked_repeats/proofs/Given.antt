@@ -19,10 +19,10 @@ use Rattle.base_fixpoint.specs.Pairs.{Pairs}
 use Rattle.mark_confluence.specs.Rounds.{tried}
 use Rattle.mark_confluence.specs.Held.{isMarked, heldAt, heldBy, markOf, marksOf}
 use Rattle.mark_senses.specs.Senses.{setAt, comes, takes, meets, takesTo, answersFrom, answeredIn, closesIn, markedIn, isSense, senseOf, senseAnswer}
-use Rattle.representatives.specs.Representative.{markedFrom, resting, onward, followed, repOf, newOf, mapOf}
-use Rattle.insertion.specs.Insertion.{insert, collected}
-use Rattle.short.specs.Short.{gathered, shortHops, shortShape, mapList}
-use Rattle.quotient.specs.Reduce.{reduceAnswer}
+use Rattle.reduce_representatives.specs.Representative.{markedFrom, resting, onward, followed, repOf, newOf, mapOf}
+use Rattle.reduce_insertion.specs.Insertion.{insert, collected}
+use Rattle.reduce_short_graph.specs.Short.{gathered, shortHops, shortShape, mapList}
+use Rattle.reduce_entry.specs.Reduce.{reduceAnswer}
 use Rattle.composing.specs.Chained.{chained, ownMap}
 use Rattle.repeating.specs.Repeating.{Stage, firstStage, nextStage, markedAt, someMarked, marksSome, repeated, lastOf, lastStage}
 use Rattle.last_graph.specs.Shrink.{shrinkOf, lastMap, lastHops}

@@ -10,8 +10,8 @@ use Rattle.graph.specs.declared.Shape.{Shape}
 use Rattle.graph.specs.declared.Answer.{Answer}
 use Rattle.mark_confluence.specs.Held.{marksOf}
 use Rattle.mark_senses.specs.Senses.{markedBy}
-use Rattle.quotient.specs.Reduce.{reduceAnswer, reduceOf, markedMap, markedHops}
-use Rattle.quotient.specs.declared.Reduction.{Reduction}
+use Rattle.reduce_entry.specs.Reduce.{reduceAnswer, reduceOf, markedMap, markedHops}
+use Rattle.reduce_entry.specs.declared.Reduction.{Reduction}
 
 -- a hop as document 01 writes it; a state count and a label count, with initial state 0
 abbrev pub hop : ℕ → ℕ → ℕ → Hop

@@ -1,6 +1,6 @@
 -- `last_graph::shrink` meets its contract: a refusal writes nothing, and acceptance gives what the repetition needs. Assumes nothing.
 use mathlib.Core.Path.{_∙_}
-use Rattle.quotient.proofs.Answering.{reduce-reducible, reduce-map-room, reduce-short-room}
+use Rattle.reduce_entry.proofs.Answering.{reduce-reducible, reduce-map-room, reduce-short-room}
 use Rattle.last_graph.proofs.Answering.{refused-returns, refused-map, refused-short, accepts, accepted-returns, accepted-map, accepted-short}
 use borrow.Author.Needs.{needs}
 use Rattle.last_graph.proofs.shrink.Statement.{statement}

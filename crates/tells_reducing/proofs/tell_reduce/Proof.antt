@@ -1,10 +1,10 @@
 -- `tells_reducing::tell_reduce` meets its contract: where the answer slice is too short, only the answer is found. Assumes nothing.
 use borrow.Author.Needs.{needs}
 use mathlib.Core.Path.{ap, _∙_}
-use Rattle.quotient.specs.declared.Reduction.{Reduction}
+use Rattle.reduce_entry.specs.declared.Reduction.{Reduction}
 use Rattle.tells_reducing.specs.Numbers.{reductionNumbers}
 use lib.ListN.{length}
-use Rattle.quotient.specs.Reduce.{reduceAnswer, reduceOf, mapOutput, shortOutput}
+use Rattle.reduce_entry.specs.Reduce.{reduceAnswer, reduceOf, mapOutput, shortOutput}
 use Rattle.answers.specs.Numbers.{shapeOf}
 use Rattle.answers.proofs.Answers.{returned-of}
 use Rattle.answers.proofs.Told.{told-of, short-told, short-kept, left-long}

@@ -4,7 +4,7 @@ use mathlib.Core.Path.{ap, _∙_}
 use Rattle.last_graph.specs.declared.Shrinking.{Shrinking}
 use Rattle.tells_shrinking.specs.Numbers.{shrinkingNumbers}
 use lib.ListN.{length}
-use Rattle.quotient.specs.Reduce.{reduceAnswer}
+use Rattle.reduce_entry.specs.Reduce.{reduceAnswer}
 use Rattle.last_graph.specs.Shrink.{shrinkOf, lastMap, lastHops}
 use Rattle.answers.specs.Numbers.{shapeOf}
 use Rattle.answers.proofs.Answers.{returned-of}

@@ -4,8 +4,8 @@ use native.Mathlib.Omega.{arith}
 use borrow.Author.Tests.{not-true, not-false}
 use lib.ListN.{length}
 use lib.Seq.{length-take-le}
-use Rattle.representatives.proofs.Marked.{held-settles}
-use Rattle.quotient.proofs.Marked.{left-marks}
+use Rattle.reduce_representatives.proofs.Marked.{held-settles}
+use Rattle.reduce_entry.proofs.Marked.{left-marks}
 use Rattle.turns.proofs.Looking.{seen-reducible, seen-some, more-is}
 use Rattle.turns.proofs.Turning.{hops-within, hops-fewer, short-room, turned}
 use borrow.Author.Needs.{needs}

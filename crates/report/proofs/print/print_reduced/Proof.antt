@@ -4,8 +4,8 @@ use mathlib.Core.Path.{sym}
 use lib.ListN.{replicate}
 use Rattle.graph.specs.Answers.{most-states, most-hops, most-numbers}
 use Rattle.graph_successors.proofs.Firsts.{admitted-ready}
-use Rattle.representatives.proofs.Marked.{held-settles}
-use Rattle.quotient.proofs.Marked.{left-marks}
+use Rattle.reduce_representatives.proofs.Marked.{held-settles}
+use Rattle.reduce_entry.proofs.Marked.{left-marks}
 use Rattle.text.proofs.Puts.{put-same, room-same}
 use Rattle.report.proofs.Lengths.{report-most}
 use Rattle.report.proofs.Shown.{reduced-marks, reduced-shape, reduced-most, reduced-short, reduced-map, reduced-lines, text-room}

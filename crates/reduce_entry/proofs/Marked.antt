@@ -1,0 +1,79 @@
+-- Of every graph that rows 1 to 5 let pass: the marked set of any sense settles and is weakly confluent, so that what representatives and short say of
+-- any such set holds of it; and what is reduced along the marks of a set is reduced along the set. Assumes nothing.
+use Prim.Native.Nat.{ℕ, _≤_}
+use mathlib.Core.Path.{_≡_, ap, _∙_}
+use mathlib.Core.List.{List}
+use native.Mathlib.Omega.{arith}
+use lib.ListN.{length}
+use Rattle.base_outputs.specs.Output.{onFront}
+use Rattle.graph.specs.Hops.{count, flat}
+use Rattle.graph.specs.Answers.{accepted}
+use Rattle.graph.specs.declared.Answer.{Answer}
+use Rattle.graph.specs.declared.Shape.{Shape}
+use Rattle.lts.specs.Reduction.{Confluent}
+use Rattle.lts.specs.Closes.{Sense}
+use Rattle.lts.proofs.SenseForms.{set-confluent}
+use Rattle.walk_silent.specs.Silent.{HopOf}
+use Rattle.walk_silent.proofs.Rings.{rank}
+use Rattle.base_fixpoint.specs.Pairs.{Pairs, In, Within}
+use Rattle.mark_confluence.specs.Rounds.{silentHops}
+use Rattle.mark_confluence.specs.Held.{marksOf, heldBy}
+use Rattle.mark_confluence.proofs.Marks.{marks-room, marks-silent, held-set}
+use Rattle.mark_senses.specs.Senses.{markedIn, senseOf, markedBy}
+use Rattle.mark_senses.proofs.Marked.{in-silent, marked-of}
+use Rattle.reduce_representatives.specs.Representative.{Settles}
+use Rattle.reduce_representatives.specs.Tables.{Reducible, SilentMarks}
+use Rattle.reduce_representatives.proofs.Marked.{falls, silent-settles}
+use Rattle.reduce_short_graph.specs.Short.{shortHops, shortShape, mapList}
+use Rattle.reduce_short_graph.proofs.Images.{short-within}
+use Rattle.reduce_by_marks.specs.Reducing.{shortGraph, mapLeft, shortLeft}
+use Rattle.reduce_by_marks.specs.declared.ShortGraph.{ShortGraph}
+use Rattle.reduce_entry.specs.Reduce.{reduction, markedHops}
+use Rattle.reduce_entry.specs.declared.Reduction.{Reduction}
+
+module _ {sh : Shape} {hs : List ℕ} (red : Reducible sh hs) (sense : Sense) where
+  -- walks along marked hops come to rest
+  pub marked-settles : Settles sh hs (markedIn sense sh hs)
+  marked-settles = silent-settles red (markedIn sense sh hs) (in-silent sense sh hs)
+
+  -- confluence in any sense is weak confluence
+  pub marked-weakly : Confluent (HopOf hs) (In (markedIn sense sh hs))
+  marked-weakly = set-confluent (HopOf hs) (In (markedIn sense sh hs)) (marked-of sense sh hs) (rank sh hs) (falls red)
+
+-- what marking with the silent hops u leaves in ms is marks, one a hop, of which no visible hop has one, and they are of u
+module _ (sh : Shape) (hs : List ℕ) (u : Pairs) (ms out : List ℕ) (e : ms ≡ onFront (marksOf hs u) out) where
+  pub left-marks : count hs ≤ length out → SilentMarks hs ms
+  left-marks l = record { room = omega (arith, marks-room hs u ms out e l); silent = marks-silent hs u ms out e }
+
+  module _ (w : Within (In u) (In (silentHops hs))) where
+    -- so what is reduced along them is reduced along u
+    same-graph : {r : ShortGraph} → r ≡ shortGraph sh hs (heldBy hs ms) → r ≡ shortGraph sh hs u
+    same-graph q = q ∙ ap (shortGraph sh hs) (held-set hs u ms out e w)
+
+    pub left-map : (old : List ℕ) {map : List ℕ} → map ≡ mapLeft sh hs ms old → map ≡ onFront (mapList sh hs u) old
+    left-map old f = f ∙ ap (λ (v : Pairs). onFront (mapList sh hs v) old) (held-set hs u ms out e w)
+
+    pub left-short : (old : List ℕ) {short : List ℕ} → short ≡ shortLeft sh hs ms old → short ≡ onFront (flat (shortHops sh hs u)) old
+    left-short old f = f ∙ ap (λ (v : Pairs). onFront (flat (shortHops sh hs v)) old) (held-set hs u ms out e w)
+
+    -- the short graph's shape and the number of its hops
+    pub left-shape : {r : ShortGraph} → r ≡ shortGraph sh hs (heldBy hs ms) → r .shape ≡ shortShape sh hs u
+    left-shape q = ap (λ (x : ShortGraph). x .shape) (same-graph q)
+
+    pub left-hops : {r : ShortGraph} → r ≡ shortGraph sh hs (heldBy hs ms) → r .hops ≡ length (shortHops sh hs u)
+    left-hops q = ap (λ (x : ShortGraph). x .hops) (same-graph q)
+
+-- what is returned, if the set is that of the sense with the number k
+pub left-made : (sh : Shape) (hs : List ℕ) (k : ℕ) (ms out : List ℕ) → ms ≡ onFront (marksOf hs (markedBy k sh hs)) out →
+    {a : Answer} {r : ShortGraph} → a ≡ accepted → r ≡ shortGraph sh hs (heldBy hs ms) →
+    _≡_ {A = Reduction} (record { answer = a; shape = r .shape; hops = r .hops }) (reduction sh hs k accepted)
+left-made sh hs k ms out e p q = λ d. record { answer = p d; shape = left-shape sh hs u ms out e w q d; hops = left-hops sh hs u ms out e w q d } where
+  u : Pairs
+  u = markedBy k sh hs
+
+  w : Within (In u) (In (silentHops hs))
+  w = in-silent (senseOf k) sh hs
+
+-- the short hops are no more than the hops
+pub marked-within : (sh : Shape) (hs : List ℕ) (k : ℕ) → length (markedHops sh hs k) ≤ count hs
+marked-within sh hs k = short-within sh hs (markedBy k sh hs)

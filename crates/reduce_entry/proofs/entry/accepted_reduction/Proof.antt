@@ -1,0 +1,61 @@
+-- `reduce_entry::entry::accepted_reduction` meets its contract: the marks are those of the sense's marked set. Assumes nothing.
+use native.Mathlib.Omega.{arith}
+use Rattle.mark_senses.specs.Senses.{senseOf, markedBy}
+use Rattle.mark_senses.proofs.Marked.{in-silent}
+use Rattle.reduce_representatives.proofs.Marked.{held-settles}
+use Rattle.reduce_entry.proofs.Marked.{left-marks, left-made, left-map, left-short}
+use borrow.Author.Needs.{needs}
+use Rattle.reduce_entry.proofs.entry.accepted_reduction.Statement.{statement}
+use Rattle.reduce_entry.proofs.entry.accepted_reduction.Tie as tie
+
+slice-aggregate-mark-in : tie.Need-slice-aggregate-mark-in
+slice-aggregate-mark-in c = search needs
+
+mark-in-requires : tie.Need-mark-in-requires
+mark-in-requires c κs =
+    let st = c .before .before .before .before in
+    let adm = st .pre .0 .admitted in
+    (record { admitted = adm; table = st .pre .1 .0 }, (st .pre .0 .free, omega (arith, adm .hops-most)))
+
+slice-aggregate-reduce-marked : tie.Need-slice-aggregate-reduce-marked
+slice-aggregate-reduce-marked c = search needs
+
+reduce-marked-requires : tie.Need-reduce-marked-requires
+reduce-marked-requires c κs =
+    let st = c .before .before .before .before .before .before .before .before .before in
+    let red = st .pre .0 in
+    (red .admitted, (held-settles red _, (left-marks (st .args .shape) _ _ _ _ (c .before .before .before .before .mark-in .ensures) (omega (arith, red .admitted .hops-most)), (st .pre .1 .1 .0, st .pre .1 .1 .1))))
+
+accept-requires : tie.Need-accept-requires
+accept-requires c κs = search needs
+
+same-length : tie.Need-same-length
+same-length c = search needs
+
+same-length-2 : tie.Need-same-length-2
+same-length-2 c = search needs
+
+returns : tie.Need-returns
+returns c =
+    let st = c .before .before .before .before .before .before .before .before .before .before .before .before .before .before .before .before .args in
+    let sh = st .shape in
+    let hs = st .hops .now in
+    let k = st .sense in
+    let marked = c .before .before .before .before .before .before .before .before .before .before .before .mark-in .ensures in
+    let made = c .before .before .before .before .before .before .reduce-marked .ensures in
+    let u = markedBy k sh hs in
+    let silent = in-silent (senseOf k) sh hs in
+    (left-made sh hs k _ _ marked (c .accept .ensures) (made .0), (left-map sh hs u _ _ marked silent _ (made .1 .0), left-short sh hs u _ _ marked silent _ (made .1 .1)))
+
+pub accepted-reduction-spec : {M : Type 1} → statement M
+accepted-reduction-spec =
+    tie.close
+    (tie.spec
+    slice-aggregate-mark-in
+    mark-in-requires
+    slice-aggregate-reduce-marked
+    reduce-marked-requires
+    accept-requires
+    same-length
+    same-length-2
+    returns)

@@ -1,0 +1,20 @@
+-- Parts of the refusals of `reduce`: rows 19, 5 and 6, and what it returns with a refusal. Assumes nothing: these are definitions.
+use Prim.Native.Nat.{ℕ}
+use mathlib.Core.List.{List}
+use lib.ListN.{length}
+use Rattle.graph.specs.Answers.{andThen, roomFor}
+use Rattle.graph.specs.declared.Shape.{Shape}
+use Rattle.graph.specs.declared.Answer.{Answer}
+use Rattle.walk_silent.specs.Silent.{ringless}
+use Rattle.mark_senses.specs.Senses.{senseAnswer}
+use Rattle.reduce_entry.specs.Reduce.{noShape}
+use Rattle.reduce_entry.specs.declared.Reduction.{Reduction}
+
+-- what is returned with a refusal
+abbrev pub refusal : Answer → Reduction
+refusal a = record { answer = a; shape = noShape; hops = 0 }
+
+-- rows 19, 5 and 6 of `reduceAnswer`, of an admitted graph
+abbrev pub laterAnswer : Shape → List ℕ → ℕ → ℕ → ℕ → Answer
+laterAnswer sh hs k map-room short-room =
+    andThen (senseAnswer k) (andThen (ringless sh hs) (andThen (roomFor (sh .states) map-room) (roomFor (length hs) short-room)))

@@ -1,0 +1,109 @@
+// Where the first marked hop of each state leads, and the representative that these hops lead to. A walk notes the representative with every state that it
+// passed, in the table itself, so that no later walk passes them again.
+use graph::MOST_STATES;
+use graph::OldState;
+use graph::hops::from_at;
+use graph::hops::hop_count;
+use graph::hops::to_at;
+ghost use mathlib.Core.Path.{_≡_};
+ghost use Prim.Native.Nat.{_<_, _≤_};
+ghost use lib.ListN.{length};
+ghost use Rattle.graph.specs.Hops.{count, from};
+ghost use Rattle.graph.specs.Answers.{most-states};
+ghost use Rattle.mark_confluence.specs.Held.{heldBy};
+ghost use Rattle.reduce_representatives.specs.Tables.{Marks, Own, FromIn, Onward, Closed, Sinks, Noted, entered, stays, stepped};
+
+// A table that leads from each state to itself.
+fn own_states() -> [u16; MOST_STATES]
+    ensures { λ r. ⌜ Own r ⌝ }
+{
+    let mut next = [0u16; MOST_STATES];
+    let mut s = 0;
+    while s < MOST_STATES {
+        next[s] = s as u16;
+        s += 1;
+    }
+    next
+}
+
+// Enters the hop at the place, if it is marked, as the first of its state.
+fn enter(hops: &[u16], marks: &[u8], next: &mut [u16; MOST_STATES], i: usize)
+    requires inside { ⌜ i < count (now hops) ⌝ }
+    requires marked { ⌜ i < length (now marks) ⌝ }
+    requires tabled { ⌜ from (now hops) i < most-states ⌝ }
+    ensures { λ r. ⌜ now (next .exit) ≡ entered (now (hops .entry)) (now (marks .entry)) i (now (next .entry)) ⌝ }
+{
+    if marks[i] == 1 {
+        let at = from_at(hops, i).0 as usize;
+        next[at] = to_at(hops, i).0;
+    }
+}
+
+// The table: the hops are entered from the last to the first, so that the first stands.
+pub fn next_states(hops: &[u16], marks: &[u8]) -> [u16; MOST_STATES]
+    requires marks { ⌜ Marks (now hops) (heldBy (now hops) (now marks)) (now marks) ⌝ }
+    requires tabled { ⌜ FromIn (now hops) ⌝ }
+    ensures { λ r. ⌜ Onward (now (hops .entry)) (heldBy (now (hops .entry)) (now (marks .entry))) r ⌝ }
+{
+    let mut next = own_states();
+    let mut i = hop_count(hops);
+    while 0 < i {
+        i -= 1;
+        enter(hops, marks, &mut next, i);
+    }
+    next
+}
+
+// Whether the table leads from s to s.
+pub fn is_at_rest(next: &[u16; MOST_STATES], s: OldState) -> bool
+    requires { ⌜ s .0 < most-states ⌝ }
+    ensures { λ r. ⌜ r ≡ stays (now (next .entry)) (s .0) ⌝ }
+{
+    let at = s.0 as usize;
+    next[at] == s.0
+}
+
+// The state that s comes to within as many steps as there are states.
+pub fn follow(next: &[u16; MOST_STATES], states: usize, s: OldState) -> OldState
+    requires inside { ⌜ s .0 < states ⌝ }
+    requires few { ⌜ states ≤ most-states ⌝ }
+    requires closed { ⌜ Closed states (now next) ⌝ }
+    ensures { λ r. ⌜ r .0 ≡ stepped (now (next .entry)) states (s .0) ⌝ }
+{
+    let mut at = s.0;
+    let mut k = 0;
+    while k < states {
+        let i = at as usize;
+        let to = next[i];
+        if to == at {
+            return OldState(at);
+        }
+        at = to;
+        k += 1;
+    }
+    OldState(at)
+}
+
+// Walks from s to its representative, and notes it with every state on the way.
+pub fn note_way(next: &mut [u16; MOST_STATES], states: usize, s: OldState, rep: OldState)
+    requires inside { ⌜ s .0 < states ⌝ }
+    requires few { ⌜ states ≤ most-states ⌝ }
+    requires room { ⌜ most-states ≤ length (now next) ⌝ }
+    requires closed { ⌜ Closed states (now next) ⌝ }
+    requires sinks { ⌜ Sinks states (now next) ⌝ }
+    requires rep { ⌜ rep .0 ≡ stepped (now next) states (s .0) ⌝ }
+    ensures { λ r. ⌜ Noted states (now (next .entry)) (now (next .exit)) ⌝ }
+{
+    let mut at = s.0;
+    let mut passed = 0;
+    while passed < states {
+        let i = at as usize;
+        let to = next[i];
+        if to == rep.0 {
+            return;
+        }
+        next[i] = rep.0;
+        at = to;
+        passed += 1;
+    }
+}

@@ -1,0 +1,61 @@
+-- The short hops are strictly ascending and are exactly the images of the hops that leave a representative. Assumes nothing.
+use Prim.Native.Nat.{ℕ, _≤_}
+use mathlib.Core.Path.{_≡_, ap, _∙_, subst}
+use mathlib.Core.Bool.{true}
+use mathlib.Core.List.{List}
+use mathlib.Core.Logic.{_↔_}
+use lib.ListN.{length}
+use Rattle.base_bounded.specs.Tests.{tally}
+use Rattle.graph.specs.Hops.{count, from, to, flat, has}
+use Rattle.graph.specs.Order.{Ascending}
+use Rattle.graph.specs.declared.Shape.{Shape}
+use Rattle.graph.proofs.Places.{has-at, has-place}
+use Rattle.base_fixpoint.specs.Pairs.{Pairs}
+use Rattle.reduce_insertion.proofs.Insertion.{rising-ascending}
+use Rattle.reduce_insertion.proofs.Collected.{collected-rising, collected-few, collected-within, collected-iff}
+use Rattle.reduce_representatives.specs.Representative.{resting, newOf, mapOf}
+use Rattle.reduce_short_graph.specs.Short.{image, gathered, shortHops}
+
+module _ (sh : Shape) (hs : List ℕ) (u : Pairs) where
+  pub short-ascending : Ascending (flat (shortHops sh hs u))
+  unfolding shortHops gathered
+  short-ascending = rising-ascending _ (collected-rising (λ (i : ℕ). resting hs u (from hs i)) (image sh hs u) (count hs))
+
+  -- at most as many as leave a representative
+  pub short-few : length (shortHops sh hs u) ≤ tally (count hs) (λ (i : ℕ). resting hs u (from hs i))
+  unfolding shortHops gathered
+  short-few = collected-few (λ (i : ℕ). resting hs u (from hs i)) (image sh hs u) (count hs)
+
+  pub short-within : length (shortHops sh hs u) ≤ count hs
+  unfolding shortHops gathered
+  short-within = collected-within (λ (i : ℕ). resting hs u (from hs i)) (image sh hs u) (count hs)
+
+  -- a hop of the short graph is the image of a hop of a representative
+  abbrev pub ShortHop : ℕ → ℕ → ℕ → Type 0
+  ShortHop n a m = (r : ℕ) × (t : ℕ) × (resting hs u r ≡ true) × (has hs r a t ≡ true) × (newOf hs u r ≡ n) × (mapOf sh hs u t ≡ m)
+
+  pub short-has : (n a m : ℕ) → ShortHop n a m → has (flat (shortHops sh hs u)) n a m ≡ true
+  unfolding shortHops gathered
+  short-has n a m (r, t, e, h, f, g) =
+      let p = has-place hs r a t h in
+      collected-iff (λ (i : ℕ). resting hs u (from hs i)) (image sh hs u) (count hs) n a m .1 (
+        p .at,
+        p .within,
+        rw (p .from-is) e,
+        record { same-from = ap (newOf hs u) (p .from-is) ∙ f; same-label = p .label-is; same-to = ap (mapOf sh hs u) (p .to-is) ∙ g },
+      )
+
+  pub short-only : (n a m : ℕ) → has (flat (shortHops sh hs u)) n a m ≡ true → ShortHop n a m
+  unfolding shortHops gathered
+  short-only n a m e =
+      let (i, l, f, q) = collected-iff (λ (i : ℕ). resting hs u (from hs i)) (image sh hs u) (count hs) n a m .0 e in (
+        from hs i,
+        to hs i,
+        f,
+        subst (λ (x : ℕ). has hs (from hs i) x (to hs i) ≡ true) (q .same-label) (has-at hs l),
+        q .same-from,
+        q .same-to,
+      )
+
+  pub short-iff : (n a m : ℕ) → (has (flat (shortHops sh hs u)) n a m ≡ true) ↔ ShortHop n a m
+  short-iff n a m = (short-only n a m, short-has n a m)

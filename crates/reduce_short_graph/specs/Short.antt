@@ -1,0 +1,39 @@
+-- The short graph along a set u of silent hops: "for each hop r, a, t of a representative r, the hop new(r), a, map(t), once, in ascending order".
+-- Assumes nothing: these are definitions.
+use Prim.Native.Nat.{ℕ}
+use mathlib.Core.Bool.{Bool, _&&_}
+use mathlib.Core.List.{List}
+use Rattle.base_bounded.specs.Tests.{tally, listed}
+use Rattle.graph.specs.Hops.{count, from, linedHop, hopAt, same}
+use Rattle.graph.specs.declared.Hop.{Hop}
+use Rattle.graph.specs.declared.Shape.{Shape}
+use Rattle.base_fixpoint.specs.Pairs.{Pairs}
+use Rattle.reduce_insertion.specs.Insertion.{collected}
+use Rattle.reduce_representatives.specs.Representative.{resting, newOf, mapOf}
+
+-- what a hop becomes, if it leaves a representative; it keeps its line
+abbrev pub becomes : Shape → List ℕ → Pairs → Hop → Hop
+becomes sh hs u h = linedHop (newOf hs u (h .from)) (h .label) (mapOf sh hs u (h .to)) (h .line)
+
+-- what the hop at place i becomes
+abbrev pub image : Shape → List ℕ → Pairs → ℕ → Hop
+image sh hs u i = becomes sh hs u (hopAt hs i)
+
+-- the images of the representatives' hops among the first n
+unfoldable pub gathered : Shape → List ℕ → Pairs → ℕ → List Hop
+gathered sh hs u = collected (λ (i : ℕ). resting hs u (from hs i)) (image sh hs u)
+
+unfoldable pub shortHops : Shape → List ℕ → Pairs → List Hop
+shortHops sh hs u = gathered sh hs u (count hs)
+
+-- the hop at place i is among "the hops it comes from", of a hop h of the short graph: it leaves a representative, and what it becomes is like h
+unfoldable pub comesFrom : Shape → List ℕ → Pairs → Hop → ℕ → Bool
+comesFrom sh hs u h i = resting hs u (from hs i) && same (image sh hs u i) h
+
+-- "Its initial state is the map of the old one, its label count is the old one."
+unfoldable pub shortShape : Shape → List ℕ → Pairs → Shape
+shortShape sh hs u = record { states = tally (sh .states) (resting hs u); labels = sh .labels; initial = mapOf sh hs u (sh .initial) }
+
+-- the map as a list, "one element a state"
+unfoldable pub mapList : Shape → List ℕ → Pairs → List ℕ
+mapList sh hs u = listed (sh .states) (mapOf sh hs u)

@@ -1,0 +1,29 @@
+// Source lines: which of the lines of several hops is kept where they become one, the smallest that is not 0. For whatever puts hops in order once. It
+// stands on graph.
+use graph::Hop;
+use graph::hops::lined_hop;
+ghost use mathlib.Core.Path.{_≡_};
+ghost use Rattle.reduce_smallest_line.specs.Lines.{lesserLine, joined};
+
+// The smaller of two lines that is not 0, or 0.
+fn lesser_line(a: u16, b: u16) -> u16
+    ensures { λ r. ⌜ r ≡ lesserLine a b ⌝ }
+{
+    if a == 0 {
+        return b;
+    }
+    if b == 0 {
+        return a;
+    }
+    if b < a {
+        return b;
+    }
+    a
+}
+
+// What is kept of two hops that are alike.
+pub fn join(x: Hop, h: Hop) -> Hop
+    ensures { λ r. ⌜ r ≡ joined x h ⌝ }
+{
+    lined_hop(x.from, x.label, x.to, lesser_line(x.line, h.line))
+}
