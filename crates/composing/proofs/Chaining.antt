@@ -6,7 +6,7 @@ use lib.ListN.{length}
 use Rattle.base_bounded.proofs.Tests.{length-listed, getD-listed}
 use Rattle.graph.specs.Map.{mapped}
 use Rattle.graph.specs.declared.Shape.{Shape}
-use Rattle.fitting.specs.Fitting.{AdmittedMap}
+use Rattle.audit_admitted.specs.Fitting.{AdmittedMap}
 use Rattle.composing.specs.Chained.{chained, ownMap}
 
 pub chained-length : (m n : List ℕ) → length (chained m n) ≡ length m

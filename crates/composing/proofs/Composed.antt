@@ -7,11 +7,11 @@ use Rattle.graph.specs.Map.{mapped}
 use Rattle.graph.specs.declared.Shape.{Shape}
 use Rattle.graph_check.specs.Check.{Admitted}
 use Rattle.lts.proofs.Compose.{composes, Reduces·refl}
-use Rattle.faults.specs.Faults.{faultsOf}
-use Rattle.fitting.proofs.Fits.{Audited}
-use Rattle.bisimulation.specs.Auditing.{auditOf, faultless}
-use Rattle.bisimulation.proofs.Meaning.{hop-to, zero-faultless, reduces-zero}
-use Rattle.bisimulation.proofs.Answering.{faultless-iff}
+use Rattle.audit_faults.specs.Faults.{faultsOf}
+use Rattle.audit_admitted.proofs.Fits.{Audited}
+use Rattle.audit_entry.specs.Auditing.{auditOf, faultless}
+use Rattle.audit_entry.proofs.Meaning.{hop-to, zero-faultless, reduces-zero}
+use Rattle.audit_entry.proofs.Answering.{faultless-iff}
 use Rattle.composing.specs.Chained.{chained, ownMap}
 use Rattle.composing.proofs.Chaining.{chained-at, own-length, own-at, chained-admitted}
 

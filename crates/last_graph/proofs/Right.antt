@@ -10,8 +10,8 @@ use Rattle.graph.specs.declared.Shape.{Shape}
 use Rattle.reduce_representatives.specs.Tables.{Reducible}
 use Rattle.reduce_entry.specs.Reduce.{reduceAnswer}
 use Rattle.reduce_entry.proofs.Answering.{reduce-reducible}
-use Rattle.bisimulation.specs.Auditing.{auditOf, faultless}
-use Rattle.bisimulation.proofs.Answering.{faultless-iff}
+use Rattle.audit_entry.specs.Auditing.{auditOf, faultless}
+use Rattle.audit_entry.proofs.Answering.{faultless-iff}
 use Rattle.repeating.specs.Repeating.{Stage, lastStage}
 use Rattle.repeating.proofs.Last.{last-staged, last-right, last-below}
 use Rattle.last_graph.specs.Shrink.{shrinkOf, lastMap, lastHops}

@@ -13,8 +13,8 @@ use Rattle.graph.specs.Hops.{count, between}
 use Rattle.graph.specs.Answers.{most-states}
 use Rattle.graph.specs.declared.Shape.{Shape}
 use Rattle.reduce_representatives.specs.Tables.{Reducible}
-use Rattle.fitting.proofs.Fits.{Audited}
-use Rattle.bisimulation.proofs.Answering.{faultless-iff}
+use Rattle.audit_admitted.proofs.Fits.{Audited}
+use Rattle.audit_entry.proofs.Answering.{faultless-iff}
 use Rattle.composing.specs.Chained.{ownMap, Into}
 use Rattle.repeating.specs.Repeating.{Stage, nextStage, marksSome, lastOf, lastStage}
 use Rattle.repeating.proofs.Stages.{fewer-states, Staged, first-staged, next-staged}

@@ -21,9 +21,9 @@ use Rattle.reduce_short_graph.proofs.Again.{short-all}
 use Rattle.reduce_entry.specs.Reduce.{markedHops}
 use Rattle.reduce_entry.proofs.Marked.{marked-within}
 use Rattle.reduce_entry.proofs.Reduced.{short-again, short-fewer}
-use Rattle.bisimulation.specs.Auditing.{auditOf, faultless}
+use Rattle.audit_entry.specs.Auditing.{auditOf, faultless}
 use Rattle.composing.proofs.Composed.{audits-compose, own-faultless}
-use Rattle.together.proofs.Right.{reduce-right}
+use Rattle.audit_of_reduce.proofs.Right.{reduce-right}
 use Rattle.repeating.specs.Repeating.{Stage, firstStage, nextStage, markedAt, someMarked, marksSome}
 
 -- the test that some hop is marked, and what it says

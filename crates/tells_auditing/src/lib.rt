@@ -1,13 +1,13 @@
-// The audit, as the entry for C and Rust tells it: capi exports the function unchanged. Stands on bisimulation (audit), faults (a fault) and answers (what is
+// The audit, as the entry for C and Rust tells it: capi exports the function unchanged. Stands on audit_entry (audit), audit_faults (a fault) and answers (what is
 // told and returned).
 use answers::tell;
-use bisimulation::Audit;
-use bisimulation::auditing::audit;
+use audit_entry::Audit;
+use audit_entry::auditing::audit;
 use graph::Shape;
 ghost use mathlib.Core.Path.{_≡_};
 ghost use lib.ListN.{length};
-ghost use Rattle.fitting.specs.Fitting.{auditAnswer};
-ghost use Rattle.bisimulation.specs.Auditing.{auditOf};
+ghost use Rattle.audit_admitted.specs.Fitting.{auditAnswer};
+ghost use Rattle.audit_entry.specs.Auditing.{auditOf};
 ghost use Rattle.answers.specs.Numbers.{shapeOf, returned, told};
 ghost use Rattle.tells_auditing.specs.Numbers.{auditNumbers};
 

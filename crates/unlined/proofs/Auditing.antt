@@ -7,10 +7,10 @@ use lib.Dec.{eqb}
 use Rattle.base_bounded.specs.Tests.{any, least, tally, total}
 use Rattle.graph.specs.Map.{mapped}
 use Rattle.graph.specs.declared.Shape.{Shape}
-use Rattle.faults.specs.Faults.{kept, lostFaults, offers, backed, matched, madeUp, madeUpFaults, faultsOf}
-use Rattle.faults.specs.First.{lostPlace, firstLost, madeUpPlace, madeUpState, firstMadeUp, firstFault}
-use Rattle.fitting.specs.Fitting.{auditAnswer}
-use Rattle.bisimulation.specs.Auditing.{auditOf}
+use Rattle.audit_faults.specs.Faults.{kept, lostFaults, offers, backed, matched, madeUp, madeUpFaults, faultsOf}
+use Rattle.audit_faults.specs.First.{lostPlace, firstLost, madeUpPlace, madeUpState, firstMadeUp, firstFault}
+use Rattle.audit_admitted.specs.Fitting.{auditAnswer}
+use Rattle.audit_entry.specs.Auditing.{auditOf}
 use Rattle.unlined.specs.Unlined.{Unlined}
 use Rattle.unlined.proofs.Checks.{count-same, from-same, label-same, to-same, has-same, check-same}
 use Rattle.unlined.proofs.Walks.{leads-same}

@@ -17,10 +17,10 @@ use Rattle.reduce_representatives.specs.Representative.{markedFrom, resting, on
 use Rattle.reduce_insertion.specs.Insertion.{insert, collected}
 use Rattle.reduce_short_graph.specs.Short.{gathered, shortHops, shortShape, mapList}
 use Rattle.reduce_entry.specs.Reduce.{reduceAnswer, reduceOf}
-use Rattle.faults.specs.Faults.{initialFault, kept, lostFaults, offers, backed, matched, madeUp, madeUpFaults, faultsOf}
-use Rattle.faults.specs.First.{firstInitial, lostPlace, firstLost, madeUpPlace, madeUpState, firstMadeUp, firstFault}
-use Rattle.fitting.specs.Fitting.{firstHigh, mapFits, auditAnswer}
-use Rattle.bisimulation.specs.Auditing.{auditOf}
+use Rattle.audit_faults.specs.Faults.{initialFault, kept, lostFaults, offers, backed, matched, madeUp, madeUpFaults, faultsOf}
+use Rattle.audit_faults.specs.First.{firstInitial, lostPlace, firstLost, madeUpPlace, madeUpState, firstMadeUp, firstFault}
+use Rattle.audit_admitted.specs.Fitting.{firstHigh, mapFits, auditAnswer}
+use Rattle.audit_entry.specs.Auditing.{auditOf}
 use Rattle.graph_find.specs.Finding.{hopsBefore, findOf}
 use Rattle.worked.specs.Table.{tableOf, table, outcomeOf, fallsIn}
 

@@ -16,10 +16,10 @@ use Rattle.mark_entry.specs.Mark.{marksMade, markAnswer}
 use Rattle.mark_entry_fast.specs.Fast.{countedOf}
 use Rattle.reduce_entry.specs.Reduce.{markedMap, markedHops, reduceOf}
 use Rattle.reduce_entry.specs.declared.Reduction.{Reduction}
-use Rattle.faults.specs.First.{fault, noFault}
-use Rattle.faults.specs.declared.Fault.{Fault}
-use Rattle.bisimulation.specs.Auditing.{auditOf}
-use Rattle.bisimulation.specs.declared.Audit.{Audit}
+use Rattle.audit_faults.specs.First.{fault, noFault}
+use Rattle.audit_faults.specs.declared.Fault.{Fault}
+use Rattle.audit_entry.specs.Auditing.{auditOf}
+use Rattle.audit_entry.specs.declared.Audit.{Audit}
 use Rattle.graph_find.specs.Finding.{findOf}
 use Rattle.graph_find.specs.declared.Finding.{Finding}
 

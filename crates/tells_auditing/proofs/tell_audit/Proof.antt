@@ -1,8 +1,8 @@
 -- `tells_auditing::tell_audit` meets its contract: what is told of the result is told of the audit's. Assumes nothing.
 use borrow.Author.Needs.{needs}
 use mathlib.Core.Path.{ap}
-use Rattle.bisimulation.specs.declared.Audit.{Audit}
-use Rattle.bisimulation.specs.Auditing.{auditOf}
+use Rattle.audit_entry.specs.declared.Audit.{Audit}
+use Rattle.audit_entry.specs.Auditing.{auditOf}
 use Rattle.tells_auditing.specs.Numbers.{auditNumbers}
 use lib.ListN.{length}
 use Rattle.answers.specs.Numbers.{shapeOf}

@@ -1,0 +1,78 @@
+-- Going over the hops of one state only, by the table of first places: what that ticks. Assumes nothing.
+use Prim.Native.Nat.{ℕ, _+_, _<_, _≤_}
+use mathlib.Core.Path.{_≡_, sym, ap, _∙_}
+use mathlib.Core.Bool.{Bool, true, false, cond, _&&_}
+use mathlib.Core.List.{List}
+use mathlib.Core.Logic.{⊎-elim}
+use native.Mathlib.Nat.{le-refl}
+use native.Mathlib.Omega.{arith}
+use lib.ListN.{length, getD, set}
+use lib.Dec.{eqb}
+use Rattle.base_bounded.specs.Tests.{any}
+use Rattle.graph.specs.Hops.{count, from}
+use Rattle.graph.specs.Order.{Ascending}
+use Rattle.graph.specs.Search.{firstOf, pastOf}
+use Rattle.graph_check.specs.Check.{InRange}
+use Rattle.graph.specs.declared.Shape.{Shape}
+use Rattle.base_bounded.proofs.Bools.{clash, lt-or-le, same-test, and-no-left}
+use Rattle.base_bounded.proofs.Tests.{any-found, any-at}
+use Rattle.graph.proofs.Lookup.{first-within, range-only}
+use Rattle.graph_successors.proofs.Firsts.{first-is, first-next}
+use Rattle.graph_successors.specs.Starts.{Ready}
+use Rattle.walk_reach.specs.Front.{noted}
+use Rattle.graph.specs.Map.{mapped}
+use Rattle.audit_faults.specs.Images.{Imaged}
+use Rattle.audit_matched.specs.Ticks.{seenInClass, ticks, TickedBy, TickedOn}
+use Rattle.audit_matched.proofs.Ticking.{ticked-none, ticked-more}
+
+-- a test that fails from lo on
+module _ (p : ℕ → Bool) {lo : ℕ} where
+  any-rest : (n : ℕ) → lo ≤ n → ((j : ℕ) → lo ≤ j → j < n → p j ≡ false) → any n p ≡ any lo p
+  any-rest n l f = same-test (any n p) (any lo p) there (λ e. let (i, k, d) = any-at p lo e in any-found p n (omega arith) d) where
+    there : any n p ≡ true → any lo p ≡ true
+    there e = let (i, k, d) = any-at p n e in ⊎-elim (λ h. any-found p lo h d) (λ h. clash d (f i h k)) (lt-or-le i lo)
+
+module _ (h1 h2 m seen : List ℕ) (r k : ℕ) where
+  -- the first place of all, and the last
+  pub ticked-first : Ascending h1 → (stamps : List ℕ) → TickedBy h1 h2 m seen r k (firstOf h1 0) stamps stamps
+  ticked-first up stamps =
+      let q : 0 ≡ firstOf h1 0 = first-is h1 up 0 (omega arith) (λ j l. absurd (omega arith)) (λ l. omega arith) in
+      rw (← q) (ticked-none h1 h2 m seen r k stamps)
+
+  pub ticked-last : {sh1 : Shape} → InRange sh1 h1 → Ascending h1 → (before after : List ℕ) {u : ℕ} → u ≡ sh1 .states →
+      TickedBy h1 h2 m seen r k (firstOf h1 u) before after → TickedBy h1 h2 m seen r k (count h1) before after
+  ticked-last ranged up before after {u} e t =
+      let q : count h1 ≡ firstOf h1 u = first-is h1 up u (le-refl (count h1)) (λ j l. rw e (ranged .from-in j l)) (λ l. absurd (omega arith)) in
+      rw q t
+
+  -- the hops of the state u
+  module _ (up : Ascending h1) (u : ℕ) {v : ℕ} (ev : v ≡ mapped m u) where
+    state-seen : {i : ℕ} → firstOf h1 u ≤ i → i < firstOf h1 (u + 1) → seenInClass h1 m seen r i ≡ (eqb (getD seen u 0) 1 && eqb v r)
+    unfolding pastOf seenInClass noted
+    state-seen {i} lo hi =
+        let q : from h1 i ≡ u = range-only h1 up u (omega (arith, first-within h1 up (u + 1))) lo hi in
+        rw (q, ev)
+
+    pub state-skipped : (eqb (getD seen u 0) 1 && eqb v r) ≡ false → (stamps : List ℕ) →
+        TickedOn h1 h2 m seen r k (firstOf h1 u) (firstOf h1 (u + 1)) stamps stamps
+    unfolding TickedOn TickedBy ticks
+    state-skipped e stamps first t j l =
+        t j l ∙
+        ap (λ (x : Bool). cond x k (getD first j 0))
+        (sym (any-rest (ticks h1 h2 m seen r j) (firstOf h1 (u + 1)) (first-next h1 up u) (λ i lo hi. and-no-left _ (state-seen lo hi ∙ e))))
+
+    pub state-more : Ready h2 → (images : List ℕ) → Imaged h1 h2 m images → (eqb (getD seen u 0) 1 && eqb v r) ≡ true →
+        (before stamps : List ℕ) → count h2 ≤ length stamps → {i : ℕ} → firstOf h1 u ≤ i → i < firstOf h1 (u + 1) →
+        {after : List ℕ} → after ≡ set stamps (getD images i 0) k →
+        TickedOn h1 h2 m seen r k (firstOf h1 u) i before stamps → TickedOn h1 h2 m seen r k (firstOf h1 u) (i + 1) before after
+    unfolding TickedOn Imaged
+    state-more ready images im e before stamps room {i} lo hi d o first t =
+        rw (d, im i (omega (arith, first-within h1 up (u + 1)))) (ticked-more h1 h2 m seen r k ready stamps room i (state-seen lo hi ∙ e) first (o first t))
+
+  pub on-none : (n : ℕ) (stamps : List ℕ) → TickedOn h1 h2 m seen r k n n stamps stamps
+  unfolding TickedOn
+  on-none n stamps first t = t
+
+  pub on-done : (before after : List ℕ) (lo : ℕ) {i hi : ℕ} → i ≤ hi → hi ≤ i → TickedOn h1 h2 m seen r k lo i before after →
+      TickedOn h1 h2 m seen r k lo hi before after
+  on-done before after lo {i} {hi} a b t = let q : hi ≡ i = omega arith in rw q t

@@ -1,0 +1,101 @@
+// Ticks: for the third sum of the fault count, the hops of graph 2 that a state of graph 1 backs. The hops of the states that a search has seen, inside a
+// class, tick hops of graph 2 by a stamp, at the places that a table has for them. Each state has a stamp of its own, so that no tick is ever cleared.
+// It stands on `audit_faults`, which says where each mapped hop stands in graph 2, and on `graph_successors` for a state's hops; `audit_unmatched` counts what is not ticked.
+use graph::MOST_HOPS;
+use graph::NewState;
+use graph::OldState;
+use graph::Shape;
+use graph::map::map_at;
+use graph_successors::STARTS;
+use graph_successors::start_of;
+use graph_successors::wide;
+ghost use mathlib.Core.Path.{_≡_};
+ghost use Prim.Native.Nat.{_+_, _<_, _≤_};
+ghost use lib.ListN.{length, getD, set};
+ghost use Rattle.graph.specs.Hops.{count};
+ghost use Rattle.graph.specs.Search.{firstOf};
+ghost use Rattle.graph.specs.Answers.{most-hops};
+ghost use Rattle.audit_matched.specs.Ticks.{Tickable, TickedBy, TickedOn};
+
+// Ticks what the hop at place i of graph 1 is in graph 2, if it is there: the place of one that is not is past the stamps.
+fn tick(images: &[u16; MOST_HOPS], stamps: &mut [u16], k: u16, i: usize)
+    requires { ⌜ i < most-hops ⌝ }
+    ensures { λ _. ⌜ now (stamps .exit) ≡ set (now (stamps .entry)) (getD (now (images .entry)) i 0) k ⌝ }
+{
+    let p = wide(images[i]);
+    if p < stamps.len() {
+        stamps[p] = k;
+    }
+}
+
+// Ticks by the hops of the state u of graph 1, if u is seen and its map is r.
+fn tick_state(
+    shape1: Shape,
+    hops1: &[u16],
+    starts1: &[u16; STARTS],
+    hops2: &[u16],
+    map: &[u16],
+    images: &[u16; MOST_HOPS],
+    seen: &[u8],
+    stamps: &mut [u16],
+    r: NewState,
+    k: u16,
+    u: OldState,
+)
+    requires tickable { ⌜ Tickable shape1 (now hops1) (now starts1) (now hops2) (now map) (now images) ⌝ }
+    requires seen { ⌜ shape1 .states ≤ length (now seen) ⌝ }
+    requires stamps { ⌜ count (now hops2) ≤ length (now stamps) ⌝ }
+    requires state { ⌜ u .0 < shape1 .states ⌝ }
+    ensures { λ _. ⌜ TickedOn (now (hops1 .entry)) (now (hops2 .entry)) (now (map .entry)) (now (seen .entry)) (r .0) k
+        (firstOf (now (hops1 .entry)) (u .0)) (firstOf (now (hops1 .entry)) (u .0 + 1)) (now (stamps .entry)) (now (stamps .exit)) ⌝ }
+{
+    let v = map_at(map, u);
+    let at = wide(u.0);
+    if (seen[at] == 1) & (v.0 == r.0) {
+        let past = start_of(starts1, at + 1);
+        let mut i = start_of(starts1, at);
+        while i < past {
+            tick(images, stamps, k, i);
+            i += 1;
+        }
+    }
+}
+
+// Ticks by the hops of every such state of graph 1.
+pub fn tick_all(
+    shape1: Shape,
+    hops1: &[u16],
+    starts1: &[u16; STARTS],
+    hops2: &[u16],
+    map: &[u16],
+    images: &[u16; MOST_HOPS],
+    seen: &[u8],
+    stamps: &mut [u16],
+    r: NewState,
+    k: u16,
+)
+    requires tickable { ⌜ Tickable shape1 (now hops1) (now starts1) (now hops2) (now map) (now images) ⌝ }
+    requires seen { ⌜ shape1 .states ≤ length (now seen) ⌝ }
+    requires stamps { ⌜ count (now hops2) ≤ length (now stamps) ⌝ }
+    ensures { λ _. ⌜ TickedBy (now (hops1 .entry)) (now (hops2 .entry)) (now (map .entry)) (now (seen .entry)) (r .0) k
+        (count (now (hops1 .entry))) (now (stamps .entry)) (now (stamps .exit)) ⌝ }
+{
+    let n = shape1.states as usize;
+    let mut u = 0;
+    while u < n {
+        tick_state(
+            shape1,
+            hops1,
+            starts1,
+            hops2,
+            map,
+            images,
+            seen,
+            stamps,
+            r,
+            k,
+            OldState(u as u16),
+        );
+        u += 1;
+    }
+}

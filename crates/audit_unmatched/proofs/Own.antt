@@ -1,0 +1,58 @@
+-- The hops of r are all that are unticked for it, so a walk over these finds the first and counts them all. Assumes nothing.
+use Prim.Native.Nat.{ℕ, zero, suc, _+_, _<_, _≤_}
+use mathlib.Core.Path.{_≡_, sym, _∙_}
+use mathlib.Core.Bool.{Bool, false, cond}
+use mathlib.Core.List.{List}
+use mathlib.Core.Logic.{⊎-elim}
+use native.Mathlib.Nat.{eq-or-lt-of-le, le-refl}
+use native.Mathlib.Omega.{arith}
+use borrow.Author.Tests.{ne-eqb, ltb-false, le-ltb}
+use Rattle.base_bounded.specs.Tests.{least, tally}
+use Rattle.graph.specs.Hops.{count, from}
+use Rattle.graph.specs.Order.{Ascending}
+use Rattle.graph.specs.Search.{firstOf}
+use Rattle.base_bounded.proofs.Bools.{lt-or-le, and-no-left}
+use Rattle.base_bounded.proofs.Tests.{least-before, least-is}
+use Rattle.graph.proofs.Lookup.{first-law}
+use Rattle.graph_successors.proofs.Firsts.{first-below}
+use Rattle.audit_unmatched.specs.States.{unticked}
+
+-- how many pass a test that fails from lo on
+module _ (p : ℕ → Bool) {lo : ℕ} where
+  tally-rest : (n : ℕ) → lo ≤ n → ((j : ℕ) → lo ≤ j → j < n → p j ≡ false) → tally n p ≡ tally lo p
+  unfolding tally
+  tally-rest zero l f = let q : lo ≡ 0 = omega arith in rw q
+  tally-rest (suc n) l f =
+      ⊎-elim (λ q. rw q) (λ m. further (f n (omega arith) (le-refl (suc n))) (tally-rest n (omega arith) (λ j a b. f j a (omega arith))))
+      (eq-or-lt-of-le l) where
+        further : p n ≡ false → tally n p ≡ tally lo p → cond (p n) 1 0 + tally n p ≡ tally lo p
+        further e h = rw e (omega arith)
+
+module _ (h2 stamps : List ℕ) (up : Ascending h2) (r k : ℕ) where
+  abbrev test : ℕ → Bool
+  test = unticked h2 stamps r k
+
+  not-of : (j : ℕ) → (r ≡ from h2 j → ⊥) → test j ≡ false
+  unfolding unticked
+  not-of j d = and-no-left _ (ne-eqb r (from h2 j) d)
+
+  none-before : {j : ℕ} → j < firstOf h2 r → test j ≡ false
+  none-before {j} l = not-of j (λ q. omega (arith, first-below h2 up r l))
+
+  none-after : {j : ℕ} → firstOf h2 (r + 1) ≤ j → j < count h2 → test j ≡ false
+  none-after {j} lo l = not-of j (λ q. omega (arith, beyond)) where
+    beyond : r + 1 ≤ from h2 j
+    beyond = ltb-false (from h2 j) (r + 1) (sym (first-law h2 up (r + 1) l) ∙ le-ltb j (firstOf h2 (r + 1)) lo)
+
+  -- the search for the first: where it begins, and where it ends without one
+  pub first-begins : least (firstOf h2 r) test ≡ firstOf h2 r
+  first-begins = least-is test (firstOf h2 r) (firstOf h2 r) (le-refl (firstOf h2 r)) (λ j l. none-before l) (λ l. absurd (omega arith))
+
+  pub first-ends : {j : ℕ} → firstOf h2 (r + 1) ≤ j → least j test ≡ j → count h2 ≡ least (count h2) test
+  first-ends {j} past e = sym (least-is test (count h2) (count h2) (le-refl (count h2)) none (λ l. absurd (omega arith))) where
+    none : (i : ℕ) → i < count h2 → test i ≡ false
+    none i l = ⊎-elim (λ h. least-before test j (omega arith)) (λ h. none-after (omega arith) l) (lt-or-le i j)
+
+  -- the count, once it is past the hops of r
+  pub count-ends : {j x : ℕ} → firstOf h2 (r + 1) ≤ j → j ≤ count h2 → x ≡ tally j test → x ≡ tally (count h2) test
+  count-ends past within e = e ∙ sym (tally-rest test (count h2) within (λ i lo l. none-after (omega arith) l))

@@ -1,0 +1,260 @@
+// Made up: the third sum of the fault count, the pairs of a hop of graph 2 and a state of graph 1 that does not answer it, and the first of them, for the
+// audit. By states of graph 1: `audit_matched` ticks the hops of graph 2 that the state backs, and of those of its class what is not ticked is made up.
+// It stands on `audit_faults`, which says what the sum and the first fault are, on `audit_matched`, on `graph_successors` for a state's hops, and on `walk_reach` along the silent
+// hops.
+use audit_faults::Fault;
+use audit_faults::Share;
+use audit_faults::first::no_fault;
+use audit_matched::tick_all;
+use graph::MOST_HOPS;
+use graph::MOST_STATES;
+use graph::NewState;
+use graph::OldState;
+use graph::Shape;
+use graph::hops::hop_count;
+use graph::hops::label_at;
+use graph::hops::new_from_at;
+use graph::hops::new_to_at;
+use graph::map::map_at;
+use graph_successors::STARTS;
+use graph_successors::start_of;
+use graph_successors::starts_of;
+use graph_successors::wide;
+use walk_reach::reach;
+use walk_silent::chosen::silent_bytes;
+ghost use mathlib.Core.Path.{_≡_};
+ghost use mathlib.Core.Bool.{cond};
+ghost use Prim.Native.Nat.{_+_, _<_, _≤_};
+ghost use lib.ListN.{length};
+ghost use lib.Dec.{ltb};
+ghost use Rattle.base_bounded.specs.Tests.{least, tally};
+ghost use Rattle.graph.specs.Hops.{count};
+ghost use Rattle.graph.specs.Answers.{most-states};
+ghost use Rattle.graph_successors.specs.Starts.{Table, Ready};
+ghost use Rattle.audit_faults.specs.Faults.{madeUpFaults};
+ghost use Rattle.audit_faults.specs.First.{fault, noFault, firstMadeUp};
+ghost use Rattle.audit_faults.specs.Images.{Auditable, Imaged};
+ghost use Rattle.audit_unmatched.specs.States.{Countable, Rooms, unticked, Fresh, madeUpOf, madeUpPlaceOf};
+
+// What is made up for one state: how many hops of graph 2, and the place of the first, or the hop count.
+pub struct OfState {
+    pub faults: u32,
+    pub place: usize,
+}
+
+// Whether the hop at place j of graph 2 leaves r, is no silent hop to r itself, and is not ticked.
+fn is_unticked(hops2: &[u16], stamps: &[u16], r: NewState, k: u16, j: usize) -> bool
+    requires place { ⌜ j < count (now hops2) ⌝ }
+    requires stamps { ⌜ count (now hops2) ≤ length (now stamps) ⌝ }
+    ensures { λ u. ⌜ u ≡ unticked (now (hops2 .entry)) (now (stamps .entry)) (r .0) k j ⌝ }
+{
+    let from = new_from_at(hops2, j);
+    let a = label_at(hops2, j);
+    let q = new_to_at(hops2, j);
+    (r.0 == from.0) & !(((a.0 == 0) & (from.0 == q.0)) | (stamps[j] == k))
+}
+
+// The first place of graph 2 whose hop is so, or its hop count: the hops of r are all that can be.
+fn first_unticked(
+    hops2: &[u16],
+    starts2: &[u16; STARTS],
+    stamps: &[u16],
+    r: NewState,
+    k: u16,
+) -> usize
+    requires ready { ⌜ Ready (now hops2) ⌝ }
+    requires table { ⌜ Table (now hops2) (now starts2) ⌝ }
+    requires stamps { ⌜ count (now hops2) ≤ length (now stamps) ⌝ }
+    requires state { ⌜ r .0 < most-states ⌝ }
+    ensures { λ u. ⌜ u ≡ least (count (now (hops2 .entry))) (unticked (now (hops2 .entry)) (now (stamps .entry)) (r .0) k) ⌝ }
+{
+    let at = wide(r.0);
+    let past = start_of(starts2, at + 1);
+    let mut j = start_of(starts2, at);
+    while j < past {
+        if is_unticked(hops2, stamps, r, k, j) {
+            return j;
+        }
+        j += 1;
+    }
+    hop_count(hops2)
+}
+
+// How many hops of graph 2 are so, counted from the first of them on.
+fn unticked_from(
+    hops2: &[u16],
+    starts2: &[u16; STARTS],
+    stamps: &[u16],
+    r: NewState,
+    k: u16,
+    first: usize,
+) -> u32
+    requires ready { ⌜ Ready (now hops2) ⌝ }
+    requires table { ⌜ Table (now hops2) (now starts2) ⌝ }
+    requires stamps { ⌜ count (now hops2) ≤ length (now stamps) ⌝ }
+    requires state { ⌜ r .0 < most-states ⌝ }
+    requires first { ⌜ first ≡ least (count (now hops2)) (unticked (now hops2) (now stamps) (r .0) k) ⌝ }
+    ensures { λ u. ⌜ u ≡ tally (count (now (hops2 .entry))) (unticked (now (hops2 .entry)) (now (stamps .entry)) (r .0) k) ⌝ }
+{
+    let past = start_of(starts2, wide(r.0) + 1);
+    let mut faults = 0;
+    let mut j = first;
+    while j < past {
+        if is_unticked(hops2, stamps, r, k, j) {
+            faults += 1;
+        }
+        j += 1;
+    }
+    faults
+}
+
+// The faults of the pairs of a hop of graph 2 and the state s, and the first place of such a hop.
+fn made_up_of(
+    shape1: Shape,
+    hops1: &[u16],
+    starts1: &[u16; STARTS],
+    silent: &[u8],
+    hops2: &[u16],
+    starts2: &[u16; STARTS],
+    map: &[u16],
+    images: &[u16; MOST_HOPS],
+    s: OldState,
+    seen: &mut [u8],
+    queue: &mut [u16],
+    stamps: &mut [u16],
+) -> OfState
+    requires countable { ⌜ Countable shape1 (now hops1) (now starts1) (now silent) (now hops2) (now starts2) (now map) (now images) ⌝ }
+    requires state { ⌜ s .0 < shape1 .states ⌝ }
+    requires rooms { ⌜ Rooms (shape1 .states) (now hops2) (now seen) (now queue) (now stamps) ⌝ }
+    requires fresh { ⌜ Fresh (now hops2) (now stamps) (s .0 + 1) ⌝ }
+    ensures counts { λ r. ⌜ r .faults ≡ madeUpOf shape1 (now (hops1 .entry)) (now (hops2 .entry)) (now (map .entry)) (s .0) ⌝ }
+    ensures names { λ r. ⌜ r .place ≡ madeUpPlaceOf shape1 (now (hops1 .entry)) (now (hops2 .entry)) (now (map .entry)) (s .0) ⌝ }
+    ensures fresh { λ r. ⌜ Fresh (now (hops2 .entry)) (now (stamps .exit)) (s .0 + 1 + 1) ⌝ }
+{
+    let r = map_at(map, s);
+    let k = s.0 + 1;
+    reach(shape1, hops1, starts1, silent, s, seen, queue);
+    tick_all(
+        shape1,
+        hops1,
+        starts1,
+        hops2,
+        map,
+        images,
+        seen,
+        stamps,
+        r,
+        k,
+    );
+    let place = first_unticked(hops2, starts2, stamps, r, k);
+    let faults = unticked_from(hops2, starts2, stamps, r, k, place);
+    OfState { faults, place }
+}
+
+// A share of kind 3: its first fault by place and state, unless the place is `none`.
+fn share_of(faults: u32, place: usize, state: u16, none: usize) -> Share
+    ensures counts { λ r. ⌜ r .faults ≡ faults ⌝ }
+    ensures names { λ r. ⌜ r .first ≡ cond (ltb place none) (fault 3 place state) noFault ⌝ }
+{
+    if place < none {
+        return Share {
+            faults,
+            first: Fault {
+                kind: 3,
+                place,
+                state,
+            },
+        };
+    }
+    Share {
+        faults,
+        first: no_fault(),
+    }
+}
+
+// The third sum, with the tables of places, and working space for the search and for the stamps, which begin at 0. Going by states meets the faults in another
+// order than theirs, by hops: the smallest place is kept, with the first state that has it.
+fn made_up_faults(
+    shape1: Shape,
+    hops1: &[u16],
+    starts1: &[u16; STARTS],
+    silent: &[u8],
+    hops2: &[u16],
+    starts2: &[u16; STARTS],
+    map: &[u16],
+    images: &[u16; MOST_HOPS],
+    seen: &mut [u8],
+    queue: &mut [u16],
+    stamps: &mut [u16],
+) -> Share
+    requires countable { ⌜ Countable shape1 (now hops1) (now starts1) (now silent) (now hops2) (now starts2) (now map) (now images) ⌝ }
+    requires rooms { ⌜ Rooms (shape1 .states) (now hops2) (now seen) (now queue) (now stamps) ⌝ }
+    requires fresh { ⌜ Fresh (now hops2) (now stamps) 1 ⌝ }
+    ensures counts { λ r. ⌜ r .faults ≡ madeUpFaults shape1 (now (hops1 .entry)) (now (hops2 .entry)) (now (map .entry)) ⌝ }
+    ensures names { λ r. ⌜ r .first ≡ firstMadeUp shape1 (now (hops1 .entry)) (now (hops2 .entry)) (now (map .entry)) ⌝ }
+{
+    let n = shape1.states as usize;
+    let none = hop_count(hops2);
+    let mut faults = 0;
+    let mut place = none;
+    let mut state = 0;
+    let mut s = 0;
+    while s < n {
+        let of = made_up_of(
+            shape1,
+            hops1,
+            starts1,
+            silent,
+            hops2,
+            starts2,
+            map,
+            images,
+            OldState(s as u16),
+            seen,
+            queue,
+            stamps,
+        );
+        faults += of.faults;
+        if of.place < place {
+            place = of.place;
+            state = s as u16;
+        }
+        s += 1;
+    }
+    share_of(faults, place, state, none)
+}
+
+// The third sum: 1 for each pair of a hop of graph 2 and a state of graph 1 that is a fault, and the first of them.
+pub fn all_made_up(
+    shape1: Shape,
+    hops1: &[u16],
+    hops2: &[u16],
+    starts2: &[u16; STARTS],
+    map: &[u16],
+    images: &[u16; MOST_HOPS],
+) -> Share
+    requires auditable { ⌜ Auditable shape1 (now hops1) (now hops2) (now map) ⌝ }
+    requires table { ⌜ Table (now hops2) (now starts2) ⌝ }
+    requires imaged { ⌜ Imaged (now hops1) (now hops2) (now map) (now images) ⌝ }
+    ensures counts { λ r. ⌜ r .faults ≡ madeUpFaults shape1 (now (hops1 .entry)) (now (hops2 .entry)) (now (map .entry)) ⌝ }
+    ensures names { λ r. ⌜ r .first ≡ firstMadeUp shape1 (now (hops1 .entry)) (now (hops2 .entry)) (now (map .entry)) ⌝ }
+{
+    let starts1 = starts_of(hops1);
+    let silent = silent_bytes(hops1);
+    let mut seen = [0u8; MOST_STATES];
+    let mut queue = [0u16; MOST_STATES];
+    let mut stamps = [0u16; MOST_HOPS];
+    made_up_faults(
+        shape1,
+        hops1,
+        &starts1,
+        &silent,
+        hops2,
+        starts2,
+        map,
+        images,
+        &mut seen,
+        &mut queue,
+        &mut stamps,
+    )
+}
