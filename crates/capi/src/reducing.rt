@@ -5,7 +5,7 @@ use tells_shrinking::tell_shrink;
 ghost use mathlib.Core.Path.{_≡_};
 ghost use lib.ListN.{length};
 ghost use Rattle.reduce_entry.specs.Reduce.{reduceAnswer, reduceOf, mapOutput, shortOutput};
-ghost use Rattle.last_graph.specs.Shrink.{shrinkOf, lastMap, lastHops};
+ghost use Rattle.shrink_entry.specs.Shrink.{shrinkOf, lastMap, lastHops};
 ghost use Rattle.audit_admitted.specs.Fitting.{auditAnswer};
 ghost use Rattle.audit_entry.specs.Auditing.{auditOf};
 ghost use Rattle.answers.specs.Numbers.{shapeOf, returned, told, unlessShort};

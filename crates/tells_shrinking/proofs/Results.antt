@@ -5,8 +5,8 @@ use mathlib.Core.List.{List}
 use lib.Dec.{eqb}
 use Rattle.graph.specs.declared.Shape.{Shape}
 use Rattle.reduce_entry.specs.Reduce.{reduceAnswer}
-use Rattle.last_graph.specs.declared.Shrinking.{Shrinking}
-use Rattle.last_graph.specs.Shrink.{shrinkOf}
+use Rattle.shrink_entry.specs.declared.Shrinking.{Shrinking}
+use Rattle.shrink_entry.specs.Shrink.{shrinkOf}
 use Rattle.answers.proofs.Answers.{either-answer}
 
 pub shrunk-answer : (sh : Shape) (hs : List ℕ) (k map-room short-room : ℕ) →

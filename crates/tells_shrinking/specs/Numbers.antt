@@ -1,7 +1,7 @@
 -- The figures of shrink, as its entry for C and Rust tells them. Assumes nothing: this is a definition.
 use Prim.Native.Nat.{ℕ}
 use mathlib.Core.List.{List, [], _∷_}
-use Rattle.last_graph.specs.declared.Shrinking.{Shrinking}
+use Rattle.shrink_entry.specs.declared.Shrinking.{Shrinking}
 use Rattle.answers.specs.Numbers.{numbersOf}
 
 -- "8: states, labels, hops, initial, reductions"

@@ -1,15 +1,15 @@
 // Shrink, as the entry for C and Rust tells it: capi exports the function unchanged. It finds the entry's answer and tells it, and leaves the map and the
-// last hops alone where the answer slice is too short. Stands on last_graph (shrink) and answers (what is told and returned).
+// last hops alone where the answer slice is too short. Stands on shrink_entry (shrink) and answers (what is told and returned).
 use answers::short_number;
 use answers::tell;
 use graph::Shape;
-use last_graph::Shrinking;
-use last_graph::shrink;
 use reduce_entry::entry::reduce_answer;
+use shrink_entry::Shrinking;
+use shrink_entry::shrink;
 ghost use mathlib.Core.Path.{_≡_};
 ghost use lib.ListN.{length};
 ghost use Rattle.reduce_entry.specs.Reduce.{reduceAnswer};
-ghost use Rattle.last_graph.specs.Shrink.{shrinkOf, lastMap, lastHops};
+ghost use Rattle.shrink_entry.specs.Shrink.{shrinkOf, lastMap, lastHops};
 ghost use Rattle.answers.specs.Numbers.{shapeOf, returned, told, unlessShort};
 ghost use Rattle.tells_shrinking.specs.Numbers.{shrinkingNumbers};
 

@@ -11,9 +11,9 @@ use Rattle.graph.specs.Hops.{flat}
 use Rattle.graph.specs.declared.Shape.{Shape}
 use Rattle.mark_senses.specs.Senses.{setAt}
 use Rattle.reduce_entry.specs.Reduce.{markedMap, markedShape, markedHops}
-use Rattle.composing.specs.Chained.{chained}
-use Rattle.repeating.specs.Repeating.{Stage, firstStage, nextStage, someMarked, marksSome, repeated, lastOf, lastStage}
-use Rattle.last_graph.specs.Shrink.{shrinkOf, lastMap}
+use Rattle.shrink_compose.specs.Chained.{chained}
+use Rattle.shrink_iterate.specs.Repeating.{Stage, firstStage, nextStage, someMarked, marksSome, repeated, lastOf, lastStage}
+use Rattle.shrink_entry.specs.Shrink.{shrinkOf, lastMap}
 use Rattle.unlined.specs.Unlined.{Unlined}
 use Rattle.unlined.proofs.Checks.{count-same, from-same, label-same, to-same}
 use Rattle.unlined.proofs.Marking.{marked-same}

@@ -23,12 +23,12 @@ use Rattle.reduce_representatives.specs.Representative.{markedFrom, resting, on
 use Rattle.reduce_insertion.specs.Insertion.{insert, collected}
 use Rattle.reduce_short_graph.specs.Short.{gathered, shortHops, shortShape, mapList}
 use Rattle.reduce_entry.specs.Reduce.{reduceAnswer}
-use Rattle.composing.specs.Chained.{chained, ownMap}
-use Rattle.repeating.specs.Repeating.{Stage, firstStage, nextStage, markedAt, someMarked, marksSome, repeated, lastOf, lastStage}
-use Rattle.last_graph.specs.Shrink.{shrinkOf, lastMap, lastHops}
+use Rattle.shrink_compose.specs.Chained.{chained, ownMap}
+use Rattle.shrink_iterate.specs.Repeating.{Stage, firstStage, nextStage, markedAt, someMarked, marksSome, repeated, lastOf, lastStage}
+use Rattle.shrink_entry.specs.Shrink.{shrinkOf, lastMap, lastHops}
 use Rattle.base_outputs.specs.Output.{onFront}
 use Rattle.graph.specs.Answers.{accepted}
-use Rattle.last_graph.specs.declared.Shrinking.{Shrinking}
+use Rattle.shrink_entry.specs.declared.Shrinking.{Shrinking}
 use Rattle.worked_repeats.specs.Table.{Turn, Shrunk, turnsOf, shrunkOf, refusedOf, tableOf, chain-r1, chain-r2, chain-r3, chain-r8, p1-r1, p2-r1, twice-r2, table}
 use Rattle.worked_repeats.proofs.Settled.{closesAt, leftAt, settled}
 

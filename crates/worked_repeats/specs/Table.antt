@@ -10,9 +10,9 @@ use Rattle.graph.specs.declared.Hop.{Hop}
 use Rattle.graph.specs.declared.Shape.{Shape}
 use Rattle.graph.specs.declared.Answer.{Answer}
 use Rattle.mark_confluence.specs.Held.{marksOf}
-use Rattle.repeating.specs.Repeating.{Stage, firstStage, nextStage, markedAt}
-use Rattle.last_graph.specs.Shrink.{shrinkOf, lastMap, lastHops}
-use Rattle.last_graph.specs.declared.Shrinking.{Shrinking}
+use Rattle.shrink_iterate.specs.Repeating.{Stage, firstStage, nextStage, markedAt}
+use Rattle.shrink_entry.specs.Shrink.{shrinkOf, lastMap, lastHops}
+use Rattle.shrink_entry.specs.declared.Shrinking.{Shrinking}
 
 -- a hop as document 01 writes it; a state count and a label count, with initial state 0
 abbrev pub hop : ℕ → ℕ → ℕ → Hop

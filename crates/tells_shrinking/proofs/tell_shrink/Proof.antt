@@ -1,11 +1,11 @@
 -- `tells_shrinking::tell_shrink` meets its contract: where the answer slice is too short, only the answer is found. Assumes nothing.
 use borrow.Author.Needs.{needs}
 use mathlib.Core.Path.{ap, _∙_}
-use Rattle.last_graph.specs.declared.Shrinking.{Shrinking}
+use Rattle.shrink_entry.specs.declared.Shrinking.{Shrinking}
 use Rattle.tells_shrinking.specs.Numbers.{shrinkingNumbers}
 use lib.ListN.{length}
 use Rattle.reduce_entry.specs.Reduce.{reduceAnswer}
-use Rattle.last_graph.specs.Shrink.{shrinkOf, lastMap, lastHops}
+use Rattle.shrink_entry.specs.Shrink.{shrinkOf, lastMap, lastHops}
 use Rattle.answers.specs.Numbers.{shapeOf}
 use Rattle.answers.proofs.Answers.{returned-of}
 use Rattle.answers.proofs.Told.{told-of, short-told, short-kept, left-long}

@@ -1,0 +1,71 @@
+-- `shrink_compose::put_own` meets its contract: after s turns the first s numbers stand at the front. Assumes nothing.
+use Prim.Native.Nat.{ℕ, _-_, _≤_}
+use mathlib.Core.Path.{_≡_, refl, _∙_}
+use native.Mathlib.Omega.{arith}
+use borrow.Author.Needs.{needs}
+use lib.ListN.{length, length-set}
+use Rattle.base_bounded.specs.Tests.{listed}
+use Rattle.base_bounded.proofs.Tests.{length-listed}
+use Rattle.graph.specs.Answers.{most-states}
+use Rattle.base_outputs.specs.Output.{onFront}
+use Rattle.base_outputs.proofs.Front.{front-all, listed-none, listed-more, listed-done}
+use Rattle.shrink_compose.specs.Chained.{ownMap}
+use Rattle.shrink_compose.proofs.put_own.Statement.{statement}
+use Rattle.shrink_compose.proofs.put_own.Tie as tie
+
+abbrev own : ℕ → ℕ
+own s = s
+
+abbrev Inv-loop : tie.InvT-loop
+Inv-loop map₀ s₀ map s = (map ≡ onFront (listed s own) map₀) × (length map ≡ length map₀) × (s ≤ length map₀) × (length map₀ ≤ most-states)
+
+abbrev μ-loop : tie.MeasureT-loop
+μ-loop map₀ s₀ map s = length map₀ - s
+
+loop-holds : tie.Need-loop-holds Inv-loop μ-loop
+loop-holds c = (listed-none own (c .args .map .now), refl, omega arith, c .pre)
+
+cast-map : tie.Need-cast-map Inv-loop μ-loop
+cast-map c = omega arith
+
+mul-map : tie.Need-mul-map Inv-loop μ-loop
+mul-map c = search needs
+
+slice-write-map : tie.Need-slice-write-map Inv-loop μ-loop
+slice-write-map c = omega arith
+
+add-s : tie.Need-add-s Inv-loop μ-loop
+add-s c = omega arith
+
+loop-less : tie.Need-loop-less Inv-loop μ-loop
+loop-less c = omega arith
+
+loop-again : tie.Need-loop-again Inv-loop μ-loop
+loop-again c =
+    let v = c .before .loop .inv in
+    (listed-more own (c .before .before .args .map .now) (v .0) refl (omega arith), simp length-set (omega arith), omega arith, omega arith)
+
+same-length : tie.Need-same-length Inv-loop μ-loop
+same-length c = omega arith
+
+returns : tie.Need-returns Inv-loop μ-loop
+unfolding ownMap
+returns c =
+    let old = c .before .before .args .map .now in
+    listed-done own old (c .before .loop .inv .0) (omega arith) (omega arith) ∙ front-all (listed (length old) own) old (length-listed own (length old))
+
+pub put-own-spec : {M : Type 1} → statement M
+put-own-spec =
+    tie.close
+    (tie.spec
+    Inv-loop
+    μ-loop
+    loop-holds
+    cast-map
+    mul-map
+    slice-write-map
+    add-s
+    loop-less
+    loop-again
+    same-length
+    returns)

@@ -1,0 +1,37 @@
+// Maps put one after the other. The law (proofs/Composed): if a map has no fault from graph 1 to graph 2, and another none from graph 2 to graph 3, by
+// the audit's own count, one after the other has none from graph 1 to graph 3. The code puts one map behind another, in place. For the repeated
+// reduction; it stands on the audit.
+use graph::OldState;
+use graph::map::map_at;
+ghost use mathlib.Core.Path.{_≡_};
+ghost use Prim.Native.Nat.{_≤_};
+ghost use lib.ListN.{length};
+ghost use Rattle.graph.specs.Answers.{most-states};
+ghost use Rattle.shrink_compose.specs.Chained.{chained, ownMap, Into};
+
+// The map from a graph to itself.
+pub fn put_own(map: &mut [u16])
+    requires { ⌜ length (now map) ≤ most-states ⌝ }
+    ensures { λ _. ⌜ now (map .exit) ≡ ownMap (length (now (map .entry))) ⌝ }
+{
+    let mut s: usize = 0;
+    while s < map.len() {
+        map[s] = s as u16;
+        s += 1;
+    }
+}
+
+// Puts the map `next` behind the map: what was a new state of the one is an old state of the other.
+pub fn put_behind(map: &mut [u16], next: &[u16])
+    requires few { ⌜ length (now map) ≤ most-states ⌝ }
+    requires into { ⌜ Into (now map) (length (now next)) ⌝ }
+    ensures { λ _. ⌜ now (map .exit) ≡ chained (now (map .entry)) (now (next .entry)) ⌝ }
+{
+    let mut s: usize = 0;
+    while s < map.len() {
+        let between = map_at(map, OldState(s as u16));
+        let last = map_at(next, OldState(between.0));
+        map[s] = last.0;
+        s += 1;
+    }
+}

@@ -1,0 +1,120 @@
+// The entry `shrink`: reduces again and again in the sense asked, until no hop is marked, and gives the last graph and the map from first states to last.
+// It refuses as `reduce` does, and asks the rows once: no short graph breaks them. Stands on reduce_entry (the rows), shrink_step (one reduction, and its map behind
+// the map) and shrink_iterate (what it all means).
+use base_outputs::put_numbers;
+use graph::Answer;
+use graph::MOST_NUMBERS;
+use graph::Shape;
+use graph::answers::accept;
+use graph::hops::hop_count;
+use graph::hops::part;
+use reduce_entry::entry::reduce_answer;
+use shrink_compose::put_own;
+use shrink_step::Reached;
+use shrink_step::turn;
+ghost use mathlib.Core.Path.{_≡_};
+ghost use Prim.Native.Nat.{_≤_};
+ghost use lib.ListN.{length};
+ghost use Rattle.base_outputs.specs.Output.{onFront};
+ghost use Rattle.graph.specs.Hops.{count, between};
+ghost use Rattle.graph.specs.Answers.{accepted};
+ghost use Rattle.reduce_representatives.specs.Tables.{Reducible};
+ghost use Rattle.shrink_iterate.specs.Repeating.{lastStage};
+ghost use Rattle.shrink_step.specs.Reached.{stageOf};
+ghost use Rattle.shrink_entry.specs.Shrink.{refusal, shrinking, shrinkOf, lastMap, lastHops};
+
+// What `shrink` returns: the answer, the last graph's counts and initial state, and the number of reductions that marked something (all 0 with a refusal).
+pub struct Shrinking {
+    pub answer: Answer,
+    pub shape: Shape,
+    pub hops: usize,
+    pub reductions: usize,
+}
+
+// Turn after turn until nothing is marked, from a graph at the front of the hops; the map is made anew.
+fn repeat(shape: Shape, hops: &mut [u16], n: usize, sense: u32, map: &mut [u16]) -> Reached
+    requires reducible { ⌜ Reducible shape (between (now hops) 0 n) ⌝ }
+    requires there { ⌜ n ≤ count (now hops) ⌝ }
+    requires sized { ⌜ length (now map) ≡ shape .states ⌝ }
+    ensures last { λ r. ⌜ stageOf r (now (hops .exit)) (now (map .exit)) ≡ lastStage sense shape (between (now (hops .entry)) 0 n) ⌝ }
+    ensures there { λ r. ⌜ r .hops ≤ count (now (hops .exit)) ⌝ }
+{
+    put_own(map);
+    let mut at = Reached {
+        shape,
+        hops: n,
+        reductions: 0,
+        more: true,
+    };
+    while at.more {
+        at = turn(at, hops, sense, map);
+    }
+    at
+}
+
+// The last graph of a graph that every row lets pass. Between the first hops and the last, hops stand in a list of the call's own: what is past the last
+// ones in the output stays as it was.
+fn accepted_shrinking(
+    shape: Shape,
+    hops: &[u16],
+    sense: u32,
+    map: &mut [u16],
+    short: &mut [u16],
+) -> Shrinking
+    requires reducible { ⌜ Reducible shape (now hops) ⌝ }
+    requires map_room { ⌜ shape .states ≤ length (now map) ⌝ }
+    requires short_room { ⌜ length (now hops) ≤ length (now short) ⌝ }
+    ensures returned { λ r. ⌜ r ≡ shrinking shape (now (hops .entry)) sense accepted ⌝ }
+    ensures mapped { λ r. ⌜ now (map .exit) ≡ onFront (lastStage sense shape (now (hops .entry)) .map) (now (map .entry)) ⌝ }
+    ensures shortened { λ r. ⌜ now (short .exit) ≡ onFront (lastStage sense shape (now (hops .entry)) .hops) (now (short .entry)) ⌝ }
+{
+    let states = shape.states as usize;
+    let n = hop_count(hops);
+    let mut last = [0u16; MOST_NUMBERS];
+    put_numbers(&mut last, hops);
+    let reached = repeat(shape, &mut last, n, sense, &mut map[..states]);
+    let left = reached.shape;
+    let m = reached.hops;
+    put_numbers(short, part(&last, 0, m));
+    Shrinking {
+        answer: accept(),
+        shape: left,
+        hops: m,
+        reductions: reached.reductions,
+    }
+}
+
+// A refusal: "with any number but 0 every other figure in the answer is 0".
+fn refused_shrinking(answer: Answer) -> Shrinking
+    ensures { λ r. ⌜ r ≡ refusal answer ⌝ }
+{
+    Shrinking {
+        answer,
+        shape: Shape {
+            states: 0,
+            labels: 0,
+            initial: 0,
+        },
+        hops: 0,
+        reductions: 0,
+    }
+}
+
+// The entry. A refusal writes nothing; acceptance writes the map and the last hops, and nothing past them.
+pub fn shrink(
+    shape: Shape,
+    hops: &[u16],
+    sense: u32,
+    map: &mut [u16],
+    short: &mut [u16],
+) -> Shrinking
+    ensures returned { λ r. ⌜ r ≡ shrinkOf shape (now (hops .entry)) sense (length (now (map .entry))) (length (now (short .entry))) ⌝ }
+    ensures mapped { λ r. ⌜ now (map .exit) ≡ lastMap shape (now (hops .entry)) sense (now (map .entry)) (now (short .entry)) ⌝ }
+    ensures shortened { λ r. ⌜ now (short .exit) ≡ lastHops shape (now (hops .entry)) sense (now (map .entry)) (now (short .entry)) ⌝ }
+{
+    let answer = reduce_answer(shape, hops, sense, map.len(), short.len());
+    if answer.number != 0 {
+        return refused_shrinking(answer);
+    }
+    accepted_shrinking(shape, hops, sense, map, short)
+}

@@ -1,0 +1,72 @@
+-- "Repeat, under a chosen sense, until no hop is marked, and return the last graph, one map from first states to last, and the number of reductions that
+-- marked something." (document 02, wish 13) k is the sense's number. Assumes nothing: these are definitions.
+use Prim.Native.Nat.{ℕ, zero, suc}
+use mathlib.Core.Bool.{Bool, cond, _&&_}
+use mathlib.Core.List.{List}
+use Rattle.base_bounded.specs.Tests.{any}
+use Rattle.graph.specs.Hops.{count, same, flat}
+use Rattle.graph.specs.declared.Hop.{Hop}
+use Rattle.graph.specs.declared.Shape.{Shape}
+use Rattle.base_fixpoint.specs.Pairs.{Pairs, In}
+use Rattle.mark_senses.specs.Senses.{setAt, markedBy}
+use Rattle.reduce_representatives.specs.Representative.{resting}
+use Rattle.reduce_short_graph.specs.Short.{becomes}
+use Rattle.reduce_entry.specs.Reduce.{markedMap, markedHops, markedShape}
+use Rattle.shrink_compose.specs.Chained.{chained, ownMap}
+
+-- how far a repetition has come: a graph, the map to it from the first states, and how many reductions marked something on the way
+pub record Stage : Type 0 where
+  pub shape : Shape
+  pub hops : List ℕ
+  pub map : List ℕ
+  pub reductions : ℕ
+
+-- before any reduction: the graph itself, and each state's own number
+abbrev pub firstStage : Shape → List ℕ → Stage
+firstStage sh hs = record { shape = sh; hops = hs; map = ownMap (sh .states); reductions = 0 }
+
+-- the marked set of the stage's graph
+abbrev pub markedAt : ℕ → Stage → Pairs
+markedAt k g = markedBy k (g .shape) (g .hops)
+
+-- some hop of the graph is marked
+unfoldable pub someMarked : ℕ → Shape → List ℕ → Bool
+someMarked k sh hs = any (count hs) (setAt hs (markedBy k sh hs))
+
+abbrev pub marksSome : ℕ → Stage → Bool
+marksSome k g = someMarked k (g .shape) (g .hops)
+
+-- one reduction more: the short graph, its map behind the one so far, and one more counted
+abbrev pub nextStage : ℕ → Stage → Stage
+nextStage k g = record {
+  shape = markedShape (g .shape) (g .hops) k;
+  hops = flat (markedHops (g .shape) (g .hops) k);
+  map = chained (g .map) (markedMap (g .shape) (g .hops) k);
+  reductions = suc (g .reductions);
+}
+
+-- "until no hop is marked", by at most n reductions
+unfoldable pub repeated : ℕ → ℕ → Stage → Stage
+repeated k zero g = g
+repeated k (suc n) g = cond (marksSome k g) (repeated k n (nextStage k g)) g
+
+-- the last stage that a stage leads to: each reduction that marks something leaves fewer states, so that as many as there are states are enough
+unfoldable pub lastOf : ℕ → Stage → Stage
+lastOf k g = repeated k (g .shape .states) g
+
+-- the last stage of a graph
+abbrev pub lastStage : ℕ → Shape → List ℕ → Stage
+lastStage k sh hs = lastOf k (firstStage sh hs)
+
+-- the hop x of a stage's graph is one that the hop h of the last graph comes from, through at most n reductions: at each it leaves a representative, and
+-- what it has become by all of them is like h
+unfoldable pub comesThrough : ℕ → ℕ → Stage → Hop → Hop → Bool
+comesThrough k zero g h x = same x h
+comesThrough k (suc n) g h x =
+    cond (marksSome k g) (resting (g .hops) (markedAt k g) (x .from) && comesThrough k n (nextStage k g) h (becomes (g .shape) (g .hops) (markedAt k g) x))
+    (same x h)
+
+-- what "until no hop is marked" means, with no bound: h is where the repetition from g ends
+pub data Ends (k : ℕ) : Stage → Stage → Type 0 where
+  still : {g : Stage} → ((s t : ℕ) → In (markedAt k g) s t → ⊥) → Ends k g g
+  again : {g h : Stage} (s t : ℕ) → In (markedAt k g) s t → Ends k (nextStage k g) h → Ends k g h

@@ -1,0 +1,80 @@
+-- One turn of the code that marked something: what stands in the lists afterwards is the next stage. Assumes nothing.
+use Prim.Native.Nat.{ℕ, _+_, _≤_}
+use mathlib.Core.Path.{_≡_, ap, _∙_}
+use mathlib.Core.Bool.{true}
+use mathlib.Core.List.{List}
+use native.Mathlib.Numerals.{add-one}
+use native.Mathlib.Omega.{arith}
+use lib.ListN.{length, take}
+use lib.Seq.{take-at}
+use Rattle.base_bounded.proofs.Tests.{length-listed}
+use Rattle.base_outputs.specs.Output.{onFront}
+use Rattle.graph.specs.Hops.{count, flat, between}
+use Rattle.graph.proofs.Fronts.{flat-front, between-count}
+use Rattle.graph.proofs.Places.{length-flat}
+use Rattle.base_fixpoint.specs.Pairs.{Pairs, In, Within}
+use Rattle.mark_confluence.specs.Rounds.{silentHops}
+use Rattle.mark_confluence.specs.Held.{marksOf, heldBy}
+use Rattle.mark_senses.specs.Senses.{senseOf, markedBy}
+use Rattle.mark_senses.proofs.Marked.{in-silent}
+use Rattle.reduce_short_graph.specs.Short.{mapList}
+use Rattle.reduce_by_marks.specs.Reducing.{shortGraph, mapLeft, shortLeft}
+use Rattle.reduce_by_marks.specs.declared.ShortGraph.{ShortGraph}
+use Rattle.reduce_entry.specs.Reduce.{markedTo, markedMap, markedHops, markedShape}
+use Rattle.reduce_entry.proofs.Marked.{marked-within, left-shape, left-hops, left-map, left-short}
+use Rattle.shrink_compose.specs.Chained.{chained}
+use Rattle.shrink_iterate.specs.Repeating.{Stage, nextStage}
+use Rattle.shrink_step.specs.Reached.{stageOf}
+use Rattle.shrink_step.specs.declared.Reached.{Reached}
+
+-- where the code stands, the part of the hops that it has marked and reduced, and what that returned
+module _
+    (k : ℕ) (at : Reached) (hops map : List ℕ) {seen : List ℕ} (p : seen ≡ between hops 0 (at .hops)) (ms out : List ℕ)
+    (e : ms ≡ onFront (marksOf seen (markedBy k (at .shape) seen)) out) {made : ShortGraph} (made-is : made ≡ shortGraph (at .shape) seen (heldBy seen ms))
+  where
+    abbrev g : Stage
+    g = stageOf at hops map
+
+    abbrev u : Pairs
+    u = markedBy k (at .shape) seen
+
+    silent : Within (In u) (In (silentHops seen))
+    silent = in-silent (senseOf k) (at .shape) seen
+
+    shape-is : made .shape ≡ markedShape (g .shape) (g .hops) k
+    shape-is = rw p at (left-shape (at .shape) seen u ms out e silent made-is)
+
+    hops-are : made .hops ≡ length (markedHops (g .shape) (g .hops) k)
+    hops-are = rw p at (left-hops (at .shape) seen u ms out e silent made-is)
+
+    -- the short hops are no more than the hops
+    pub hops-within : made .hops ≤ count (g .hops)
+    hops-within = omega (arith, hops-are, marked-within (g .shape) (g .hops) k)
+
+    pub hops-fewer : at .hops ≤ count hops → made .hops ≤ at .hops
+    hops-fewer l = omega (arith, hops-within, between-count hops l)
+
+    module _ (old : List ℕ) {short : List ℕ} (s : short ≡ shortLeft (at .shape) seen ms old) where
+      short-hops : between short 0 (made .hops) ≡ flat (markedHops (g .shape) (g .hops) k)
+      short-hops =
+          ap (λ (x : List ℕ). between x 0 (made .hops)) (rw p at (left-short (at .shape) seen u ms out e silent old s)) ∙
+          flat-front (markedHops (g .shape) (g .hops) k) _ hops-are
+
+      -- they have room where the hops were
+      pub short-room : {part : List ℕ} → part ≡ between short 0 (made .hops) → at .hops ≤ count hops → length part ≤ length hops
+      short-room q l = omega (arith, ap length (q ∙ short-hops), length-flat (markedHops (g .shape) (g .hops) k), hops-are, hops-fewer l)
+
+      pub turned : (was : List ℕ) {next then part after : List ℕ} → next ≡ mapLeft (at .shape) seen ms was → part ≡ between short 0 (made .hops) →
+          after ≡ onFront part hops → then ≡ chained map (take (at .shape .states) next) →
+          stageOf (record { shape = made .shape; hops = made .hops; reductions = at .reductions + 1; more = true }) after then ≡ nextStage k g
+      unfolding mapList
+      turned was {then = then} {after = after} f q r t = λ d. record { shape = shape-is d; hops = last d; map = on d; reductions = add-one (at .reductions) d } where
+        last : between after 0 (made .hops) ≡ flat (markedHops (g .shape) (g .hops) k)
+        last =
+            ap (λ (x : List ℕ). between x 0 (made .hops)) (r ∙ ap (λ (x : List ℕ). onFront x hops) (q ∙ short-hops)) ∙
+            flat-front (markedHops (g .shape) (g .hops) k) _ hops-are
+
+        on : then ≡ chained map (markedMap (g .shape) (g .hops) k)
+        on =
+            t ∙ ap (chained map) (ap (take (at .shape .states)) (rw p at (left-map (at .shape) seen u ms out e silent was f)) ∙
+            take-at (markedMap (g .shape) (g .hops) k) _ (at .shape .states) (length-listed (markedTo (g .shape) (g .hops) k) (at .shape .states)))
