@@ -11,9 +11,9 @@ use Rattle.audit_faults.specs.Faults.{kept, lostFaults, offers, backed, matched
 use Rattle.audit_faults.specs.First.{lostPlace, firstLost, madeUpPlace, madeUpState, firstMadeUp, firstFault}
 use Rattle.audit_admitted.specs.Fitting.{auditAnswer}
 use Rattle.audit_entry.specs.Auditing.{auditOf}
-use Rattle.unlined.specs.Unlined.{Unlined}
-use Rattle.unlined.proofs.Checks.{count-same, from-same, label-same, to-same, has-same, check-same}
-use Rattle.unlined.proofs.Walks.{leads-same}
+use Rattle.lines_ignored.specs.Unlined.{Unlined}
+use Rattle.lines_ignored.proofs.Checks.{count-same, from-same, label-same, to-same, has-same, check-same}
+use Rattle.lines_ignored.proofs.Walks.{leads-same}
 
 module _ {h1 h1' h2 h2' : List ℕ} (un1 : Unlined h1 h1') (un2 : Unlined h2 h2') (m : List ℕ) where
   -- the hops that are lost

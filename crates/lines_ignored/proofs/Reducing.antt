@@ -13,11 +13,11 @@ use Rattle.base_fixpoint.specs.Pairs.{Pairs}
 use Rattle.reduce_representatives.specs.Representative.{markedFrom, resting, onward, followed, repOf, newOf, mapOf}
 use Rattle.reduce_short_graph.specs.Short.{image, gathered, shortHops, shortShape, mapList}
 use Rattle.reduce_entry.specs.Reduce.{markedMap, markedHops, markedShape, reduceAnswer, reduceOf, mapOutput}
-use Rattle.unlined.specs.Unlined.{Unlined}
-use Rattle.unlined.proofs.Checks.{count-same, from-same, label-same, to-same, check-same}
-use Rattle.unlined.proofs.Walks.{ringless-same}
-use Rattle.unlined.proofs.Marking.{marked-same}
-use Rattle.unlined.proofs.Paired.{Paired, paired-length, paired-flat, paired-collected}
+use Rattle.lines_ignored.specs.Unlined.{Unlined}
+use Rattle.lines_ignored.proofs.Checks.{count-same, from-same, label-same, to-same, check-same}
+use Rattle.lines_ignored.proofs.Walks.{ringless-same}
+use Rattle.lines_ignored.proofs.Marking.{marked-same}
+use Rattle.lines_ignored.proofs.Paired.{Paired, paired-length, paired-flat, paired-collected}
 
 -- the representatives along one set of hops, and their new numbers
 module _ {hs hs' : List ℕ} (un : Unlined hs hs') {u u' : Pairs} (e : u ≡ u') where

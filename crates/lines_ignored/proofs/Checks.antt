@@ -10,7 +10,7 @@ use Rattle.graph.specs.Hops.{numbers-a-hop, count, from, label, to, hopOf, same
 use Rattle.graph.specs.declared.Shape.{Shape}
 use Rattle.graph.proofs.Ordered.{before-alike}
 use Rattle.graph_check.specs.Check.{countsFit, inside, firstOutside, rises, firstFalling, checkOf}
-use Rattle.unlined.specs.Unlined.{Unlined}
+use Rattle.lines_ignored.specs.Unlined.{Unlined}
 
 module _ {hs hs' : List ℕ} (un : Unlined hs hs') where
   pub count-same : count hs ≡ count hs'

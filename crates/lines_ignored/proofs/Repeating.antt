@@ -14,10 +14,10 @@ use Rattle.reduce_entry.specs.Reduce.{markedMap, markedShape, markedHops}
 use Rattle.shrink_compose.specs.Chained.{chained}
 use Rattle.shrink_iterate.specs.Repeating.{Stage, firstStage, nextStage, someMarked, marksSome, repeated, lastOf, lastStage}
 use Rattle.shrink_entry.specs.Shrink.{shrinkOf, lastMap}
-use Rattle.unlined.specs.Unlined.{Unlined}
-use Rattle.unlined.proofs.Checks.{count-same, from-same, label-same, to-same}
-use Rattle.unlined.proofs.Marking.{marked-same}
-use Rattle.unlined.proofs.Reducing.{marked-map-same, marked-shape-same, marked-hops-unlined, answer-same}
+use Rattle.lines_ignored.specs.Unlined.{Unlined}
+use Rattle.lines_ignored.proofs.Checks.{count-same, from-same, label-same, to-same}
+use Rattle.lines_ignored.proofs.Marking.{marked-same}
+use Rattle.lines_ignored.proofs.Reducing.{marked-map-same, marked-shape-same, marked-hops-unlined, answer-same}
 
 some-same : {hs hs' : List ℕ} → Unlined hs hs' → (k : ℕ) (sh : Shape) → someMarked k sh hs ≡ someMarked k sh hs'
 unfolding someMarked setAt

@@ -14,9 +14,9 @@ use Rattle.mark_confluence.specs.Rounds.{Trials, closing, answer, hopAnswers, a
 use Rattle.mark_confluence.specs.Held.{markOf, marksOf}
 use Rattle.mark_senses.specs.Senses.{setAt, comes, takes, meets, takesTo, answersFrom, answeredIn, closesIn, markedIn, markedBy, senseOf}
 use Rattle.mark_entry.specs.Mark.{marksMade, markAnswer, markOutput}
-use Rattle.unlined.specs.Unlined.{Unlined}
-use Rattle.unlined.proofs.Checks.{count-same, from-same, label-same, to-same, labelled-same, has-same, check-same}
-use Rattle.unlined.proofs.Walks.{leads-by-same, ringless-same}
+use Rattle.lines_ignored.specs.Unlined.{Unlined}
+use Rattle.lines_ignored.proofs.Checks.{count-same, from-same, label-same, to-same, labelled-same, has-same, check-same}
+use Rattle.lines_ignored.proofs.Walks.{leads-by-same, ringless-same}
 
 module _ {hs hs' : List ℕ} (un : Unlined hs hs') where
   pub answers-same : (z : Pairs) → answers hs z ≡ answers hs' z

@@ -8,8 +8,8 @@ use Rattle.base_bounded.specs.Tests.{any, least}
 use Rattle.graph.specs.declared.Shape.{Shape}
 use Rattle.walk_reach.specs.Reaching.{leadsBy}
 use Rattle.walk_silent.specs.Silent.{leads, onRing, lowestOnRing, ringless}
-use Rattle.unlined.specs.Unlined.{Unlined}
-use Rattle.unlined.proofs.Checks.{count-same, from-same, label-same, to-same, labelled-same}
+use Rattle.lines_ignored.specs.Unlined.{Unlined}
+use Rattle.lines_ignored.proofs.Checks.{count-same, from-same, label-same, to-same, labelled-same}
 
 module _ {hs hs' : List ℕ} (un : Unlined hs hs') where
   pub leads-by-same : {c c' : ℕ → Bool} → c ≡ c' → (k s t : ℕ) → leadsBy hs c k s t ≡ leadsBy hs' c' k s t

@@ -12,7 +12,7 @@ use Rattle.graph.proofs.Places.{length-flat, flat-at}
 use Rattle.graph.proofs.Ordered.{alike-itself, before-alike}
 use Rattle.reduce_smallest_line.specs.Lines.{joined}
 use Rattle.reduce_insertion.specs.Insertion.{insert, collected}
-use Rattle.unlined.specs.Unlined.{Unlined}
+use Rattle.lines_ignored.specs.Unlined.{Unlined}
 
 unfoldable pub Paired : List Hop → List Hop → Type 0
 Paired [] [] = Unit {0}

@@ -14,9 +14,9 @@ use Rattle.base_fixpoint.specs.Pairs.{Pairs}
 use Rattle.mark_worklist.specs.Due.{fell, standing, reached, shaken, due, testsIn, testsUpTo, testsOf}
 use Rattle.mark_entry_fast.specs.Fast.{countedOf}
 use Rattle.mark_entry_round.specs.Question.{silentPlace, questionAnswer, questionOf}
-use Rattle.unlined.specs.Unlined.{Unlined}
-use Rattle.unlined.proofs.Checks.{count-same, from-same, label-same, to-same, has-same, check-same}
-use Rattle.unlined.proofs.Marking.{answers-same, survives-same, mark-answer-same}
+use Rattle.lines_ignored.specs.Unlined.{Unlined}
+use Rattle.lines_ignored.proofs.Checks.{count-same, from-same, label-same, to-same, has-same, check-same}
+use Rattle.lines_ignored.proofs.Marking.{answers-same, survives-same, mark-answer-same}
 
 module _ {hs hs' : List ℕ} (un : Unlined hs hs') where
   -- where a hop would stand
