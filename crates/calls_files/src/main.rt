@@ -1,9 +1,10 @@
 // A program for tests: the two round trips of a file, `copy_file` and `graph_back`, over P1, names, lines and bad input. What they answer is printed and held
-// to the file stdout. An element of an output that was not written is 7. Stands on file (the entries) and show (how it is printed).
-use file::round_trip::copy_file;
-use file::round_trip::graph_back;
+// to the file stdout. An element of an output that was not written is 7. Stands on file_round_trip (the entries) and show (how it is printed).
+use file_read::Contents;
+use file_round_trip::round_trip::copy_file;
+use file_round_trip::round_trip::graph_back;
+use file_write::Written;
 use graph::Shape;
-use reader::Contents;
 use show::answer;
 use show::bytes;
 use show::number;
@@ -11,7 +12,6 @@ use show::numbers;
 use show::shape;
 use show::shape_of;
 use show::text;
-use writer::Written;
 
 fn print_written(w: Written) {
     let a = w.answer;

@@ -3,8 +3,8 @@ use tells_files::tell_read;
 use tells_files::tell_write;
 ghost use mathlib.Core.Path.{_≡_};
 ghost use lib.ListN.{length};
-ghost use Rattle.reader.specs.Read.{readAnswer, readOf, readHops};
-ghost use Rattle.writer.specs.Write.{writeAnswer, writeOf, writeBytes};
+ghost use Rattle.file_read.specs.Read.{readAnswer, readOf, readHops};
+ghost use Rattle.file_write.specs.Write.{writeAnswer, writeOf, writeBytes};
 ghost use Rattle.answers.specs.Numbers.{shapeOf, returned, told, unlessShort};
 ghost use Rattle.tells_files.specs.Numbers.{contentsNumbers, writtenNumbers};
 

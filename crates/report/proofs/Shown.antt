@@ -32,11 +32,11 @@ use Rattle.reduce_short_graph.proofs.Images.{short-within}
 use Rattle.reduce_by_marks.specs.Reducing.{shortGraph, mapLeft, shortLeft}
 use Rattle.reduce_by_marks.specs.declared.ShortGraph.{ShortGraph}
 use Rattle.reduce_entry.proofs.Marked.{left-map, left-short, left-shape, left-hops}
-use Rattle.fields.specs.Format.{hopsIn, shapeIn, hopListIn}
-use Rattle.fields.proofs.Laws.{length-hop-list, count-hop-list}
-use Rattle.format.specs.Rows.{formatAnswer}
-use Rattle.reader.specs.Read.{readAnswer, readOf, readHops, contentsOf, nothing}
-use Rattle.reader.specs.declared.Contents.{Contents}
+use Rattle.file_fields.specs.Format.{hopsIn, shapeIn, hopListIn}
+use Rattle.file_fields.proofs.Laws.{length-hop-list, count-hop-list}
+use Rattle.file_format.specs.Rows.{formatAnswer}
+use Rattle.file_read.specs.Read.{readAnswer, readOf, readHops, contentsOf, nothing}
+use Rattle.file_read.specs.declared.Contents.{Contents}
 use Rattle.text.specs.Text.{Room, Put}
 use Rattle.rows.specs.Rows.{linesOf, refusalOf}
 use Rattle.rows.proofs.Parts.{report-same}

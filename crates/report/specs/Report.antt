@@ -14,8 +14,8 @@ use Rattle.mark_confluence.specs.Rounds.{marked}
 use Rattle.mark_confluence.specs.Held.{markOf}
 use Rattle.reduce_representatives.specs.Representative.{mapOf}
 use Rattle.reduce_short_graph.specs.Short.{shortHops, shortShape}
-use Rattle.fields.specs.Format.{shapeIn, hopListIn}
-use Rattle.format.specs.Rows.{formatAnswer}
+use Rattle.file_fields.specs.Format.{shapeIn, hopListIn}
+use Rattle.file_format.specs.Rows.{formatAnswer}
 use Rattle.rows.specs.Rows.{linesOf, refusalOf}
 
 -- the report of an accepted graph: its marks, its map and its short graph ("the program keeps 1", whose marked set is document 01's)

@@ -1,4 +1,5 @@
 // What the program prints of a file.
+use file_read::reading::read;
 use graph::MOST_HOPS;
 use graph::MOST_NUMBERS;
 use graph::MOST_STATES;
@@ -8,7 +9,6 @@ use graph::hops::part;
 use graph_successors::STARTS;
 use graph_successors::starts_of;
 use mark_worklist_loop::mark_rounds;
-use reader::reading::read;
 use reduce_by_marks::reduce_marked;
 use rows::put_refusal;
 use rows::put_report;

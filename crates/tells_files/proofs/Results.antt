@@ -5,12 +5,12 @@ use mathlib.Core.List.{List}
 use borrow.Author.Tests.{eqb-true}
 use lib.Dec.{eqb}
 use Rattle.graph.specs.declared.Shape.{Shape}
-use Rattle.reader.specs.declared.Contents.{Contents}
-use Rattle.writer.specs.declared.Written.{Written}
-use Rattle.reader.specs.Read.{readAnswer, readOf}
-use Rattle.writer.specs.Write.{writeAnswer, writeOf}
-use Rattle.reader.proofs.Entry.{read-accepts}
-use Rattle.writer.proofs.Given.{write-accepts}
+use Rattle.file_read.specs.declared.Contents.{Contents}
+use Rattle.file_write.specs.declared.Written.{Written}
+use Rattle.file_read.specs.Read.{readAnswer, readOf}
+use Rattle.file_write.specs.Write.{writeAnswer, writeOf}
+use Rattle.file_read.proofs.Entry.{read-accepts}
+use Rattle.file_write.proofs.Given.{write-accepts}
 use Rattle.answers.proofs.Answers.{either-answer}
 
 pub found-answer : (b : List ℕ) (room : ℕ) → readOf b room .answer ≡ readAnswer b room

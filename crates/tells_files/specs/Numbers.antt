@@ -1,8 +1,8 @@
 -- The figures of read and write, as their entries for C and Rust tell them. Assumes nothing: these are definitions.
 use Prim.Native.Nat.{ℕ}
 use mathlib.Core.List.{List, [], _∷_}
-use Rattle.reader.specs.declared.Contents.{Contents}
-use Rattle.writer.specs.declared.Written.{Written}
+use Rattle.file_read.specs.declared.Contents.{Contents}
+use Rattle.file_write.specs.declared.Written.{Written}
 use Rattle.answers.specs.Numbers.{numbersOf}
 
 -- "9: + states, labels, initial, hops, name block's place and length"

@@ -1,19 +1,19 @@
 // Read and write, as the entries for C and Rust tell them: capi exports these functions unchanged. Each finds the entry's answer and tells it, and leaves
 // the other lent slice alone where the answer slice is too short.
-// Stands on reader (read), writer (write) and answers (what is told and returned).
+// Stands on file_read (read), file_write (write) and answers (what is told and returned).
 use answers::short_number;
 use answers::tell;
 use answers::tell_figure;
+use file_read::Contents;
+use file_read::reading::read;
+use file_read::reading::read_answer;
+use file_write::writing::write;
+use file_write::writing::write_answer;
 use graph::Shape;
-use reader::Contents;
-use reader::reading::read;
-use reader::reading::read_answer;
-use writer::writing::write;
-use writer::writing::write_answer;
 ghost use mathlib.Core.Path.{_≡_};
 ghost use lib.ListN.{length};
-ghost use Rattle.reader.specs.Read.{readAnswer, readOf, readHops};
-ghost use Rattle.writer.specs.Write.{writeAnswer, writeOf, writeBytes};
+ghost use Rattle.file_read.specs.Read.{readAnswer, readOf, readHops};
+ghost use Rattle.file_write.specs.Write.{writeAnswer, writeOf, writeBytes};
 ghost use Rattle.answers.specs.Numbers.{shapeOf, returned, told, unlessShort};
 ghost use Rattle.tells_files.specs.Numbers.{contentsNumbers, writtenNumbers};
 

@@ -1,7 +1,7 @@
 -- `tells_files::tell_read` meets its contract: where the answer slice is too short, only the answer is found. Assumes nothing.
 use borrow.Author.Needs.{needs}
 use mathlib.Core.Path.{ap, _∙_}
-use Rattle.reader.specs.declared.Contents.{Contents}
+use Rattle.file_read.specs.declared.Contents.{Contents}
 use Rattle.tells_files.specs.Numbers.{contentsNumbers}
 use Rattle.answers.proofs.Answers.{returned-of}
 use Rattle.answers.proofs.Told.{told-of, short-told, short-kept, left-long}

@@ -1,10 +1,10 @@
 -- `tells_files::tell_write` meets its contract: where the answer slice is too short, only the answer is found. Assumes nothing.
 use borrow.Author.Needs.{needs}
 use mathlib.Core.Path.{ap, _∙_}
-use Rattle.writer.specs.declared.Written.{Written}
+use Rattle.file_write.specs.declared.Written.{Written}
 use Rattle.tells_files.specs.Numbers.{writtenNumbers}
 use lib.ListN.{length}
-use Rattle.writer.specs.Write.{writeAnswer, writeOf, writeBytes}
+use Rattle.file_write.specs.Write.{writeAnswer, writeOf, writeBytes}
 use Rattle.answers.specs.Numbers.{shapeOf}
 use Rattle.answers.proofs.Answers.{returned-of}
 use Rattle.answers.proofs.Told.{told-of, short-told, short-kept, left-long}

@@ -1,0 +1,45 @@
+-- The two round trips of document 01. Assumes nothing: these are definitions.
+use Prim.Native.Nat.{ℕ, _+_, _-_}
+use mathlib.Core.Bool.{cond}
+use mathlib.Core.List.{List}
+use lib.ListN.{length}
+use lib.Dec.{eqb}
+use Rattle.graph.specs.Hops.{count}
+use Rattle.graph.specs.Answers.{most-numbers, accepted, andThen, roomFor}
+use Rattle.graph.specs.declared.Shape.{Shape}
+use Rattle.graph.specs.declared.Answer.{Answer}
+use Rattle.base_outputs.specs.Output.{written}
+use Rattle.file_read.specs.Read.{readAnswer, nothing}
+use Rattle.file_read.specs.declared.Contents.{Contents}
+use Rattle.file_encode.specs.Encode.{linesBytes, encode}
+use Rattle.file_write.specs.Write.{givenAnswer, nothingWritten}
+use Rattle.file_write.specs.declared.Written.{Written}
+
+-- "A file read and written again has the same bytes": it is read into room for the hops of every graph
+unfoldable pub copyAnswer : List ℕ → ℕ → Answer
+copyAnswer b room = andThen (readAnswer b most-numbers) (roomFor (length b) room)
+
+unfoldable pub copyOf : List ℕ → ℕ → Written
+copyOf b room = cond (eqb (copyAnswer b room .number) 0) (record { answer = accepted; length = length b }) (nothingWritten (copyAnswer b room))
+
+unfoldable pub copyBytes : List ℕ → List ℕ → List ℕ
+copyBytes b old = written (copyAnswer b (length old) .number) b old
+
+-- "a graph written and read again is the same graph with the same block": the same lines too; the block stands before the lines
+unfoldable pub blockStart : Shape → List ℕ → List ℕ → ℕ
+blockStart sh hs ns = cond (eqb (length ns) 0) 0 (length (encode sh hs ns) - (length ns + length (linesBytes hs)))
+
+abbrev pub sameGraph : Shape → List ℕ → List ℕ → Contents
+sameGraph sh hs ns = record { answer = accepted; shape = sh; hops = count hs; «names_place» = blockStart sh hs ns; «names_len» = length ns }
+
+unfoldable pub backAnswer : Shape → List ℕ → List ℕ → ℕ → ℕ → Answer
+backAnswer sh hs ns room hopRoom = andThen (givenAnswer sh hs ns) (andThen (roomFor (length hs) hopRoom) (roomFor (length (encode sh hs ns)) room))
+
+unfoldable pub backOf : Shape → List ℕ → List ℕ → ℕ → ℕ → Contents
+backOf sh hs ns room hopRoom = cond (eqb (backAnswer sh hs ns room hopRoom .number) 0) (sameGraph sh hs ns) (nothing (backAnswer sh hs ns room hopRoom))
+
+unfoldable pub backBytes : Shape → List ℕ → List ℕ → List ℕ → ℕ → List ℕ
+backBytes sh hs ns old hopRoom = written (backAnswer sh hs ns (length old) hopRoom .number) (encode sh hs ns) old
+
+unfoldable pub backHops : Shape → List ℕ → List ℕ → ℕ → List ℕ → List ℕ
+backHops sh hs ns room old = written (backAnswer sh hs ns room (length old) .number) hs old
