@@ -27,7 +27,7 @@ none "hops made elsewhere than in graph" "$(grep -nE '(^|[^A-Za-z])Hop \{' crate
 
 # a hop's line is looked at where hops become one, where they are read, written and printed, and nowhere else: not where they are marked or audited
 none "a hop's line looked at elsewhere" "$(grep -nE '(^|[^A-Za-z_])(lineAt|line_at|linedHop|lined_hop)([^A-Za-z_]|$)|\.line($|[^A-Za-z_])' crates/*/src/*.rt crates/*/specs/*.antt |
-    grep -vE '^crates/(graph|reduce_smallest_line|reduce_sorted_images|reduce_short_graph|file_lines|file_hops|rows|mark_entry_records|calls_[a-z]+|worked_(lines|repeats))/' | grep -vE ':[0-9]+: *(//|--)' || true)"
+    grep -vE '^crates/(graph|reduce_smallest_line|reduce_sorted_images|reduce_short_graph|file_lines|file_hops|report_rows|mark_entry_records|calls_[a-z]+|worked_(lines|repeats))/' | grep -vE ':[0-9]+: *(//|--)' || true)"
 
 # two hops are compared by their sums, in graph::order: nowhere is a number of one hop held against a number of another
 none "hops compared by their numbers" "$(grep -nE '\.(from|label|to)\>[^;⌜]*([<>]|[=!]=)[^;⌜]*\.(from|label|to)\>' crates/*/src/*.rt | grep -vE ':[0-9]+: *//' || true)"

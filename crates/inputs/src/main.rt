@@ -1,8 +1,8 @@
 // Several files through the library in one program: what is printed of each, behind its name. The whole program is run over more files by
 // tests/program.sh.
 use libc::STDOUT_FILENO;
-use report::print::MOST_TEXT;
-use report::print::print_file;
+use report_entry::print::MOST_TEXT;
+use report_entry::print::print_file;
 
 fn show(name: &[u8], file: &[u8]) {
     io::write_all(STDOUT_FILENO, name);

@@ -4,9 +4,9 @@
 use libc::STDERR_FILENO;
 use libc::STDIN_FILENO;
 use libc::STDOUT_FILENO;
-use report::print::MOST_INPUT;
-use report::print::MOST_TEXT;
-use report::print::print_file;
+use report_entry::print::MOST_INPUT;
+use report_entry::print::MOST_TEXT;
+use report_entry::print::print_file;
 ghost use Rattle.io.specs.Counts.{Counts};
 
 // What came of reading: how many bytes were taken, and whether a read failed before the end of the input was seen.

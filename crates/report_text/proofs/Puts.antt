@@ -1,0 +1,115 @@
+-- Texts put one behind the other are the joined text, and what room is left. Lines one behind the other, as a loop puts them. Assumes nothing.
+use Prim.Native.Nat.{ℕ, zero, suc, _+_, _-_, _/_, _%_, _<_, _≤_}
+use mathlib.Core.Path.{_≡_, refl, sym, ap, _∙_}
+use mathlib.Core.List.{List, [], _∷_, _++_, append-assoc, append-nil}
+use mathlib.Core.Logic.{⊎-elim}
+use native.Mathlib.Nat.{eq-or-lt-of-le, le-refl}
+use native.Mathlib.Numerals.{add-one}
+use native.Mathlib.Omega.{arith}
+use borrow.Author.Tests.{lt-ltb, le-ltb}
+use lib.ListN.{length, getD, set, length-append, length-drop}
+use lib.Seq.{set-split, length-take-le}
+use Rattle.base_outputs.specs.Output.{overAt}
+use Rattle.base_outputs.proofs.Front.{over-none, over-then}
+use Rattle.report_text.specs.Text.{digits, decimal, spaced, numbered, line, lines, Room, Put}
+
+length-over : (at : ℕ) (text old : List ℕ) → at + length text ≤ length old → length (overAt at text old) ≡ length old
+length-over at text old l = rw (length-append, length-append, length-drop, length-take-le at old (omega arith)) (omega arith)
+
+pub put-none : (old : List ℕ) (at : ℕ) → Put old at [] at old
+put-none old at = record { follows = omega arith; stands = over-none at old }
+
+-- one byte
+pub put-one : (old : List ℕ) (at b : ℕ) → Room at (b ∷ []) old → Put old at (b ∷ []) (at + 1) (set old at b)
+put-one old at b room = record { follows = refl; stands = rw (add-one at) (set-split old at b (omega arith)) }
+
+-- the same text
+module _ {a b : List ℕ} (e : a ≡ b) {old : List ℕ} {at : ℕ} where
+  pub room-same : Room at a old → Room at b old
+  room-same room = rw e at room
+
+  pub put-same : {new : List ℕ} {r : ℕ} → Put old at a r new → Put old at b r new
+  put-same p = rw e at p
+
+-- a text behind another
+module _ (a b : List ℕ) {old : List ℕ} {at : ℕ} (room : Room at (a ++ b) old) where
+  pub room-first : Room at a old
+  room-first = record { fits = omega (arith, length-append a b) }
+
+  module _ {mid : List ℕ} {k : ℕ} (p : Put old at a k mid) where
+    pub room-rest : Room k b mid
+    room-rest =
+        record { fits = omega (arith, length-append a b, ap length (p .stands) ∙ length-over at a old (room-first .fits)) }
+
+    pub put-then : {new : List ℕ} {r : ℕ} → Put mid k b r new → Put old at (a ++ b) r new
+    put-then {r = r} q = record {
+      follows = omega (arith, length-append a b);
+      stands = q .stands ∙ ap (overAt k b) (p .stands) ∙ over-then at a b old (p .follows) (omega (arith, room-first .fits));
+    }
+
+-- the digits of a number
+pub digits-none : (k n : ℕ) → k ≡ 0 → digits k n ≡ []
+unfolding digits
+digits-none k n z = rw z
+
+pub digits-one : (k n : ℕ) → (k ≡ 0 → ⊥) → n < 10 → digits k n ≡ (48 + n) ∷ []
+unfolding digits
+digits-one zero n z l = absurd (z refl)
+digits-one (suc k) n z l = rw (lt-ltb n 10 l)
+
+pub digits-more : (k n : ℕ) → (k ≡ 0 → ⊥) → 10 ≤ n → digits k n ≡ digits (k - 1) (n / 10) ++ ((48 + n % 10) ∷ [])
+unfolding digits
+digits-more zero n z l = absurd (z refl)
+digits-more (suc k) n z l = let q : suc k - 1 ≡ k = omega arith in rw (le-ltb n 10 l, q)
+
+-- the parts of a line, in the order in which they are put
+pub spaced-parts : (n : ℕ) → spaced n ≡ (32 ∷ []) ++ digits 20 n
+unfolding spaced decimal
+spaced-parts n = refl
+
+pub line-parts : (word ns : List ℕ) → line word ns ≡ word ++ (numbered ns ++ (10 ∷ []))
+unfolding line
+line-parts word ns = refl
+
+-- the numbers of a line are put as lines are: one behind the other
+abbrev pub spacedAt : List ℕ → ℕ → List ℕ
+spacedAt ns i = spaced (getD ns i 0)
+
+lines-first : (f : ℕ → List ℕ) (n : ℕ) → lines (suc n) f ≡ f 0 ++ lines n (λ (i : ℕ). f (suc i))
+unfolding lines
+lines-first f zero = sym (append-nil (f 0))
+lines-first f (suc n) = ap (λ (xs : List ℕ). xs ++ f (suc n)) (lines-first f n) ∙ append-assoc (f 0) (lines n (λ (i : ℕ). f (suc i))) (f (suc n))
+
+pub numbered-lines : (ns : List ℕ) → numbered ns ≡ lines (length ns) (spacedAt ns)
+unfolding numbered lines
+numbered-lines [] = refl
+numbered-lines (n ∷ ns) = ap (λ (xs : List ℕ). spaced n ++ xs) (numbered-lines ns) ∙ sym (lines-first (spacedAt (n ∷ ns)) (length ns))
+
+-- lines, the first i of n being put
+module _ (f : ℕ → List ℕ) where
+  lines-within : (n : ℕ) {i : ℕ} → i ≤ n → length (lines i f) ≤ length (lines n f)
+  unfolding lines
+  lines-within zero {i} l = let q : i ≡ 0 = omega arith in rw q (le-refl 0)
+  lines-within (suc n) {i} l =
+      ⊎-elim (λ q. rw q (le-refl (length (lines n f ++ f n))))
+      (λ m. let h : length (lines i f) ≤ length (lines n f) = lines-within n {i = i} (omega arith) in omega (arith, length-append (lines n f) (f n))) (eq-or-lt-of-le l)
+
+  module _ {old : List ℕ} {at : ℕ} where
+    pub lines-none : Put old at (lines 0 f) at old
+    unfolding lines
+    lines-none = put-none old at
+
+    module _ (n : ℕ) {i : ℕ} (room : Room at (lines n f) old) (l : i < n) {mid : List ℕ} {k : ℕ} (p : Put old at (lines i f) k mid) where
+      next-room : Room at (lines i f ++ f i) old
+      unfolding lines
+      next-room = let h : length (lines (suc i) f) ≤ length (lines n f) = lines-within n l in record { fits = omega arith }
+
+      pub lines-room : Room k (f i) mid
+      lines-room = room-rest (lines i f) (f i) next-room p
+
+      pub lines-more : {new : List ℕ} {r : ℕ} → Put mid k (f i) r new → Put old at (lines (i + 1) f) r new
+      unfolding lines
+      lines-more q = rw (add-one i) (put-then (lines i f) (f i) next-room p q)
+
+    pub lines-done : {n i : ℕ} → i ≤ n → n ≤ i → {mid : List ℕ} {k : ℕ} → Put old at (lines i f) k mid → Put old at (lines n f) k mid
+    lines-done {n} {i} l m p = let q : n ≡ i = omega arith in rw q p
