@@ -1,12 +1,12 @@
 // Read and write.
-use tells_files::tell_read;
-use tells_files::tell_write;
+use c_file::tell_read;
+use c_file::tell_write;
 ghost use mathlib.Core.Path.{_≡_};
 ghost use lib.ListN.{length};
 ghost use Rattle.file_read.specs.Read.{readAnswer, readOf, readHops};
 ghost use Rattle.file_write.specs.Write.{writeAnswer, writeOf, writeBytes};
-ghost use Rattle.answers.specs.Numbers.{shapeOf, returned, told, unlessShort};
-ghost use Rattle.tells_files.specs.Numbers.{contentsNumbers, writtenNumbers};
+ghost use Rattle.c_answer.specs.Numbers.{shapeOf, returned, told, unlessShort};
+ghost use Rattle.c_file.specs.Numbers.{contentsNumbers, writtenNumbers};
 
 #[no_mangle]
 pub extern "C" fn zf_read(file: &[u8], hops: &mut [u16], answer: &mut [u64]) -> u32

@@ -1,11 +1,11 @@
 // Find.
-use tells_finding::tell_find;
+use c_find::tell_find;
 ghost use mathlib.Core.Path.{_≡_};
 ghost use lib.ListN.{length};
 ghost use Rattle.graph_check.specs.Check.{checkOf};
 ghost use Rattle.graph_find.specs.Finding.{findOf};
-ghost use Rattle.answers.specs.Numbers.{shapeOf, returned, told};
-ghost use Rattle.tells_finding.specs.Numbers.{findingNumbers};
+ghost use Rattle.c_answer.specs.Numbers.{shapeOf, returned, told};
+ghost use Rattle.c_find.specs.Numbers.{findingNumbers};
 
 #[no_mangle]
 pub extern "C" fn zf_find(

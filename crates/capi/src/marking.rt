@@ -1,17 +1,17 @@
 // Check, both markings and the round question.
-use tells_marking::tell_check;
-use tells_marking::tell_mark;
-use tells_marking::tell_mark_fast;
-use tells_marking::tell_round;
+use c_mark::tell_check;
+use c_mark::tell_mark;
+use c_mark::tell_mark_fast;
+use c_mark::tell_round;
 ghost use mathlib.Core.Path.{_≡_};
 ghost use mathlib.Core.List.{[]};
 ghost use lib.ListN.{length};
 ghost use Rattle.graph_check.specs.Check.{checkOf};
 ghost use Rattle.mark_entry.specs.Mark.{markAnswer, markOutput};
 ghost use Rattle.mark_entry_round.specs.Question.{questionAnswer, questionOf};
-ghost use Rattle.answers.specs.Numbers.{shapeOf, numbersOf, returned, told, unlessShort};
+ghost use Rattle.c_answer.specs.Numbers.{shapeOf, numbersOf, returned, told, unlessShort};
 ghost use Rattle.mark_entry_fast.specs.Fast.{countedOf};
-ghost use Rattle.tells_marking.specs.Numbers.{roundNumbers, countedNumbers};
+ghost use Rattle.c_mark.specs.Numbers.{roundNumbers, countedNumbers};
 
 #[no_mangle]
 pub extern "C" fn zf_check(

@@ -1,17 +1,17 @@
 // Reduce, shrink and audit.
-use tells_auditing::tell_audit;
-use tells_reducing::tell_reduce;
-use tells_shrinking::tell_shrink;
+use c_audit::tell_audit;
+use c_reduce::tell_reduce;
+use c_shrink::tell_shrink;
 ghost use mathlib.Core.Path.{_≡_};
 ghost use lib.ListN.{length};
 ghost use Rattle.reduce_entry.specs.Reduce.{reduceAnswer, reduceOf, mapOutput, shortOutput};
 ghost use Rattle.shrink_entry.specs.Shrink.{shrinkOf, lastMap, lastHops};
 ghost use Rattle.audit_admitted.specs.Fitting.{auditAnswer};
 ghost use Rattle.audit_entry.specs.Auditing.{auditOf};
-ghost use Rattle.answers.specs.Numbers.{shapeOf, returned, told, unlessShort};
-ghost use Rattle.tells_reducing.specs.Numbers.{reductionNumbers};
-ghost use Rattle.tells_shrinking.specs.Numbers.{shrinkingNumbers};
-ghost use Rattle.tells_auditing.specs.Numbers.{auditNumbers};
+ghost use Rattle.c_answer.specs.Numbers.{shapeOf, returned, told, unlessShort};
+ghost use Rattle.c_reduce.specs.Numbers.{reductionNumbers};
+ghost use Rattle.c_shrink.specs.Numbers.{shrinkingNumbers};
+ghost use Rattle.c_audit.specs.Numbers.{auditNumbers};
 
 #[no_mangle]
 pub extern "C" fn zf_reduce(

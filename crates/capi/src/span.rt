@@ -1,11 +1,11 @@
 // Hops of a state, by start and length.
-use tells_span::tell_hops_of;
+use c_hops_of::tell_hops_of;
 ghost use mathlib.Core.Path.{_≡_};
 ghost use lib.ListN.{length};
 ghost use Rattle.graph.specs.Answers.{accepted};
 ghost use Rattle.graph_hops_of.specs.Outgoing.{chosen, spanOf};
-ghost use Rattle.answers.specs.Numbers.{shapeOf, returned, told};
-ghost use Rattle.tells_span.specs.Numbers.{spanNumbers};
+ghost use Rattle.c_answer.specs.Numbers.{shapeOf, returned, told};
+ghost use Rattle.c_hops_of.specs.Numbers.{spanNumbers};
 
 #[no_mangle]
 pub extern "C" fn zf_hops_of(

@@ -1,4 +1,4 @@
--- `capi::files::zf_write` meets its contract, which is that of `tells_files::tell_write`. Assumes nothing.
+-- `capi::files::zf_write` meets its contract, which is that of `c_file::tell_write`. Assumes nothing.
 use borrow.Author.Needs.{needs}
 use Rattle.capi.proofs.files.zf_write.Statement.{statement}
 use Rattle.capi.proofs.files.zf_write.Tie as tie

@@ -1,4 +1,4 @@
--- `capi::find::zf_find` meets its contract, which is that of `tells_finding::tell_find`. Assumes nothing.
+-- `capi::find::zf_find` meets its contract, which is that of `c_find::tell_find`. Assumes nothing.
 use borrow.Author.Needs.{needs}
 use Rattle.capi.proofs.find.zf_find.Statement.{statement}
 use Rattle.capi.proofs.find.zf_find.Tie as tie

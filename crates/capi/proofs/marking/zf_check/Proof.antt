@@ -1,4 +1,4 @@
--- `capi::marking::zf_check` meets its contract, which is that of `tells_marking::tell_check`. Assumes nothing.
+-- `capi::marking::zf_check` meets its contract, which is that of `c_mark::tell_check`. Assumes nothing.
 use borrow.Author.Needs.{needs}
 use Rattle.capi.proofs.marking.zf_check.Statement.{statement}
 use Rattle.capi.proofs.marking.zf_check.Tie as tie

@@ -1,4 +1,4 @@
--- `capi::marking::zf_mark` meets its contract, which is that of `tells_marking::tell_mark`. Assumes nothing.
+-- `capi::marking::zf_mark` meets its contract, which is that of `c_mark::tell_mark`. Assumes nothing.
 use borrow.Author.Needs.{needs}
 use Rattle.capi.proofs.marking.zf_mark.Statement.{statement}
 use Rattle.capi.proofs.marking.zf_mark.Tie as tie

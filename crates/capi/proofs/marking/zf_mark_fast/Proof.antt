@@ -1,4 +1,4 @@
--- `capi::marking::zf_mark_fast` meets its contract, which is that of `tells_marking::tell_mark_fast`. Assumes nothing.
+-- `capi::marking::zf_mark_fast` meets its contract, which is that of `c_mark::tell_mark_fast`. Assumes nothing.
 use borrow.Author.Needs.{needs}
 use Rattle.capi.proofs.marking.zf_mark_fast.Statement.{statement}
 use Rattle.capi.proofs.marking.zf_mark_fast.Tie as tie

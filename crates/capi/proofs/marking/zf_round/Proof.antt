@@ -1,4 +1,4 @@
--- `capi::marking::zf_round` meets its contract, which is that of `tells_marking::tell_round`. Assumes nothing.
+-- `capi::marking::zf_round` meets its contract, which is that of `c_mark::tell_round`. Assumes nothing.
 use borrow.Author.Needs.{needs}
 use Rattle.capi.proofs.marking.zf_round.Statement.{statement}
 use Rattle.capi.proofs.marking.zf_round.Tie as tie

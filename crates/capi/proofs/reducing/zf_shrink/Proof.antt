@@ -1,4 +1,4 @@
--- `capi::reducing::zf_shrink` meets its contract, which is that of `tells_shrinking::tell_shrink`. Assumes nothing.
+-- `capi::reducing::zf_shrink` meets its contract, which is that of `c_shrink::tell_shrink`. Assumes nothing.
 use borrow.Author.Needs.{needs}
 use Rattle.capi.proofs.reducing.zf_shrink.Statement.{statement}
 use Rattle.capi.proofs.reducing.zf_shrink.Tie as tie

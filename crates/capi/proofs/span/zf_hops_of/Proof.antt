@@ -1,4 +1,4 @@
--- `capi::span::zf_hops_of` meets its contract, which is that of `tells_span::tell_hops_of`. Assumes nothing.
+-- `capi::span::zf_hops_of` meets its contract, which is that of `c_hops_of::tell_hops_of`. Assumes nothing.
 use borrow.Author.Needs.{needs}
 use Rattle.capi.proofs.span.zf_hops_of.Statement.{statement}
 use Rattle.capi.proofs.span.zf_hops_of.Tie as tie

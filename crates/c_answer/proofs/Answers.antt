@@ -1,0 +1,35 @@
+-- What is returned where the answer slice is too short or long enough. Assumes nothing.
+use Prim.Native.Nat.{ℕ, _<_, _≤_}
+use mathlib.Core.Path.{_≡_, refl, ap, _∙_}
+use mathlib.Core.Bool.{Bool, true, false, cond}
+use borrow.Author.Tests.{le-leb, lt-leb, eq-eqb, ne-eqb, eqb-true}
+use lib.Dec.{eqb, leb}
+use Rattle.graph.specs.declared.Answer.{Answer}
+use Rattle.c_answer.specs.Numbers.{returned}
+
+module _ (a : Answer) (n room : ℕ) where
+  -- too short: 6, unless the entry refuses
+  pub short-six : room < n → a .number ≡ 0 → 6 ≡ returned a n room
+  unfolding returned
+  short-six l e = rw (eq-eqb _ _ e, lt-leb n room l)
+
+  pub refusal-returns : (a .number ≡ 0 → ⊥) → a .number ≡ returned a n room
+  unfolding returned
+  refusal-returns e = rw (ne-eqb _ _ e)
+
+  pub long-returns : n ≤ room → a .number ≡ returned a n room
+  unfolding returned
+  long-returns l = go (eqb (a .number) 0) refl where
+    go : (x : Bool) → eqb (a .number) 0 ≡ x → a .number ≡ cond x (cond (leb n room) 0 6) (a .number)
+    go true e = eqb-true _ _ e ∙ rw (le-leb n room l)
+    go false e = refl
+
+-- what is returned for an answer is returned for an equal one
+pub returned-of : (n room : ℕ) {a b : Answer} {r : ℕ} → a ≡ b → r ≡ returned a n room → r ≡ returned b n room
+returned-of n room e h = h ∙ ap (λ (x : Answer). returned x n room) e
+
+-- the answer that stands in one of two results, of which the first is taken by a test
+pub either-answer : {A : Type 0} (answer : A → Answer) (x : Bool) (r q : A) {a : Answer} → (x ≡ true → answer r ≡ a) → answer q ≡ a →
+    answer (cond x r q) ≡ a
+either-answer answer true r q e d = e refl
+either-answer answer false r q e d = d

@@ -1,0 +1,65 @@
+// What an entry for C and Rust tells its caller, once for all entries: the figures at the front of the answer slice, and the number that is returned.
+// An answer slice too short gets nothing, and 6 is returned unless the entry itself refuses. The crates tells_* build the figures of their entries as a
+// small array and end with `tell`; where nothing else may be written either, they find the answer alone and end with `short_number`.
+// Stands on graph (answers) and base_outputs (what a lent slice holds afterwards).
+use graph::Answer;
+ghost use mathlib.Core.Path.{_≡_};
+ghost use mathlib.Core.List.{[], _∷_};
+ghost use Prim.Native.Nat.{_<_, _≤_};
+ghost use lib.ListN.{length};
+ghost use Rattle.base_outputs.specs.Output.{onFront};
+ghost use Rattle.c_answer.specs.Numbers.{numbersOf, returned, told};
+
+// The number where the answer slice is too short for n figures: a refusal's own, else 6.
+pub fn short_number(a: Answer, room: usize, n: usize) -> u32
+    requires { ⌜ room < n ⌝ }
+    ensures { λ r. ⌜ r ≡ returned a n room ⌝ }
+{
+    let number = a.number;
+    if number == 0 {
+        return 6;
+    }
+    number
+}
+
+// Figures at the front of the answer slice.
+fn put_figures(out: &mut [u64], figures: &[u64])
+    requires { ⌜ length (now figures) ≤ length (now out) ⌝ }
+    ensures { λ _. ⌜ now (out .exit) ≡ onFront (now (figures .entry)) (now (out .entry)) ⌝ }
+{
+    let mut i: usize = 0;
+    while i < figures.len() {
+        out[i] = figures[i];
+        i += 1;
+    }
+}
+
+// Tells the figures of an entry that answers `a`, and says what is returned.
+pub fn tell(out: &mut [u64], figures: &[u64], a: Answer) -> u32
+    ensures returns { λ r. ⌜ r ≡ returned a (length (now (figures .entry))) (length (now (out .entry))) ⌝ }
+    ensures tells { λ r. ⌜ now (out .exit) ≡ told (length (now (figures .entry))) (now (figures .entry)) (now (out .entry)) ⌝ }
+{
+    if out.len() < figures.len() {
+        return short_number(a, out.len(), figures.len());
+    }
+    put_figures(out, figures);
+    a.number
+}
+
+// An entry that tells its answer and no more.
+pub fn tell_answer(out: &mut [u64], a: Answer) -> u32
+    ensures returns { λ r. ⌜ r ≡ returned a 3 (length (now (out .entry))) ⌝ }
+    ensures tells { λ r. ⌜ now (out .exit) ≡ told 3 (numbersOf a []) (now (out .entry)) ⌝ }
+{
+    let figures = [a.number as u64, a.table as u64, a.place as u64];
+    tell(out, &figures, a)
+}
+
+// An entry that tells its answer and one figure.
+pub fn tell_figure(out: &mut [u64], a: Answer, figure: u64) -> u32
+    ensures returns { λ r. ⌜ r ≡ returned a 4 (length (now (out .entry))) ⌝ }
+    ensures tells { λ r. ⌜ now (out .exit) ≡ told 4 (numbersOf a (figure ∷ [])) (now (out .entry)) ⌝ }
+{
+    let figures = [a.number as u64, a.table as u64, a.place as u64, figure];
+    tell(out, &figures, a)
+}

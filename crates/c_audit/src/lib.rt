@@ -1,0 +1,68 @@
+// The audit, as the entry for C and Rust tells it: capi exports the function unchanged. Stands on audit_entry (audit), audit_faults (a fault) and c_answer (what is
+// told and returned).
+use audit_entry::Audit;
+use audit_entry::auditing::audit;
+use c_answer::tell;
+use graph::Shape;
+ghost use mathlib.Core.Path.{_≡_};
+ghost use lib.ListN.{length};
+ghost use Rattle.audit_admitted.specs.Fitting.{auditAnswer};
+ghost use Rattle.audit_entry.specs.Auditing.{auditOf};
+ghost use Rattle.c_answer.specs.Numbers.{shapeOf, returned, told};
+ghost use Rattle.c_audit.specs.Numbers.{auditNumbers};
+
+// An answer, the fault count, and the first fault's kind, place and state.
+fn tell_audited(out: &mut [u64], audited: Audit) -> u32
+    ensures returns { λ r. ⌜ r ≡ returned (audited .answer) 7 (length (now (out .entry))) ⌝ }
+    ensures tells { λ r. ⌜ now (out .exit) ≡ told 7 (auditNumbers audited) (now (out .entry)) ⌝ }
+{
+    let a = audited.answer;
+    let first = audited.first;
+    let figures = [
+        a.number as u64,
+        a.table as u64,
+        a.place as u64,
+        audited.faults as u64,
+        first.kind as u64,
+        first.place as u64,
+        first.state as u64,
+    ];
+    tell(out, &figures, a)
+}
+
+pub fn tell_audit(
+    states1: u32,
+    labels1: u32,
+    initial1: u32,
+    hops1: &[u16],
+    states2: u32,
+    labels2: u32,
+    initial2: u32,
+    hops2: &[u16],
+    map: &[u16],
+    answer: &mut [u64],
+) -> u32
+    ensures returns { λ r. ⌜ r ≡
+        returned
+        (auditAnswer (shapeOf states1 labels1 initial1) (shapeOf states2 labels2 initial2) (now (hops1 .entry)) (now (hops2 .entry)) (now (map .entry)))
+        7
+        (length (now (answer .entry))) ⌝ }
+    ensures tells { λ r. ⌜ now (answer .exit) ≡
+        told 7
+        (auditNumbers
+        (auditOf (shapeOf states1 labels1 initial1) (shapeOf states2 labels2 initial2) (now (hops1 .entry)) (now (hops2 .entry)) (now (map .entry))))
+        (now (answer .entry)) ⌝ }
+{
+    let shape1 = Shape {
+        states: states1,
+        labels: labels1,
+        initial: initial1,
+    };
+    let shape2 = Shape {
+        states: states2,
+        labels: labels2,
+        initial: initial2,
+    };
+    let audited = audit(shape1, hops1, shape2, hops2, map);
+    tell_audited(answer, audited)
+}

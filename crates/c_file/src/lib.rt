@@ -1,0 +1,93 @@
+// Read and write, as the entries for C and Rust tell them: capi exports these functions unchanged. Each finds the entry's answer and tells it, and leaves
+// the other lent slice alone where the answer slice is too short.
+// Stands on file_read (read), file_write (write) and c_answer (what is told and returned).
+use c_answer::short_number;
+use c_answer::tell;
+use c_answer::tell_figure;
+use file_read::Contents;
+use file_read::reading::read;
+use file_read::reading::read_answer;
+use file_write::writing::write;
+use file_write::writing::write_answer;
+use graph::Shape;
+ghost use mathlib.Core.Path.{_≡_};
+ghost use lib.ListN.{length};
+ghost use Rattle.file_read.specs.Read.{readAnswer, readOf, readHops};
+ghost use Rattle.file_write.specs.Write.{writeAnswer, writeOf, writeBytes};
+ghost use Rattle.c_answer.specs.Numbers.{shapeOf, returned, told, unlessShort};
+ghost use Rattle.c_file.specs.Numbers.{contentsNumbers, writtenNumbers};
+
+// An answer, the graph's counts and initial state, and where its name block stands.
+fn tell_contents(out: &mut [u64], contents: Contents) -> u32
+    ensures returns { λ r. ⌜ r ≡ returned (contents .answer) 9 (length (now (out .entry))) ⌝ }
+    ensures tells { λ r. ⌜ now (out .exit) ≡ told 9 (contentsNumbers contents) (now (out .entry)) ⌝ }
+{
+    let a = contents.answer;
+    let shape = contents.shape;
+    let figures = [
+        a.number as u64,
+        a.table as u64,
+        a.place as u64,
+        shape.states as u64,
+        shape.labels as u64,
+        shape.initial as u64,
+        contents.hops as u64,
+        contents.names_place as u64,
+        contents.names_len as u64,
+    ];
+    tell(out, &figures, a)
+}
+
+// Where the answer slice is too short, only the answer is found, and no hops are written.
+pub fn tell_read(file: &[u8], hops: &mut [u16], answer: &mut [u64]) -> u32
+    ensures returns { λ r. ⌜ r ≡ returned (readAnswer (now (file .entry)) (length (now (hops .entry)))) 9 (length (now (answer .entry))) ⌝ }
+    ensures hops { λ r. ⌜ now (hops .exit) ≡
+        unlessShort 9 (now (answer .entry)) (readHops (now (file .entry)) (now (hops .entry))) (now (hops .entry)) ⌝ }
+    ensures tells { λ r. ⌜ now (answer .exit) ≡
+        told 9 (contentsNumbers (readOf (now (file .entry)) (length (now (hops .entry))))) (now (answer .entry)) ⌝ }
+{
+    if answer.len() < 9 {
+        let unwritten = read_answer(file, hops.len());
+        return short_number(unwritten, answer.len(), 9);
+    }
+    let contents = read(file, hops);
+    tell_contents(answer, contents)
+}
+
+// Where the answer slice is too short, only the answer is found, and no bytes are written.
+pub fn tell_write(
+    states: u32,
+    labels: u32,
+    initial: u32,
+    hops: &[u16],
+    names: &[u8],
+    out: &mut [u8],
+    answer: &mut [u64],
+) -> u32
+    ensures returns { λ r. ⌜ r ≡
+        returned
+        (writeAnswer (shapeOf states labels initial) (now (hops .entry)) (now (names .entry)) (length (now (out .entry))))
+        4
+        (length (now (answer .entry))) ⌝ }
+    ensures bytes { λ r. ⌜ now (out .exit) ≡
+        unlessShort 4
+        (now (answer .entry))
+        (writeBytes (shapeOf states labels initial) (now (hops .entry)) (now (names .entry)) (now (out .entry)))
+        (now (out .entry)) ⌝ }
+    ensures tells { λ r. ⌜ now (answer .exit) ≡
+        told 4
+        (writtenNumbers (writeOf (shapeOf states labels initial) (now (hops .entry)) (now (names .entry)) (length (now (out .entry)))))
+        (now (answer .entry)) ⌝ }
+{
+    let shape = Shape {
+        states,
+        labels,
+        initial,
+    };
+    if answer.len() < 4 {
+        let unwritten = write_answer(shape, hops, names, out.len());
+        return short_number(unwritten, answer.len(), 4);
+    }
+    let written = write(shape, hops, names, out);
+    tell_figure(answer, written.answer, written.length as u64)
+}

@@ -1,0 +1,51 @@
+// Find, as the entry for C and Rust tells it: capi exports the function unchanged. Stands on graph_find (where the hop stands or would stand) and c_answer (what
+// is told and returned).
+use c_answer::tell;
+use graph::Shape;
+use graph_find::Finding;
+use graph_find::find;
+ghost use mathlib.Core.Path.{_≡_};
+ghost use lib.ListN.{length};
+ghost use Rattle.graph_check.specs.Check.{checkOf};
+ghost use Rattle.graph_find.specs.Finding.{findOf};
+ghost use Rattle.c_answer.specs.Numbers.{shapeOf, returned, told};
+ghost use Rattle.c_find.specs.Numbers.{findingNumbers};
+
+// An answer, whether the hop is found, and its place.
+fn tell_finding(out: &mut [u64], finding: Finding) -> u32
+    ensures returns { λ r. ⌜ r ≡ returned (finding .answer) 5 (length (now (out .entry))) ⌝ }
+    ensures tells { λ r. ⌜ now (out .exit) ≡ told 5 (findingNumbers finding) (now (out .entry)) ⌝ }
+{
+    let a = finding.answer;
+    let figures = [
+        a.number as u64,
+        a.table as u64,
+        a.place as u64,
+        finding.found as u64,
+        finding.place as u64,
+    ];
+    tell(out, &figures, a)
+}
+
+pub fn tell_find(
+    states: u32,
+    labels: u32,
+    initial: u32,
+    hops: &[u16],
+    from: u32,
+    label: u32,
+    to: u32,
+    answer: &mut [u64],
+) -> u32
+    ensures returns { λ r. ⌜ r ≡ returned (checkOf (shapeOf states labels initial) (now (hops .entry))) 5 (length (now (answer .entry))) ⌝ }
+    ensures tells { λ r. ⌜ now (answer .exit) ≡
+        told 5 (findingNumbers (findOf (shapeOf states labels initial) (now (hops .entry)) from label to)) (now (answer .entry)) ⌝ }
+{
+    let shape = Shape {
+        states,
+        labels,
+        initial,
+    };
+    let finding = find(shape, hops, from, label, to);
+    tell_finding(answer, finding)
+}

@@ -1,0 +1,51 @@
+// Hops of a state, as the entry for C and Rust tells it: start and length of a part of the hop list that the caller has. capi exports the function
+// unchanged. Stands on graph_hops_of (where the part stands) and c_answer (what is told and returned).
+use c_answer::tell;
+use graph::Shape;
+use graph::answers::accept;
+use graph_hops_of::span_of;
+ghost use mathlib.Core.Path.{_≡_};
+ghost use lib.ListN.{length};
+ghost use Rattle.graph.specs.Answers.{accepted};
+ghost use Rattle.graph_hops_of.specs.Outgoing.{chosen, spanOf};
+ghost use Rattle.c_answer.specs.Numbers.{shapeOf, returned, told};
+ghost use Rattle.c_hops_of.specs.Numbers.{spanNumbers};
+
+pub fn tell_hops_of(
+    side: u32,
+    state: u32,
+    states1: u32,
+    labels1: u32,
+    initial1: u32,
+    hops1: &[u16],
+    states2: u32,
+    labels2: u32,
+    initial2: u32,
+    hops2: &[u16],
+    answer: &mut [u64],
+) -> u32
+    ensures returns { λ r. ⌜ r ≡ returned accepted 2 (length (now (answer .entry))) ⌝ }
+    ensures tells { λ r. ⌜ now (answer .exit) ≡
+        told 2
+        (spanNumbers
+        (spanOf
+        (chosen side state (shapeOf states1 labels1 initial1) (now (hops1 .entry)) (shapeOf states2 labels2 initial2) (now (hops2 .entry)))
+        state
+        (now (hops1 .entry))
+        (now (hops2 .entry))))
+        (now (answer .entry)) ⌝ }
+{
+    let shape1 = Shape {
+        states: states1,
+        labels: labels1,
+        initial: initial1,
+    };
+    let shape2 = Shape {
+        states: states2,
+        labels: labels2,
+        initial: initial2,
+    };
+    let span = span_of(side, state, shape1, hops1, shape2, hops2);
+    let figures = [span.start as u64, span.length as u64];
+    tell(answer, &figures, accept())
+}

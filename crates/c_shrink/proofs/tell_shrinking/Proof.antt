@@ -1,0 +1,45 @@
+-- `c_shrink::tell_shrinking` meets its contract: the figures are the shrinking's numbers. Assumes nothing.
+use borrow.Author.Needs.{needs}
+use Rattle.c_shrink.proofs.tell_shrinking.Statement.{statement}
+use Rattle.c_shrink.proofs.tell_shrinking.Tie as tie
+
+cast-t6 : tie.Need-cast-t6
+cast-t6 c = search needs
+
+cast-t7 : tie.Need-cast-t7
+cast-t7 c = search needs
+
+cast-t9 : tie.Need-cast-t9
+cast-t9 c = search needs
+
+cast-t10 : tie.Need-cast-t10
+cast-t10 c = search needs
+
+cast-t12 : tie.Need-cast-t12
+cast-t12 c = search needs
+
+slice-aggregate-tell : tie.Need-slice-aggregate-tell
+slice-aggregate-tell c = search needs
+
+tell-requires : tie.Need-tell-requires
+tell-requires c κs = search needs
+
+same-length : tie.Need-same-length
+same-length c = search needs
+
+returns : tie.Need-returns
+returns c = c .before .before .tell .ensures
+
+pub tell-shrinking-spec : {M : Type 1} → statement M
+tell-shrinking-spec =
+    tie.close
+    (tie.spec
+    cast-t6
+    cast-t7
+    cast-t9
+    cast-t10
+    cast-t12
+    slice-aggregate-tell
+    tell-requires
+    same-length
+    returns)

@@ -1,9 +1,0 @@
--- The figures of shrink, as its entry for C and Rust tells them. Assumes nothing: this is a definition.
-use Prim.Native.Nat.{ℕ}
-use mathlib.Core.List.{List, [], _∷_}
-use Rattle.shrink_entry.specs.declared.Shrinking.{Shrinking}
-use Rattle.answers.specs.Numbers.{numbersOf}
-
--- "8: states, labels, hops, initial, reductions"
-abbrev pub shrinkingNumbers : Shrinking → List ℕ
-shrinkingNumbers r = numbersOf (r .answer) (r .shape .states ∷ r .shape .labels ∷ r .hops ∷ r .shape .initial ∷ r .reductions ∷ [])
