@@ -18,16 +18,16 @@ none "lines of more than 160 characters" "$(grep -nE '^.{161,}$' crates/*/src/*.
 none "a requires that asks several things" "$(grep -nE 'requires.*⌝ ∗ ⌜' crates/*/src/*.rt || true)"
 
 # the numbers of a hop and the limits stand where they are named, and as data in the programs and the worked table
-named='^crates/(graph/src/lib\.rt|graph/specs/(Hops|Answers)\.antt|(worked|inputs|calls_[a-z]+)/)'
+named='^crates/(graph/src/lib\.rt|graph/specs/(Hops|Answers)\.antt|(test_worked|test_report|test_(check|records|hops_of|round_trip))/)'
 none "numbers that have a name" "$(grep -nE '(^|[^0-9.])(4 \*|6 \*|16384|1025|4096|20480)([^0-9]|$)' crates/*/src/*.rt crates/*/specs/*.antt |
     grep -vE "$named" | grep -vE ':[0-9]+: *(//|--)' || true)"
 
 # hops are made in one place
-none "hops made elsewhere than in graph" "$(grep -nE '(^|[^A-Za-z])Hop \{' crates/*/src/*.rt | grep -vE '^crates/(graph|calls_records)/' | grep -vE ':[0-9]+: *//' || true)"
+none "hops made elsewhere than in graph" "$(grep -nE '(^|[^A-Za-z])Hop \{' crates/*/src/*.rt | grep -vE '^crates/(graph|test_records)/' | grep -vE ':[0-9]+: *//' || true)"
 
 # a hop's line is looked at where hops become one, where they are read, written and printed, and nowhere else: not where they are marked or audited
 none "a hop's line looked at elsewhere" "$(grep -nE '(^|[^A-Za-z_])(lineAt|line_at|linedHop|lined_hop)([^A-Za-z_]|$)|\.line($|[^A-Za-z_])' crates/*/src/*.rt crates/*/specs/*.antt |
-    grep -vE '^crates/(graph|reduce_smallest_line|reduce_sorted_images|reduce_short_graph|file_lines|file_hops|report_rows|mark_entry_records|calls_[a-z]+|worked_(lines|repeats))/' | grep -vE ':[0-9]+: *(//|--)' || true)"
+    grep -vE '^crates/(graph|reduce_smallest_line|reduce_sorted_images|reduce_short_graph|file_lines|file_hops|report_rows|mark_entry_records|test_(check|records|hops_of|round_trip)|test_worked_(lines|shrink))/' | grep -vE ':[0-9]+: *(//|--)' || true)"
 
 # two hops are compared by their sums, in graph::order: nowhere is a number of one hop held against a number of another
 none "hops compared by their numbers" "$(grep -nE '\.(from|label|to)\>[^;⌜]*([<>]|[=!]=)[^;⌜]*\.(from|label|to)\>' crates/*/src/*.rt | grep -vE ':[0-9]+: *//' || true)"

@@ -1,0 +1,32 @@
+-- The definitions give every figure of the table of graphs worked by hand: one proof, by computation. Assumes nothing.
+use mathlib.Core.Path.{_≡_, refl}
+use Rattle.base_bounded.specs.Tests.{all, any, least, listed, tally, total}
+use Rattle.graph.specs.Hops.{flat, is, labelled, has}
+use Rattle.graph.specs.Order.{before}
+use Rattle.graph_check.specs.Check.{checkOf, countsFit, inside, firstOutside, rises, firstFalling}
+use Rattle.walk_reach.specs.Reaching.{leadsBy}
+use Rattle.walk_silent.specs.Silent.{onRing, lowestOnRing, ringless}
+use Rattle.base_fixpoint.specs.Rounds.{leftAfter}
+use Rattle.mark_confluence.specs.Rounds.{survives, marked, closes, tried, answered, answers, hopAnswers, answer, closing}
+use Rattle.mark_confluence.specs.Held.{marksOf, markOf}
+use Rattle.mark_senses.specs.Senses.{setAt, comes, takes, meets, takesTo, answersFrom, answeredIn, closesIn, markedIn, isSense, senseOf, senseAnswer}
+use Rattle.mark_entry.specs.Mark.{markAnswer}
+use Rattle.mark_worklist.specs.Due.{fell, standing, reached, shaken, due, testsIn, testsUpTo, testsOf}
+use Rattle.mark_entry_fast.specs.Fast.{countedOf}
+use Rattle.reduce_representatives.specs.Representative.{markedFrom, resting, onward, followed, repOf, newOf, mapOf}
+use Rattle.reduce_insertion.specs.Insertion.{insert, collected}
+use Rattle.reduce_short_graph.specs.Short.{gathered, shortHops, shortShape, mapList}
+use Rattle.reduce_entry.specs.Reduce.{reduceAnswer, reduceOf}
+use Rattle.audit_faults.specs.Faults.{initialFault, kept, lostFaults, offers, backed, matched, madeUp, madeUpFaults, faultsOf}
+use Rattle.audit_faults.specs.First.{firstInitial, lostPlace, firstLost, madeUpPlace, madeUpState, firstMadeUp, firstFault}
+use Rattle.audit_admitted.specs.Fitting.{firstHigh, mapFits, auditAnswer}
+use Rattle.audit_entry.specs.Auditing.{auditOf}
+use Rattle.graph_find.specs.Finding.{hopsBefore, findOf}
+use Rattle.test_worked.specs.Table.{tableOf, table, outcomeOf, fallsIn}
+
+pub given : tableOf table ≡ table
+unfolding
+    all any least listed tally total flat is labelled has before checkOf countsFit inside firstOutside rises firstFalling leadsBy onRing lowestOnRing ringless
+    leftAfter survives marked closes tried answered answers hopAnswers answer closing setAt comes takes meets takesTo answersFrom answeredIn closesIn markedIn isSense senseOf senseAnswer marksOf markOf markAnswer fell standing reached shaken due testsIn testsUpTo testsOf countedOf markedFrom resting onward followed repOf newOf mapOf
+    insert collected gathered shortHops shortShape mapList initialFault kept lostFaults offers backed matched madeUp madeUpFaults faultsOf firstInitial lostPlace firstLost madeUpPlace madeUpState firstMadeUp firstFault reduceAnswer reduceOf firstHigh mapFits auditAnswer auditOf hopsBefore findOf outcomeOf fallsIn
+given = refl
