@@ -1,4 +1,5 @@
--- Whether two graphs and a map fit together: rows 7 and 8, and the audit's answer. Assumes nothing: these are definitions.
+-- Whether two graphs and a map can be audited: admitted maps, rows 7 and 8, and the audit's answer.
+-- Assumes nothing: these are definitions.
 use Prim.Native.Nat.{ℕ, _<_}
 use mathlib.Core.Path.{_≡_}
 use mathlib.Core.Bool.{cond, not}

@@ -1,5 +1,9 @@
-// Fitting: whether two graphs and a map fit together, for the audit: graph 1 and then graph 2 as `graph_check` checks them, then rows 7 and 8. It answers
-// with the number, the table and the place of the first thing that is wrong, or 0; what was accepted is what document 01 admits, and proved so here.
+// Whether two graphs and a map can be audited: both graphs are well formed, their label counts
+// agree, and the map takes each state of graph 1 to a state of graph 2.
+// The answer has the number, the table and the place of the first refusal, or 0: rows 1 to 4 for
+// graph 1, then for graph 2, then rows 7 and 8. That what is accepted is what document 01 admits is
+// proved here.
+// Uses `graph_check` for the two graphs.
 use graph::Answer;
 use graph::Shape;
 use graph::answers::accept;

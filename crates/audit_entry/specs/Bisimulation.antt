@@ -1,4 +1,5 @@
--- Definition 2.4 as document 01 writes it out, and the map taken as a relation. Assumes nothing: these are definitions.
+-- Branching bisimulation between two graphs, Definition 2.4 as document 01 writes it out, and the
+-- map taken as a relation. Assumes nothing: these are definitions.
 use Prim.Native.Nat.{ℕ, _<_}
 use mathlib.Core.Path.{_≡_}
 use mathlib.Core.Logic.{_⊎_}

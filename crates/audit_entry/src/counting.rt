@@ -1,4 +1,5 @@
-// The fault count and the first fault: each mapped hop is searched for once, and the table of the places found serves the second sum and the third.
+// The fault count and the first fault: each mapped hop is looked up once, and the table of the
+// places found serves the second sum and the third.
 use audit_faults::Share;
 use audit_faults::first::or_else;
 use audit_faults::images::images_of;

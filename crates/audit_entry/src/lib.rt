@@ -1,6 +1,9 @@
-// Auditing: the entry `audit`, which says of a map between two graphs how many faults it has and which is the first, and what a count of 0 means: the
-// map taken as a relation is a branching bisimulation that joins the initial states (Definition 2.4). What is refused is answered by `audit_admitted`; the
-// sums of the count, each with its first fault, are those of `faults` and of `made_up`; here stand the entry, which adds them, and the meaning.
+// The entry `audit`: how many faults a map between two graphs has and which is the first, where a
+// count of 0 means that the map is a branching bisimulation that relates the initial states.
+// That meaning (Definition 2.4, the map taken as a relation) is proved here. The entry adds the
+// three sums, each with its first fault.
+// Uses `audit_admitted` for what is refused, `audit_faults` for the first two sums and
+// `audit_unmatched` for the third, and `lts` for branching bisimulations.
 mod counting; // counting.rt: the fault count and the first fault, the tables made once
 pub mod auditing; // auditing.rt: the entry `audit`
 

@@ -1,4 +1,5 @@
--- The fault count of a map m from graph 1 to graph 2 (document 01 "Auditing"). A map is a list, one entry a state of graph 1.
+-- The fault count of a map m from graph 1 to graph 2 (document 01 "Auditing"): a check of a
+-- branching bisimulation given as a function. A map is a list, one entry a state of graph 1.
 -- Assumes nothing: these are definitions.
 use Prim.Native.Nat.{ℕ, _+_}
 use mathlib.Core.Bool.{Bool, cond, not, _&&_, _||_}

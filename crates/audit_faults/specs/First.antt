@@ -1,4 +1,5 @@
--- The first fault of a map m from graph 1 to graph 2 (document 02, wish 3), over the tests that the three sums count. Assumes nothing: these are definitions.
+-- The first fault of a map m from graph 1 to graph 2 (document 02, wish 3), over the tests that the
+-- three sums count. Assumes nothing: these are definitions.
 use Prim.Native.Nat.{ℕ, _<_}
 use mathlib.Core.Path.{_≡_}
 use mathlib.Core.Bool.{Bool, true, false, cond, not, _&&_, _||_}

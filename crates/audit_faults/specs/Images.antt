@@ -1,4 +1,5 @@
--- Where the hops of graph 1 stand in graph 2 once they are mapped. Assumes nothing: these are definitions.
+-- Where the hops of graph 1 stand in graph 2 once they are mapped. Assumes nothing: these are
+-- definitions.
 use Prim.Native.Nat.{ℕ, _<_}
 use mathlib.Core.Path.{_≡_}
 use mathlib.Core.List.{List}

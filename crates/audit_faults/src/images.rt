@@ -1,4 +1,5 @@
-// Where the hops of graph 1 stand in graph 2 once they are mapped: each is searched for once, and a table keeps its place.
+// Where the hops of graph 1 stand in graph 2 once they are mapped: each is looked up once, and a
+// table keeps its place.
 use graph::Found;
 use graph::MOST_HOPS;
 use graph::Shape;

@@ -1,6 +1,11 @@
-// The faults of a map between two graphs: what the three sums of the count are, and which fault is first, for the audit and for what a count of 0 means; and
-// the code of the first two. Each hop of graph 1 is mapped and searched for in graph 2 once; the table of the places found tells which hops are lost (here)
-// and what is made up (in `audit_matched` and `audit_unmatched`). It stands on the search by rows of `graph_successors`, and on `walk_silent` for "s leads by zero or more silent hops".
+// The faults of a map between two graphs, taken as a branching bisimulation given by a function:
+// the three sums of the fault count, and which fault is first.
+// The definitions serve the audit and what a count of 0 means; the code computes the first two
+// sums. Each hop (transition) of graph 1 is mapped and looked up in graph 2 once, by binary search;
+// the table of the places found says which hops are lost (here) and which are matched
+// (`audit_matched` and `audit_unmatched`).
+// Uses `graph_successors` for the search among a state's hops, `walk_silent` for "s leads by zero
+// or more silent hops".
 pub mod images; // images.rt: where the hops of graph 1 stand in graph 2
 pub mod first; // first.rt: which of two faults is named
 pub mod lost; // lost.rt: the first two sums, by the hops of graph 1

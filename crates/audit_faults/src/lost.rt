@@ -1,4 +1,5 @@
-// The first two sums of the fault count, each with its first fault: the initial states, and the hops of graph 1 that graph 2 has not.
+// The first two sums of the fault count, each with its first fault: the initial states, and the
+// hops of graph 1 that graph 2 has not.
 use super::Fault;
 use super::Share;
 use super::first::no_fault;

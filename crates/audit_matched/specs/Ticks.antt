@@ -1,5 +1,6 @@
--- What ticks what: from a state of graph 1, the hops of the states that it leads to tick hops of graph 2 by a stamp, at the places that a table has for
--- them. Assumes nothing: these are definitions.
+-- Which hops of graph 2 get a stamp: from a state of graph 1, the hops of the states that it leads
+-- to stamp hops of graph 2, at the places that a table has for them. Assumes nothing: these are
+-- definitions.
 use Prim.Native.Nat.{ℕ, _<_}
 use mathlib.Core.Path.{_≡_}
 use mathlib.Core.Bool.{Bool, cond, _&&_}

@@ -1,6 +1,10 @@
-// Ticks: for the third sum of the fault count, the hops of graph 2 that a state of graph 1 backs. The hops of the states that a search has seen, inside a
-// class, tick hops of graph 2 by a stamp, at the places that a table has for them. Each state has a stamp of its own, so that no tick is ever cleared.
-// It stands on `audit_faults`, which says where each mapped hop stands in graph 2, and on `graph_successors` for a state's hops; `audit_unmatched` counts what is not ticked.
+// Which hops (transitions) of graph 2 a state of graph 1 can match, by itself or after silent (tau)
+// hops to a state with the same image: for the third sum of the fault count.
+// The hops of the states with that image that a search has reached put a stamp on hops of graph 2,
+// at the places that a table has for them. Each state has a stamp of its own, so that no stamp is
+// ever cleared. `audit_unmatched` counts the hops without it.
+// Uses `audit_faults` for where each mapped hop stands in graph 2, `graph_successors` for the hops
+// of a state.
 use graph::MOST_HOPS;
 use graph::NewState;
 use graph::OldState;

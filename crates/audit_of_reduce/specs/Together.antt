@@ -1,4 +1,5 @@
--- Reduce and audit together: the audit of what an accepted `reduce` left in its outputs. Assumes nothing: these are definitions.
+-- The audit of what an accepted `reduce` left in its outputs. Assumes nothing: these are
+-- definitions.
 use Prim.Native.Nat.{ℕ}
 use mathlib.Core.Bool.{cond}
 use mathlib.Core.List.{List}

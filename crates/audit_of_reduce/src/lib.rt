@@ -1,6 +1,8 @@
-// Reduce and audit together: demand 3 as one function, whose contract says that the audit of what an accepted `reduce` left, in the sense asked, finds no
-// fault, whatever the outputs held before. It is the house's proof that reducing is right, in words that the audit alone defines; nobody need call it.
-// It stands on reduce_entry and on the audit.
+// Reduction is correct: the audit of what an accepted `reduce` left, in the sense asked, finds no
+// fault, whatever the outputs held before (demand 3).
+// The contract of one function that reduces and audits says so, in words that the audit alone
+// defines. It is there for its contract; nobody need call it.
+// Uses `reduce_entry` and `audit_entry`.
 use audit_entry::Audit;
 use audit_entry::auditing::audit;
 use audit_faults::first::no_fault;

@@ -1,4 +1,6 @@
--- How the third sum is counted, by states of graph 1: of the hops of its class, what a state has not ticked is a fault. Assumes nothing: these are definitions.
+-- How the third sum is counted, by states of graph 1: of the hops of a state's image, silent ones
+-- to itself aside, those without the state's stamp are faults. Assumes nothing: these are
+-- definitions.
 use Prim.Native.Nat.{ℕ, _<_, _≤_}
 use mathlib.Core.Bool.{Bool, not, _&&_, _||_}
 use mathlib.Core.List.{List}

@@ -1,7 +1,12 @@
-// Made up: the third sum of the fault count, the pairs of a hop of graph 2 and a state of graph 1 that does not answer it, and the first of them, for the
-// audit. By states of graph 1: `audit_matched` ticks the hops of graph 2 that the state backs, and of those of its class what is not ticked is made up.
-// It stands on `audit_faults`, which says what the sum and the first fault are, on `audit_matched`, on `graph_successors` for a state's hops, and on `walk_reach` along the silent
-// hops.
+// The third sum of the fault count: the pairs of a hop (transition) of graph 2 and a state of graph
+// 1 that is mapped to its start and does not match it, and the first of them.
+// It goes by states of graph 1: a breadth-first search along silent (tau) hops, then
+// `audit_matched` stamps the hops of graph 2 that the state matches, and the other hops of its
+// image are faults, silent ones to itself aside. The smallest place is kept, with the first state
+// that has it.
+// Uses `audit_faults` for what the sum and the first fault are, `audit_matched` for the stamps,
+// `graph_successors` for the hops of a state, and `walk_reach` along the silent hops of
+// `walk_silent`.
 use audit_faults::Fault;
 use audit_faults::Share;
 use audit_faults::first::no_fault;

@@ -1,4 +1,5 @@
--- Words of 64 bits as sets of numbers below 64, and tables of words. Assumes nothing: these are definitions.
+-- Bitsets: words of 64 bits as sets of numbers below 64, and tables of words. Assumes nothing:
+-- these are definitions.
 use Prim.Native.Nat.{ℕ, _/_, _%_, _^_}
 use mathlib.Core.Bool.{Bool}
 use mathlib.Core.List.{List}

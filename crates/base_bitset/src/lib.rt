@@ -1,5 +1,6 @@
-// Words of 64 bits as sets: which bits a word has, and that `|` joins two sets and `&` cuts them. For tables that hold one word a state, so that what is
-// done with 64 questions is done once.
+// Bitsets in 64-bit words: which bits a word has, and that `|` is union and `&` intersection.
+// For tables with one word a state or a label, so that one operation serves 64 questions.
+// Uses `base_bounded` for statements over the bits of a word.
 ghost use mathlib.Core.Path.{_≡_};
 ghost use mathlib.Core.Bool.{not, _||_};
 ghost use Prim.Native.Nat.{_<_, _^_};

@@ -1,6 +1,6 @@
--- Tests of every number below a bound, by which everything over a hop list is said: all pass, any passes, the least that passes, how many pass;
--- and the list and the sum of a function's values below a bound.
--- Assumes nothing: these are definitions.
+-- Bounded quantifiers, by which everything over a hop list is said: all the numbers below a bound
+-- pass a test, any passes, the least that passes, how many pass; and the list and the sum of a
+-- function's values below a bound. Assumes nothing: these are definitions.
 use Prim.Native.Nat.{ℕ, zero, suc, _+_, _<_}
 use mathlib.Core.Path.{_≡_}
 use mathlib.Core.Bool.{Bool, true, false, cond, _&&_, _||_}

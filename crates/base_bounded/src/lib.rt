@@ -1,4 +1,7 @@
-// Tests of every number below a bound, and lists and sums of values below one: definitions (specs/) and laws (proofs/), and no code. Everything that is
-// said over the places of a hop list or over the states of a graph is said by these: all pass, some pass, the first that passes, how many pass. The laws
-// of chains say that sets that only shrink come to rest, which ends every repetition; those of slots say where each number stands when numbers are sorted
-// by counting their keys. It stands on nothing.
+// Bounded quantifiers over the numbers below a bound: all pass a test, some passes, the least that
+// passes, how many pass; and the list and the sum of a function's values.
+// Every statement over the places of a hop list or the states of a graph is made with these. The
+// laws of chains say that a descending chain of finite sets becomes stationary, by which the proofs
+// show that repetitions end. The laws of slots say where each number stands after a counting sort
+// by key. Definitions (specs/) and laws (proofs/), no code.
+// Uses no other crate.

@@ -1,5 +1,6 @@
--- What a lent output holds afterwards: a list written over the front of what was there, over a part of it, or, with a refusal, not at all. Everything that
--- writes says it by these. Assumes nothing: these are definitions.
+-- What an output (the caller's slice) holds afterwards: a list written over the front of what was
+-- there, over a part of it, or, with a refusal, not at all. The entries that write marks, a map,
+-- hops, a file or text state by these what they write. Assumes nothing: these are definitions.
 use Prim.Native.Nat.{ℕ, _+_}
 use mathlib.Core.Bool.{cond}
 use mathlib.Core.List.{List, _++_}

@@ -1,6 +1,10 @@
-// Outputs: what a lent slice holds after an entry wrote into it, and that nothing else of it moves. Every entry that writes says it by the definitions of
-// specs/Output: the new elements at the front or at a place, what was there around them, and on a refusal all of it as it was. The laws (proofs/Front)
-// grow such an output element by element. It stands on nothing but lists of values below a bound.
+// What the caller's slice (an output) holds after a function wrote into it, and that nothing else
+// in it changed.
+// The entries that write marks, a map, hops, a file or text state it by the definitions of
+// specs/Output: the new elements at the front or at a place, the old ones around them, and after a
+// refusal all the old ones. The laws (proofs/Front) extend such an output element by element. Two
+// functions copy bytes and 16-bit numbers into an output.
+// Uses `base_bounded` for lists of values below a bound.
 ghost use mathlib.Core.Path.{_≡_};
 ghost use Prim.Native.Nat.{_+_, _≤_};
 ghost use lib.ListN.{length};

@@ -1,5 +1,6 @@
--- The numbers that an entry for C and Rust tells its caller: "answer: number, table, place, then the entry's figures; the return value is the number. An
--- answer too short: 6, and nothing is written." It speaks last, as row 6 does. Assumes nothing: these are definitions.
+-- The numbers that an entry of the C ABI writes and returns: "answer: number, table, place, then
+-- the entry's figures; the return value is the number. An answer too short: 6, and nothing is
+-- written." This 6 comes last, as row 6 does. Assumes nothing: these are definitions.
 use Prim.Native.Nat.{ℕ}
 use mathlib.Core.Bool.{cond}
 use mathlib.Core.List.{List, [], _∷_, _++_}

@@ -1,7 +1,9 @@
-// What an entry for C and Rust tells its caller, once for all entries: the figures at the front of the answer slice, and the number that is returned.
-// An answer slice too short gets nothing, and 6 is returned unless the entry itself refuses. The crates tells_* build the figures of their entries as a
-// small array and end with `tell`; where nothing else may be written either, they find the answer alone and end with `short_number`.
-// Stands on graph (answers) and base_outputs (what a lent slice holds afterwards).
+// What every entry of the C ABI returns to its caller: the figures at the front of the answer
+// slice, and the number that is returned.
+// An answer slice too short gets nothing, and 6 is returned unless the entry itself refuses. The
+// crates c_* build the figures of their entries as a small array and end with `tell`; where nothing
+// else may be written either, they compute the answer alone and end with `short_number`.
+// Uses `graph` for answers and `base_outputs` for what a slice holds afterwards.
 use graph::Answer;
 ghost use mathlib.Core.Path.{_≡_};
 ghost use mathlib.Core.List.{[], _∷_};

@@ -1,4 +1,4 @@
--- The figures of the audit, as its entry for C and Rust tells them. Assumes nothing: this is a definition.
+-- The figures of the audit in the answer slice of the C ABI. Assumes nothing: this is a definition.
 use Prim.Native.Nat.{ℕ}
 use mathlib.Core.List.{List, [], _∷_}
 use Rattle.audit_entry.specs.declared.Audit.{Audit}

@@ -1,5 +1,8 @@
-// The audit, as the entry for C and Rust tells it: capi exports the function unchanged. Stands on audit_entry (audit), audit_faults (a fault) and c_answer (what is
-// told and returned).
+// `audit` for the C ABI: which figures it writes into the answer slice, and which number it
+// returns.
+// `capi` exports the function unchanged.
+// Uses `audit_entry` for `audit`, `audit_faults` for a fault, and `c_answer` for what is written
+// and returned.
 use audit_entry::Audit;
 use audit_entry::auditing::audit;
 use c_answer::tell;

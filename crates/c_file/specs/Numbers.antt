@@ -1,4 +1,5 @@
--- The figures of read and write, as their entries for C and Rust tell them. Assumes nothing: these are definitions.
+-- The figures of read and write in the answer slice of the C ABI. Assumes nothing: these are
+-- definitions.
 use Prim.Native.Nat.{ℕ}
 use mathlib.Core.List.{List, [], _∷_}
 use Rattle.file_read.specs.declared.Contents.{Contents}

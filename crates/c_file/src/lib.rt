@@ -1,6 +1,9 @@
-// Read and write, as the entries for C and Rust tell them: capi exports these functions unchanged. Each finds the entry's answer and tells it, and leaves
-// the other lent slice alone where the answer slice is too short.
-// Stands on file_read (read), file_write (write) and c_answer (what is told and returned).
+// `read` and `write` for the C ABI: which figures each entry writes into the answer slice, and
+// which number it returns.
+// `capi` exports these functions unchanged. Where the answer slice is too short only the answer is
+// computed, and the other output is left as it was.
+// Uses `file_read` for `read`, `file_write` for `write`, and `c_answer` for what is written and
+// returned.
 use c_answer::short_number;
 use c_answer::tell;
 use c_answer::tell_figure;

@@ -1,4 +1,4 @@
--- The figures of find, as its entry for C and Rust tells them. Assumes nothing: this is a definition.
+-- The figures of find in the answer slice of the C ABI. Assumes nothing: this is a definition.
 use Prim.Native.Nat.{ℕ}
 use mathlib.Core.List.{List, [], _∷_}
 use Rattle.graph_find.specs.declared.Finding.{Finding}

@@ -1,5 +1,7 @@
-// Find, as the entry for C and Rust tells it: capi exports the function unchanged. Stands on graph_find (where the hop stands or would stand) and c_answer (what
-// is told and returned).
+// `find` for the C ABI: which figures it writes into the answer slice, and which number it returns.
+// `capi` exports the function unchanged.
+// Uses `graph_find` for where the hop stands or would stand, and `c_answer` for what is written and
+// returned.
 use c_answer::tell;
 use graph::Shape;
 use graph_find::Finding;

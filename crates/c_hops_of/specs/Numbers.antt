@@ -1,4 +1,5 @@
--- The figures of hops of a state, as its entry for C and Rust tells them. Assumes nothing: this is a definition.
+-- The figures of hops of a state in the answer slice of the C ABI. Assumes nothing: this is a
+-- definition.
 use Prim.Native.Nat.{ℕ}
 use mathlib.Core.List.{List, [], _∷_}
 use Rattle.graph_hops_of.specs.declared.Span.{Span}

@@ -1,5 +1,7 @@
-// Hops of a state, as the entry for C and Rust tells it: start and length of a part of the hop list that the caller has. capi exports the function
-// unchanged. Stands on graph_hops_of (where the part stands) and c_answer (what is told and returned).
+// The outgoing hops (transitions) of a state for the C ABI: start and length of a part of the hop
+// list that the caller has.
+// `capi` exports the function unchanged.
+// Uses `graph_hops_of` for where the part stands and `c_answer` for what is written and returned.
 use c_answer::tell;
 use graph::Shape;
 use graph::answers::accept;

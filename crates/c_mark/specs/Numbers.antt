@@ -1,4 +1,5 @@
--- The figures of the round question and of the faster marking, as their entries for C and Rust tell them. Assumes nothing: these are definitions.
+-- The figures of the round question and of the faster marking in the answer slice of the C ABI.
+-- Assumes nothing: these are definitions.
 use Prim.Native.Nat.{ℕ}
 use mathlib.Core.List.{List, [], _∷_}
 use Rattle.mark_entry_round.specs.declared.RoundAnswer.{RoundAnswer}

@@ -1,6 +1,10 @@
-// Check, both markings and the round question, as the entries for C and Rust tell them: capi exports these functions unchanged. Each finds the entry's
-// answer and tells it; a marking leaves the marks alone where the answer slice is too short.
-// Stands on graph_check (check), mark_entry (mark), mark_entry_fast (the faster marking), mark_entry_round (the round question) and c_answer (what is told and returned).
+// `check`, both markings and the round question for the C ABI: which figures each entry writes into
+// the answer slice, and which number it returns.
+// `capi` exports these functions unchanged. Where the answer slice is too short a marking computes
+// only the answer, and leaves the marks as they were.
+// Uses `graph_check` for `check`, `mark_entry` for `mark`, `mark_entry_fast` for the faster
+// marking, `mark_entry_round` for the round question, and `c_answer` for what is written and
+// returned.
 use c_answer::short_number;
 use c_answer::tell_answer;
 use c_answer::tell_figure;

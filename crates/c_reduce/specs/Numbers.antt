@@ -1,4 +1,4 @@
--- The figures of reduce, as its entry for C and Rust tells them. Assumes nothing: this is a definition.
+-- The figures of reduce in the answer slice of the C ABI. Assumes nothing: this is a definition.
 use Prim.Native.Nat.{ℕ}
 use mathlib.Core.List.{List, [], _∷_}
 use Rattle.reduce_entry.specs.declared.Reduction.{Reduction}

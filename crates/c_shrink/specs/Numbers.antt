@@ -1,4 +1,4 @@
--- The figures of shrink, as its entry for C and Rust tells them. Assumes nothing: this is a definition.
+-- The figures of shrink in the answer slice of the C ABI. Assumes nothing: this is a definition.
 use Prim.Native.Nat.{ℕ}
 use mathlib.Core.List.{List, [], _∷_}
 use Rattle.shrink_entry.specs.declared.Shrinking.{Shrinking}

@@ -1,4 +1,5 @@
--- The file of documents 01 and 02, as it is written. A bit is set only over what absence does not mean. Assumes nothing: these are definitions.
+-- The file of documents 01 and 02, as it is written (encoded). A bit is set only over what absence
+-- does not mean. Assumes nothing: these are definitions.
 use Prim.Native.Nat.{ℕ, _+_, _≤_}
 use mathlib.Core.Bool.{cond}
 use mathlib.Core.List.{List, [], _∷_, _++_}

@@ -1,6 +1,9 @@
-// The file of a graph, byte after byte: how long it is, and the file itself put to the front of an output. A bit is set, and a field put, only over
-// what absence does not mean. `file_write` calls it once the graph and its names have passed every check. It stands on file_numbers, on the hop field and on
-// the places of the fields.
+// The file of a graph, byte for byte: how long it is, and the file itself written to the front of
+// an output.
+// A bit is set, and a field written, only over what absence does not mean. `file_write` calls it
+// once the graph and its names have passed every check.
+// Uses `file_numbers` for numbers, `file_hops` and `file_lines` for the hop field and the lines,
+// and `file_fields` for the places of the fields.
 use base_outputs::put_bytes;
 use file_fields::INITIAL_PLACE;
 use file_fields::LABELS_PLACE;

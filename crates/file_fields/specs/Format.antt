@@ -1,5 +1,6 @@
--- The file of documents 01 and 02, as it is read: "All numbers are 16-bit, low byte first". Where a field ends is said as if the file went on, a missing
--- byte reading 0; row 11 is that the file is shorter than this. Assumes nothing: these are definitions.
+-- The file of documents 01 and 02, as it is read (decoded): "All numbers are 16-bit, low byte
+-- first". Where a field ends is said as if the file went on, a missing byte reading 0; row 11 is
+-- that the file is shorter than this. Assumes nothing: these are definitions.
 use Prim.Native.Nat.{ℕ, _+_, _-_, _/_, _%_}
 use mathlib.Core.Bool.{Bool, cond, _&&_, _||_}
 use mathlib.Core.List.{List}

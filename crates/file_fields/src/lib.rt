@@ -1,6 +1,9 @@
-// The fields of a file, where they lie and what they hold, as its own numbers say it: byte 0 with its bits, the state and label counts, the initial state, the
-// hop field, the block of names and the list of lines. `file_format` asks whether a file holds what its numbers say, `file_read` gives what they hold. A missing byte reads 0, so
-// all of this but what lies behind the hops can be asked of any bytes. It stands on file_numbers, file_lines, file_hops and file_names.
+// The layout of a file: where its fields lie and what they hold, as its own numbers say it.
+// The fields are byte 0 with its bits, the state and label counts, the initial state, the hop
+// field, the name block (label table) and the list of lines. `file_format` asks whether a file
+// holds what its numbers say, `file_read` returns what they hold. A missing byte reads 0, so all of
+// this but what lies behind the hops can be asked of any bytes.
+// Uses `file_numbers`, `file_lines`, `file_hops` and `file_names` for the single fields.
 use file_hops::hops::field_length;
 use file_lines::Lines;
 use file_lines::are_zero;

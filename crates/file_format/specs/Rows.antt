@@ -1,4 +1,5 @@
--- What a file is answered before its graph is looked at: rows 11 to 14. Assumes nothing: these are definitions.
+-- What a file is answered before its graph is checked: rows 11 to 14. Assumes nothing: these are
+-- definitions.
 use Prim.Native.Nat.{ℕ, _+_, _-_, _*_, _<_, _≤_}
 use mathlib.Core.Path.{_≡_}
 use mathlib.Core.Bool.{cond}

@@ -1,5 +1,8 @@
-// Whether a file holds just what its own numbers say: over-length, high bits, 11, left over, the rest of 12, 14, in this order, before anything is
-// asked of the graph. The answer is the first of `file_read`'s, and of what prints a file. It stands on the fields of a file and on the search for a bad name.
+// Whether a file is well formed, before its graph is checked: whether it holds just what its own
+// numbers say.
+// The checks come in this order: over-length, high bits, 11 (too short), left over, the rest of 12
+// (a bit over a field that holds what absence means), 14 (a bad name). `file_read` asks this first.
+// Uses `file_fields` for the layout and `file_names` for the search for a bad name.
 use file_fields::INITIAL_PLACE;
 use file_fields::idle_bit;
 use file_fields::line_bytes_in;

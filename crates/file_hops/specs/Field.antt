@@ -1,5 +1,6 @@
--- The hop field of document 01: "the hop count with six bytes a hop". The field begins at a place `at` of the bytes, with its count; its hops are counted from
--- 0. A hop's line does not stand here but in the list of lines. Assumes nothing: these are definitions.
+-- The hop field of document 01: "the hop count with six bytes a hop". The field begins at a place
+-- `at` of the bytes, with its count; its hops are counted from 0. A hop's line does not stand here
+-- but in the list of lines. Assumes nothing: these are definitions.
 use Prim.Native.Nat.{ℕ, zero, suc, _+_, _*_, _<_, _≤_}
 use mathlib.Core.List.{List, [], _∷_, _++_}
 use lib.ListN.{length}

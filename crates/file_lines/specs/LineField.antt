@@ -1,5 +1,6 @@
--- The list of lines of document 02: "In the file, bit 3 stands for a list of lines, one number a hop, after the names." The list begins at a place `at` of the
--- bytes, in the order of the hops, and has no count of its own. Assumes nothing: these are definitions.
+-- The list of lines of document 02: "In the file, bit 3 stands for a list of lines, one number a
+-- hop, after the names." The list begins at a place `at` of the bytes, in the order of the hops,
+-- and has no count of its own. Assumes nothing: these are definitions.
 use Prim.Native.Nat.{ℕ, _+_, _*_, _≤_}
 use mathlib.Core.Path.{_≡_}
 use mathlib.Core.Bool.{Bool, true, not, cond}

@@ -1,5 +1,7 @@
-// The list of lines of a file: "a list of lines, one number a hop, after the names". How long it is, the line of a hop in it, whether its lines are all 0, and
-// the lines of a hop list put into a file. What a line looks like in a file is known here and nowhere else. It stands on graph's hops and on file_numbers.
+// The source lines in a file, "a list of lines, one number a hop, after the names": how long the
+// list is, the line of a hop, whether all lines are 0, and the lines of a hop list as bytes.
+// Only this crate knows what a line looks like in a file.
+// Uses `graph` for hops and `file_numbers` for numbers.
 use file_numbers::number_in;
 use file_numbers::put_number;
 use graph::hops::hop_count;

@@ -1,5 +1,6 @@
--- Two names among the bytes of a block, each with its length byte in front: when they are the same, and the order by which a search halves. Assumes nothing:
--- these are definitions.
+-- Two names among the bytes of a name block (label table), each with its length byte in front: when
+-- they are the same, and the order by which the binary search goes. Assumes nothing: these are
+-- definitions.
 use Prim.Native.Nat.{ℕ, _+_, _*_, _<_, _≤_}
 use mathlib.Core.Path.{_≡_}
 use mathlib.Core.Bool.{Bool, true, _&&_}

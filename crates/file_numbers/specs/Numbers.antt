@@ -1,4 +1,5 @@
--- Numbers among the bytes of a file: "All numbers are 16-bit, low byte first". A missing byte reads 0. Assumes nothing: these are definitions.
+-- Numbers among the bytes of a file (little-endian): "All numbers are 16-bit, low byte first". A
+-- missing byte reads 0. Assumes nothing: these are definitions.
 use Prim.Native.Nat.{ℕ, _+_, _*_, _/_, _%_}
 use mathlib.Core.List.{List, [], _∷_}
 use lib.ListN.{getD}

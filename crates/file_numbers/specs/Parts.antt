@@ -1,4 +1,5 @@
--- Parts of bytes one after the other, as the hops and the lines of a file stand. Assumes nothing: these are definitions.
+-- The concatenation of parts of bytes, as the hops and the lines of a file stand. Assumes nothing:
+-- these are definitions.
 use Prim.Native.Nat.{ℕ, zero, suc}
 use mathlib.Core.List.{List, [], _++_}
 

@@ -1,5 +1,8 @@
-// "All numbers are 16-bit, low byte first": a byte and a number among the bytes of a file, read and put. For the fields, the hop field and the names of a
-// file, and for what writes one. A missing byte reads 0, so that what a file says can be asked before its length is known. It stands on base_outputs.
+// 16-bit little-endian numbers among the bytes of a file: a byte or a number read, and a number
+// written ("All numbers are 16-bit, low byte first").
+// A missing byte reads 0, so that what a file says can be asked before its length is known. It
+// serves the fields, the hop field and the names of a file, and what writes one.
+// Uses `base_outputs` for what is written.
 ghost use mathlib.Core.Path.{_≡_};
 ghost use Prim.Native.Nat.{_+_, _*_, _≤_};
 ghost use lib.ListN.{length, getD};

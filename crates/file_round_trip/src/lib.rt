@@ -1,4 +1,6 @@
-// The two round trips of document 01, as functions: "A file read and written again has the same bytes; a graph written and read again is the same graph
-// with the same block." Their contracts are the two sentences; the laws that carry them, and the longest legal file, are in proofs/. It stands on
-// `file_read` and `file_write`.
+// The two round trips of document 01, as functions: "A file read and written again has the same
+// bytes; a graph written and read again is the same graph with the same block."
+// Their contracts are the two sentences; the laws behind them, and the longest legal file, are in
+// proofs/.
+// Uses `file_read` and `file_write`.
 pub mod round_trip; // round_trip.rt: a file read and written again, and a graph written and read again

@@ -1,4 +1,5 @@
-// The two round trips over the entries: a file read and written again, and a graph written and read again.
+// The two round trips over the entries: a file read and written again, and a graph written and read
+// again.
 use file_read::Contents;
 use file_read::reading::read;
 use file_read::reading::refusal;

@@ -1,4 +1,5 @@
--- The limits of document 01, and answers: the accepted one, refusals, and which of two speaks. Assumes nothing: these are definitions.
+-- The limits of document 01, and answers: the accepted one, refusals, and which of two is returned.
+-- Assumes nothing: these are definitions.
 use Prim.Native.Nat.{ℕ}
 use mathlib.Core.Bool.{cond}
 use lib.Dec.{eqb, leb}

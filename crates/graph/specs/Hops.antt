@@ -1,6 +1,7 @@
--- The hop list of documents 01 and 02: "Flat lists .. now hold four numbers a hop", seen by places that count hops from 0.
--- Hops are looked at through this file, the accessors and their laws; elsewhere four stands only where the documents say it: in the room that an output has.
--- Assumes nothing: these are definitions.
+-- The hop list (transition list) of documents 01 and 02: "Flat lists .. now hold four numbers a
+-- hop", seen by places that count hops from 0. Hops are looked at through this file, the accessors
+-- and their laws; elsewhere four stands only where the documents say it: in the length that an
+-- output needs. Assumes nothing: these are definitions.
 use Prim.Native.Nat.{ℕ, zero, suc, _+_, _-_, _*_, _/_, _%_}
 use mathlib.Core.Path.{_≡_}
 use mathlib.Core.Bool.{Bool, _&&_}

@@ -1,4 +1,5 @@
--- "The map gives each old state the new number of its representative": a map is a list, one entry a state. Assumes nothing: this is a definition.
+-- "The map gives each old state the new number of its representative": a map is a list, one entry a
+-- state. Assumes nothing: this is a definition.
 use Prim.Native.Nat.{ℕ}
 use mathlib.Core.List.{List}
 use lib.ListN.{getD}

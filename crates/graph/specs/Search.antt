@@ -1,4 +1,5 @@
--- The place of a hop in an ascending list, or the place where it would stand. Assumes nothing: these are definitions.
+-- The place of a hop (transition) in an ascending list, or the place where it would stand. Assumes
+-- nothing: these are definitions.
 use Prim.Native.Nat.{ℕ, _+_, _<_, _≤_}
 use mathlib.Core.Path.{_≡_}
 use mathlib.Core.Bool.{Bool, true, false, not, _&&_}

@@ -1,5 +1,5 @@
--- A hop's sum, by which hops are compared. The meaning is the order by from, label and to (Order); the law that joins the two is proofs/Sums. Assumes
--- nothing: these are definitions.
+-- A hop's sum (a sort key), by which hops are compared. The meaning is the order by from, label and
+-- to (Order); the law that joins the two is proofs/Sums. Assumes nothing: these are definitions.
 use Prim.Native.Nat.{ℕ, _+_, _*_, _<_}
 use Rattle.graph.specs.declared.Hop.{Hop}
 

@@ -1,4 +1,6 @@
-// What stands at a place of a flat hop list, and where a hop's numbers begin: the code above asks here.
+// The accessors of the flat hop list: the hop at a place, its numbers, and where these begin in the
+// list.
+// Other code reads and writes hops through these.
 use super::Hop;
 use super::Label;
 use super::NUMBERS_A_HOP;

@@ -1,6 +1,10 @@
-// Mode graphs as flat hop lists: their types and limits, what stands at a place, the order of hops, the one search, and answers. Everything above looks
-// at hops by the accessors of hops.rt and by places that count hops, so that how a hop lies in the list is said here alone. Two hops that have the same
-// from, label and to are alike (specs/Hops): order, search and meaning look at no more of a hop.
+// Graphs (labelled transition systems) as flat lists of hops (transitions): their types and limits,
+// the hop at a place, the order of hops, and the search for a hop.
+// Other crates read hops through the accessors of hops.rt, by places that count hops, so only this
+// crate knows how a hop is laid out in the list. Two hops with the same from, label and to are
+// alike (specs/Hops): order, search and meaning look at no more of a hop. Answers (accepted, or
+// refused with number, table and place) are here too.
+// Uses `base_bounded` for statements over the places of a list.
 pub mod hops; // hops.rt: what stands at a place of a flat list
 pub mod map; // map.rt: a map at a state
 pub mod order; // order.rt: the one comparison of hops

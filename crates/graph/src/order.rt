@@ -1,5 +1,7 @@
-// The one comparison of hops: each hop has one sum, and hops are compared by their sums, once. What that means is said by from, label and to
-// (specs/Order, specs/Hops): which hop comes first, and which are alike.
+// The comparison of hops: each hop has one sum (a 64-bit key), and two hops are compared by one
+// comparison of their sums.
+// What that means is defined by from, label and to (specs/Order, specs/Hops): which hop comes
+// first, and which are alike.
 use super::Hop;
 ghost use mathlib.Core.Path.{_≡_};
 ghost use lib.Dec.{ltb};

@@ -1,6 +1,8 @@
-// The one search: where a hop stands in an ascending list or would stand, and by it the places of a state's hops. Whether a graph has a hop, and where, is
-// asked here and nowhere else. The place is found by halving or, for hops sought one after the other, by walking on; what is told of it is the same. It
-// serves either graph, so a state is a bare number here.
+// The search in an ascending hop list: where a hop stands or would stand, and by it the places of a
+// state's hops.
+// All code that looks for a given hop asks here. The place is found by binary search or, for hops
+// sought one after the other, by a scan ahead; the answer is the same. It serves either graph, so a
+// state is a bare number here.
 use super::Found;
 use super::Hop;
 use super::hops::hop_at;

@@ -1,4 +1,5 @@
--- What document 01 admits as a graph, and the answers 0 to 4. Assumes nothing: these are definitions.
+-- What document 01 admits as a graph (well-formedness), and the answers 0 to 4. Assumes nothing:
+-- these are definitions.
 use Prim.Native.Nat.{ℕ, _-_, _%_, _<_, _≤_}
 use mathlib.Core.Path.{_≡_}
 use mathlib.Core.Bool.{Bool, cond, not, _&&_, _||_}

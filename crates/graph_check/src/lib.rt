@@ -1,6 +1,9 @@
-// The entry `check`: whether a graph is one that document 01 admits, and if not, by which row and where. Every other entry asks here first, and what it
-// learns is `Admitted` (specs/Check): the counts are within their limits, every hop is in range, and the list ascends. A pass over the list for row 3 and
-// one for row 4, on the accessors and the order of graph.
+// The entry `check`: whether a graph is well formed (counts within their limits, initial state and
+// hops in range, hop list strictly ascending), and if not, which check fails and where.
+// The checks are rows 1 to 4 of document 01. A graph that passes is `Admitted` (specs/Check); every
+// entry that takes a graph checks it first. One linear pass over the list for row 3 (range), one
+// for row 4 (order).
+// Uses `graph` for the accessors, the order of hops and answers.
 use graph::Answer;
 use graph::MOST_HOPS;
 use graph::MOST_LABELS;

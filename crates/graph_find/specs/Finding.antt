@@ -1,5 +1,5 @@
--- Find, of document 02: "one search that tells whether a graph has a given hop should also return its place, or where it would stand".
--- Assumes nothing: these are definitions.
+-- Find, of document 02: "one search that tells whether a graph has a given hop should also return
+-- its place, or where it would stand". Assumes nothing: these are definitions.
 use Prim.Native.Nat.{ℕ, _<_, _≤_}
 use mathlib.Core.Path.{_≡_}
 use mathlib.Core.Bool.{true, false, cond, _&&_}

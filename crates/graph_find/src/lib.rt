@@ -1,6 +1,9 @@
-// Find: does a graph have a given hop, and where does it stand, or would it? Any 32-bit numbers may be asked for: a hop whose numbers are out of range is one
-// that the graph hasn't, and it too has a place, behind the hops that come before it. The entry checks the graph first.
-// It stands on `check` of graph_check and the one search of graph.
+// The entry `find`: whether a graph has a given hop (transition), and at which place it stands or
+// would stand.
+// The graph is checked, then the hop is found by binary search. Any 32-bit numbers may be asked
+// for: a hop with a number out of range is not in the graph, and its place is behind the hops that
+// come before it.
+// Uses `graph_check` for `check` and `graph` for the search.
 use graph::Found;
 use graph::Shape;
 use graph::hops::hop_of;

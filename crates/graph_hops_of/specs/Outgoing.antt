@@ -1,5 +1,6 @@
--- Hops of a state: "For a side, 1 or 2, and a state, the outgoing hops are shown as a part of that table itself. The part is empty for another
--- side, an absent state, or if either table breaks checks 1 to 4." Assumes nothing: these are definitions.
+-- Hops (outgoing transitions) of a state: "For a side, 1 or 2, and a state, the outgoing hops are
+-- shown as a part of that table itself. The part is empty for another side, an absent state, or if
+-- either table breaks checks 1 to 4." Assumes nothing: these are definitions.
 use Prim.Native.Nat.{ℕ, _-_}
 use mathlib.Core.Bool.{Bool, cond, _&&_}
 use mathlib.Core.List.{List, []}

@@ -1,6 +1,9 @@
-// Hops of a state: for a side and a state of two lent tables, the outgoing hops as a part of that table itself (`hops_of`), or by numbers, where in the
-// table that part stands (`span_of`). Any side, state and tables may be asked for: where nothing is to be shown the part is empty. It stands on `check` of
-// graph_check and the one search of graph; Rust and C callers look at hops by it without a copy.
+// The entries for the outgoing hops (transitions) of a state of either of two graphs: as a part of
+// the caller's own list (`hops_of`), or as start and length of that part (`span_of`).
+// Any side, state and lists may be given; the part is empty for another side, an absent state, or
+// if either graph fails `check`. Two binary searches find its ends. Rust and C callers read hops by
+// it without a copy.
+// Uses `graph_check` for `check` and `graph` for the search.
 use graph::Shape;
 use graph::hops::number_place;
 use graph::hops::part;

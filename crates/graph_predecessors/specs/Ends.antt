@@ -1,4 +1,5 @@
--- The table of places by where their hops end: the hops into a state stand together in it. Assumes nothing: these are definitions.
+-- The predecessor index: the table of places by where their hops end, in which the hops into a
+-- state stand together. Assumes nothing: these are definitions.
 use Prim.Native.Nat.{ℕ, _<_, _≤_}
 use mathlib.Core.Path.{_≡_}
 use mathlib.Core.List.{List}

@@ -1,6 +1,9 @@
-// The table of places by where their hops end: the hops into a state, as the table of first places has those out of it. It is counted and filled once: how
-// many hops end in each state gives where those into a state begin, and then each place is put into its slot, in list order. Marking in rounds asks
-// it for the hops into the two ends of one that fell. It stands on graph (hops) and graph_successors (what is needed of a hop list).
+// The predecessor index of a graph: for each state the places of the hops (transitions) that end in
+// it.
+// It is built once by a counting sort on the target state: how many hops end in each state says
+// where those into a state begin, and then each place goes into its slot, in list order. The
+// worklist marking asks it for the hops into the two ends of a hop that fell (lost its mark).
+// Uses `graph` for hops and `graph_successors` for what is required of a hop list.
 use graph::MOST_HOPS;
 use graph::hops::hop_count;
 use graph::hops::to_at;

@@ -1,4 +1,5 @@
--- The table of first places, by which a state's hops are found. Assumes nothing: these are definitions.
+-- The successor index: the table of first places, by which a state's hops are found. Assumes
+-- nothing: these are definitions.
 use Prim.Native.Nat.{ℕ, _<_, _≤_}
 use mathlib.Core.Path.{_≡_}
 use mathlib.Core.List.{List}

@@ -1,7 +1,10 @@
-// The table of first places: for each state the place where its hops begin, found once in a pass over the list. By it a hop is searched for among
-// the hops of its own state only, and a state's hops with one label are the places from one number up to another; its silent hops are those labelled
-// 0. It stands on the one search of graph, for rings, marking, the question, the audit and the short graph. It serves either graph, so a state is a
-// bare number here.
+// The successor index of a graph: for each state the place where its outgoing hops (transitions)
+// begin in the ascending hop list.
+// One linear pass builds the table of first places. With it a hop is found by binary search among
+// the hops of its own state only, and a state's hops with one label are a range of places; its
+// silent (tau) hops are those labelled 0. It serves rings, marking, the round question and the
+// audit, and either graph, so a state is a bare number here.
+// Uses `graph` for hops and the search, `graph_check` for what an admitted graph is.
 use graph::Found;
 use graph::Hop;
 use graph::Label;

@@ -1,4 +1,5 @@
--- Hop lists that differ in their source lines alone: "Order and equality go by the first three" numbers of a hop. Assumes nothing: this is a definition.
+-- Hop lists that differ in their source lines alone: "Order and equality go by the first three"
+-- numbers of a hop. Assumes nothing: this is a definition.
 use Prim.Native.Nat.{ℕ}
 use mathlib.Core.Path.{_≡_}
 use mathlib.Core.List.{List}

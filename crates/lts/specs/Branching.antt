@@ -1,6 +1,8 @@
--- Branching bisimulations in the theory's form: relations on any numbers, between any two hop relations. Document 01's Definition 2.4 is
--- `audit_entry: BranchingBisimulation`, of two graphs and pairs of their states; `audit_entry: branching-iff` says that it is this one for the graphs'
--- hops. Assumes nothing: these are definitions.
+-- Branching bisimulation in the theory's form: relations on any numbers, between any two hop
+-- relations (labelled transition systems). Document 01's Definition 2.4 is
+-- `audit_entry: BranchingBisimulation`, of two graphs and pairs of their states;
+-- `audit_entry: branching-iff` says that it is this one for the graphs' hops. Assumes nothing:
+-- these are definitions.
 use Prim.Native.Nat.{ℕ}
 use mathlib.Core.Path.{_≡_}
 use mathlib.Core.Logic.{_⊎_}

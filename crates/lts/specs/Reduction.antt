@@ -1,4 +1,5 @@
--- Reduction by silent confluence, and the maps between graphs that keep branching bisimilarity. Assumes nothing: these are definitions.
+-- Reduction by tau-confluence, and the maps between graphs that keep branching bisimilarity.
+-- Assumes nothing: these are definitions.
 use Prim.Native.Nat.{ℕ, _<_}
 use mathlib.Core.Path.{_≡_}
 use mathlib.Core.Logic.{_⊎_}

@@ -1,5 +1,5 @@
--- The senses of confluence of a set U of silent hops (RR-7000): R1, R2, R3, and the weak one, R8, last: `Weak`. The silent label is 0.
--- Assumes nothing: these are definitions.
+-- The senses (notions) of tau-confluence of a set U of silent hops (RR-7000): R1, R2, R3, and the
+-- weak one, R8, last: `Weak`. The silent label (tau) is 0. Assumes nothing: these are definitions.
 use Prim.Native.Nat.{ℕ}
 use mathlib.Core.Path.{_≡_}
 use mathlib.Core.Logic.{_⊎_}

@@ -1,5 +1,6 @@
--- Closures of a relation on states: `Star R`, zero or more steps; `Joined R`, zero or more steps, each taken either way.
--- Assumes nothing: these are definitions.
+-- Closures of a relation on states: `Star R`, the reflexive transitive closure (zero or more
+-- steps); `Joined R`, the equivalence closure (zero or more steps, each taken either way). Assumes
+-- nothing: these are definitions.
 use Prim.Native.Nat.{ℕ}
 
 pub data Star (R : ℕ → ℕ → Type 0) : ℕ → ℕ → Type 0 where

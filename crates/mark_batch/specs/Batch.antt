@@ -1,4 +1,5 @@
--- Marking by the weaker senses: what is known of marks once hops have been tried against them. Assumes nothing: these are definitions.
+-- Marking by the weaker senses: what is known of marks once a batch of hops has been tried against
+-- them. Assumes nothing: these are definitions.
 use Prim.Native.Nat.{ℕ, _<_, _≤_}
 use mathlib.Core.Path.{_≡_}
 use mathlib.Core.Bool.{true}

@@ -1,7 +1,11 @@
-// One batch of hops tried together, for the weaker senses: at most 64 hops, one bit each, tried against every marked hop of their states. Who closes the
-// batch's ends, who leads there, who answers by a hop, who leads to these (`mark_batch_spread`, `mark_batch_tables`), and which marked hops are not answered then (`mark_batch_filter`).
-// Only here does code ask which sense it is. A mark that goes takes no hop of the marked set, since what is dropped does not close with a larger set. It stands
-// on `mark_senses` (what is marked) and `mark_sweeps` (what marks keep while they fall, for any condition).
+// One batch of the marking by the weaker senses: at most 64 hops (transitions), one bit each, are
+// tried against every marked hop of their states, and the marked hops that fail lose their marks.
+// Bitset tables hold which states close the batch's ends, which lead there, which answer by a hop,
+// and which lead to these. Of the marking by batches only this crate looks at the sense. A mark
+// that goes is not of the marked set, since its hop fails even with a larger set. It also records
+// which states the batch touched, as a hint of which nothing is proved.
+// Uses `mark_senses` for what is marked, `mark_sweeps` for what marks keep under removal, for any
+// condition, and `mark_batch_spread`, `mark_batch_tables` and `mark_batch_filter` for the steps.
 use base_bitset::WORD_BITS;
 use graph::MOST_HOPS;
 use graph::MOST_LABELS;

@@ -1,4 +1,5 @@
--- When a marked hop is answered, and what judging marks leaves. Assumes nothing: these are definitions.
+-- When a marked hop is answered by two bitset tables, and which marks the filter leaves. Assumes
+-- nothing: these are definitions.
 use Prim.Native.Nat.{ℕ, _+_, _<_, _≤_}
 use mathlib.Core.Path.{_≡_}
 use mathlib.Core.Bool.{Bool, not, cond, _&&_, _||_}

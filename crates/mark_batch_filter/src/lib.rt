@@ -1,6 +1,9 @@
-// Judging marks by two tables of words: a marked hop keeps its mark if every bit of the state that it leaves, in the one table, is at the state that it leads
-// to, in the other. In the weaker senses a bit is a hop tried, `froms` has it where that hop begins, and `answers` where it is answered (`mark_batch_tables`).
-// It stands on `base_bitset` and looks at hops by graph; what the bits mean is no matter of this crate.
+// Which marked hops keep their marks by two bitset tables: those where every bit of the hop's start
+// in one table is a bit of its end in the other.
+// In the weaker senses a bit is a hop tried: `froms` has it at the state where that hop begins,
+// `answers` at those where it is answered (`mark_batch_tables`). What the bits mean does not matter
+// here.
+// Uses `base_bitset` for words as sets and `graph` for hops.
 use base_bitset::holds;
 use graph::MOST_STATES;
 use graph::hops::hop_at;

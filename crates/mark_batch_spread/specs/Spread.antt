@@ -1,4 +1,5 @@
--- What the states of a table of words get from one another along a set U of hops. Assumes nothing: these are definitions.
+-- Propagation of bitsets: which bits the states of a table of words get from one another along a
+-- set U of hops. Assumes nothing: these are definitions.
 use Prim.Native.Nat.{ℕ}
 use mathlib.Core.Path.{_≡_}
 use mathlib.Core.Bool.{true}

@@ -1,7 +1,12 @@
-// What states get from one another along marked hops: a table has one word a state, and each bit of a word is a question of its own. A state takes all
-// that the states it leads to have (`gather`), or gives what it has to those that a marked hop leads to (`pass_once`), or to all that it leads to
-// (`pass_on`). One pass over the line of silent hops (`walk_topological_order`) does each: the order sees to it that what is given is whole by then, or still the old.
-// It stands on `base_bitset` (words as sets), `walk_topological_order` (the line) and `mark_confluence` (the set that marks are), and decides nothing of a hop.
+// Bitsets propagated along marked silent (tau) hops: a state gets the bits of the states that it
+// leads to, or of those that lead to it.
+// A table has one 64-bit word a state, and each bit is a question of its own. `gather` takes to a
+// state what all the states have that it leads to; `pass_once` passes bits along one marked hop,
+// `pass_on` along walks of any length. Each is one pass over the silent hops in topological order,
+// forwards or backwards: by the order, the bits passed on are complete by then, or still the old
+// ones.
+// Uses `base_bitset` for words as sets, `walk_topological_order` for the order, `mark_confluence`
+// for the set that marks are. It decides nothing about a hop.
 use base_bitset::sized;
 use graph::MOST_HOPS;
 use graph::MOST_STATES;

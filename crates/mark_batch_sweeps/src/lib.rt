@@ -1,7 +1,12 @@
-// Marking by the weaker senses of RR-7000, behind the refusals. Marks start at 1 for every silent hop, and sweeps over all batches of hops go on until one
-// takes nothing (`batches`). Between two sweeps only those batches are run again that what fell can have touched; which these are is a guess that nothing
-// rests on, since the last sweep runs all. When that takes nothing the marks are the marked set's, in whatever order the others fell.
-// It stands on `mark_senses` (what is marked), `mark_sweeps` (what marks keep while they fall, for any condition) and `walk_topological_order` (the order of silent hops).
+// The marked set of a weaker sense of RR-7000 (R2, R3 or R8) by sweeps over batches of 64 hops, for
+// a checked graph.
+// Marks start at 1 for every silent (tau) hop, and sweeps over all batches (`mark_batch`) go on
+// until one takes no mark. Between two sweeps only those batches run again that a hop which lost
+// its mark can have touched; this is a heuristic that no proof rests on, since the last sweep runs
+// all. When it takes nothing the marks are those of the marked set, in whatever order the others
+// went.
+// Uses `mark_senses` for what is marked, `mark_sweeps` for what marks keep under removal, for any
+// condition, `mark_batch` for one batch, and `walk_topological_order` for the order of silent hops.
 use base_bitset::WORD_BITS;
 use base_bitset::bit_of;
 use graph::MOST_HOPS;

@@ -1,4 +1,5 @@
--- A batch of hops tried together: bit b of a word stands for the hop at place base + b, for b below m. Assumes nothing: these are definitions.
+-- A batch of hops tried together, as bitsets: bit b of a word stands for the hop at place base + b,
+-- for b below m. Assumes nothing: these are definitions.
 use Prim.Native.Nat.{ℕ, _+_}
 use mathlib.Core.Path.{_≡_}
 use mathlib.Core.Bool.{true, _&&_}

@@ -1,7 +1,10 @@
-// A batch of hops tried together, for the weaker senses: bit b of a word stands for the hop at place base + b, so that what is asked of 64 hops tried is
-// asked once. Tables hold one word a state or a label: where the hops tried begin, end and how they are labelled (`put_froms`, `put_ends`, `put_labels`), who
-// answers them (`put_answers`). How bits go along marked hops in between, and which marks go by what the tables then have, is no matter of this crate.
-// It stands on `base_bitset` and looks at hops by graph.
+// Bitset tables of up to 64 hops (transitions) tried together: at which states they begin and end,
+// which labels they have, and which states answer them.
+// For the weaker senses. Bit b of a word stands for the hop at place base + b, so that one
+// operation serves 64 hops tried. The tables have one word a state or a label: `put_froms`,
+// `put_ends` and `put_labels`, and `put_answers` for the states that answer. How bits are
+// propagated along marked hops in between, and which marks are then taken, does not matter here.
+// Uses `base_bitset` for words as sets and `graph` for hops.
 use base_bitset::bit_of;
 use base_bitset::sized;
 use graph::MOST_LABELS;

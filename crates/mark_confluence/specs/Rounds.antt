@@ -1,4 +1,6 @@
--- Confluent sets and the rounds of marking (document 01 "Marking"; RR-7000's equations X, Y, Z). Assumes nothing: these are definitions.
+-- Confluent sets and the rounds of marking (document 01 "Marking"; RR-7000's equations X, Y, Z):
+-- strong tau-confluence, and the marked set as its greatest fixpoint. Assumes nothing: these are
+-- definitions.
 use Prim.Native.Nat.{ℕ}
 use mathlib.Core.Path.{_≡_}
 use mathlib.Core.Bool.{Bool, true, not, _&&_, _||_}

@@ -1,7 +1,12 @@
-// Confluent sets: document 01's condition, the equations X, Y and Z, the rounds, and the marked set, which is the greatest confluent set and the
-// greatest solution of the equations. The rounds come from `base_fixpoint`, which knows nothing of the condition; here it is applied to `closes` once.
-// Beside them stands the set that a list of marks is, and what marks begin with. `closes` decides the condition, `mark_sweeps` and `mark_worklist_loop` find the set,
-// `mark_equations` asks the equations.
+// The marked set: the greatest tau-confluent set of silent (tau) hops in the strong sense (R1),
+// which is the greatest solution of RR-7000's equations X, Y and Z.
+// Document 01's condition, the equations and the rounds are defined here; the rounds are those of
+// `base_fixpoint`, applied to `closes`. The set that a list of marks stands for, and the marks that
+// marking begins with, are here too. `mark_diamond` decides the condition for one hop,
+// `mark_sweeps` and `mark_worklist_loop` compute the set, `mark_equations` answers the equations
+// for one hop.
+// Uses `base_fixpoint` for the greatest fixpoint, `graph` for hops, `base_outputs` for what is
+// written.
 use graph::hops::hop_count;
 use graph::hops::label_at;
 ghost use mathlib.Core.Path.{_≡_};

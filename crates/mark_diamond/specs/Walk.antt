@@ -1,4 +1,5 @@
--- Where a walk over a state's hops, labels ascending, has come to. Assumes nothing: these are definitions.
+-- Where a pass over a state's hops, labels ascending, has come to. Assumes nothing: these are
+-- definitions.
 use Prim.Native.Nat.{ℕ, _<_, _≤_}
 use mathlib.Core.List.{List}
 use Rattle.graph.specs.Hops.{label}

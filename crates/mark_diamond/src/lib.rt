@@ -1,9 +1,12 @@
-// Whether a silent hop closes with the set that a list of marks is: document 01's condition, decided. `mark_sweeps` asks it of each marked hop and `mark_worklist_loop` in its
-// first round; `mark_diamond_retest` asks one trial, where only some of the hops need be tried.
-// Each hop of the one end is tried once. The hops of both ends are walked side by side, in the order of the list: the like hop of the other end is searched
-// for from the place of the one before on. Where it is there, there is no more to ask, and else `mark_diamond_search` is asked for one that closes.
-// It stands on `mark_confluence` (what closing is, and the set that marks are), `graph` (hops and the search), `graph_successors` (where a state's hops begin),
-// `mark_diamond_merge` (a state's hops from a place on) and `mark_diamond_search` (what one trial asks).
+// Whether a silent (tau) hop s1 to s2 satisfies the confluence condition of document 01 with the
+// set that a list of marks is: whether each hop of s1 is answered from s2.
+// Each hop of s1 is tried once. The hops of s1 and of s2 are merged in list order: where s2 has the
+// like hop no more is asked, else `mark_diamond_search` looks for one that closes the diamond.
+// `mark_sweeps` asks it of each marked hop, `mark_worklist_round` of each silent hop in the first
+// round; `mark_diamond_retest` uses the trial of one hop (`is_answered`).
+// Uses `mark_confluence` for the condition and the set that marks are, `graph` for hops and the
+// search, `graph_successors` for the hops of a state, `mark_diamond_merge` for a state's hops from
+// a place on, and `mark_diamond_search` for one diamond.
 use graph::Label;
 use graph::OldState;
 use graph::hops::from_at;

@@ -1,7 +1,10 @@
-// Whether a hop labelled a to s3 is answered by a hop of s2, with the set that a list of marks is, by a walk along both rows: s2's hops of that label and
-// s3's silent hops both ascend by their ends, so the two are walked side by side: each silent hop is searched for from where the search before it came to.
-// `mark_diamond_search` takes this way where neither is far shorter than the other.
-// It stands on `mark_confluence` (what closing is, and the set that marks are), `graph` (hops and the search) and `graph_successors` (where a state's hops begin).
+// Whether one confluence diamond closes, by a merge of two sorted lists: whether s2 has a hop
+// labelled a to s3 or to the end of a marked silent (tau) hop of s3.
+// The hops of s2 with that label and the silent hops of s3 both ascend by their ends, so both are
+// walked side by side: each search goes on from where the one before it ended.
+// `mark_diamond_search` takes this way where neither list is far shorter than the other.
+// Uses `mark_confluence` for the condition and the set that marks are, `graph` for hops and the
+// search, `graph_successors` for the hops of a state.
 use graph::Found;
 use graph::Label;
 use graph::OldState;

@@ -1,7 +1,12 @@
-// Whether a silent hop that closed before still closes with the set that a list of marks is: the test of a later round of marking. Of the hops from its start
-// only those to shed states, which lost a silent hop in the round before, are tried again; the others are answered as they were.
-// It stands on `mark_confluence` (what closing is, and the set that marks are), `graph` (hops and their order), `graph_successors` (where a state's hops begin, and the
-// search among them), `mark_diamond_merge` (the hops of a state from a label on), `mark_diamond_search` (whether a state has a hop) and `mark_diamond` (one trial).
+// Whether a silent (tau) hop that satisfied the confluence condition in the round before still
+// does: the test of a later round of the worklist marking.
+// Of the hops from its start only those to a state that a hop which fell in the round before leaves
+// are tried again; the others are answered as they were. The like hop and the first hop of a label
+// are found by binary search.
+// Uses `mark_confluence` for the condition and the set that marks are, `graph` for hops and their
+// order, `graph_successors` for the hops of a state and the search among them, `mark_diamond_merge`
+// for a state's hops from a label on, `mark_diamond_search` for whether a state has a hop, and
+// `mark_diamond` for the trial of one hop.
 use graph::MOST_STATES;
 use graph::OldState;
 use graph::hops::from_at;

@@ -1,8 +1,11 @@
-// Whether a hop labelled a to s3 is answered by a hop of s2, with the set that a list of marks is: what one trial of document 01's condition asks. Three ways
-// lead to it: where s2's hops of that label are far fewer than s3's silent hops, or far more, each of the few is searched for among the many, and else
-// `mark_diamond_merge` walks both side by side. `mark_diamond` asks it of each hop that is tried.
-// It stands on `mark_confluence` (what closing is, and the set that marks are), `graph` (hops and the search), `graph_successors` (where a state's hops begin) and
-// `mark_diamond_merge` (a state's hops from a place on, which of two such rows is far shorter, and the walk side by side).
+// Whether one confluence diamond closes: whether s2 has a hop labelled a to s3 or to the end of a
+// marked silent (tau) hop of s3.
+// Three ways: where s2's hops of that label are far fewer than s3's silent hops, or far more, each
+// of the few is looked up among the many by binary search; else `mark_diamond_merge` merges both.
+// `mark_diamond` asks it for a hop tried where s2 has no like hop.
+// Uses `mark_confluence` for the condition and the set that marks are, `graph` for hops and the
+// search, `graph_successors` for the hops of a state, and `mark_diamond_merge` for a state's hops
+// from a place on, for which of two lists is far shorter, and for the merge.
 use graph::Found;
 use graph::Label;
 use graph::OldState;

@@ -1,4 +1,5 @@
-// The entry `mark`: the marks of a graph without rings in the sense asked, or the row that refuses it.
+// The entry `mark`: the marks of a graph without rings in the sense asked, or the row that refuses
+// it.
 use graph::Answer;
 use graph::Shape;
 use graph::answers::accept;

@@ -1,5 +1,6 @@
--- The entry `mark_fast`: "Its marks equal the first R1 marking's on all inputs, refusals too; it also returns the number of tests". The answer and the output
--- are those of `mark` in sense 1, and with a refusal the number is 0. Assumes nothing: this is a definition.
+-- The entry `mark_fast`: "Its marks equal the first R1 marking's on all inputs, refusals too; it
+-- also returns the number of tests". The answer and the output are those of `mark` in sense 1, and
+-- with a refusal the number is 0. Assumes nothing: this is a definition.
 use Prim.Native.Nat.{ℕ}
 use mathlib.Core.Bool.{cond}
 use mathlib.Core.List.{List}

@@ -1,6 +1,9 @@
-// The entry `mark_fast`: document 02's faster marking. It answers, refuses and writes as `mark` does in sense 1, and returns the number of tests too. That
-// the rounds which it goes through and the sweeps of the first marking leave the same marks is the theorem `joined` (proofs/). It stands on `mark_worklist_loop` (the
-// marking behind the refusals), `mark_worklist` (the number of tests), `mark_entry` (the answer and the output), `mark_senses` (which marked set is that of sense 1) and, for the
+// The entry `mark_fast`: the marked set of strong confluence (sense 1) with the number of tests of
+// the worklist, document 02's faster marking.
+// It answers, refuses and writes as `mark` does in sense 1. That the rounds of the worklist and the
+// sweeps of the first marking leave the same marks is the theorem `joined` (proofs/).
+// Uses `mark_worklist_loop` for the marking, `mark_worklist` for the number of tests, `mark_entry`
+// for the answer and the output, `mark_senses` for which marked set is that of sense 1 and, for the
 // theorem, `mark_sweeps`.
 use graph::Answer;
 use graph::Shape;

@@ -1,6 +1,9 @@
-// The entries `check` and `mark` for callers that hold their hops as a list of records instead of a flat list of numbers. The records are written into
-// an array of numbers and checked or marked there, so that the answers are those of the flat list. It stands on `check` of graph_check and `mark` of mark_entry.
-// A slice of records is none of the forms that the prover walks by itself: each function that takes one has a walk by hand, and they are few.
+// The entries `check` and `mark` for callers that hold their hops (transitions) as a slice of
+// records instead of a flat list of numbers.
+// The records are copied into an array of numbers and checked or marked there, so that the answers
+// are those of the flat list. A slice of records is none of the forms that the prover steps through
+// by itself: each function that takes one has a proof by hand, and they are few.
+// Uses `check` of `graph_check` and `mark` of `mark_entry`.
 use graph::Answer;
 use graph::Hop;
 use graph::MOST_HOPS;

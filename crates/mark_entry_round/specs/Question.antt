@@ -1,5 +1,5 @@
--- The round question of document 01: "The entry is given a hop's place in the list and k from 0 to 4, and answers 1 or 0".
--- Assumes nothing: these are definitions.
+-- The round question of document 01: "The entry is given a hop's place in the list and k from 0 to
+-- 4, and answers 1 or 0". Assumes nothing: these are definitions.
 use Prim.Native.Nat.{ℕ}
 use mathlib.Core.Bool.{cond, _&&_}
 use mathlib.Core.List.{List}

@@ -1,4 +1,5 @@
--- What the table of answers that is lent down the cycle may hold. Assumes nothing: these are definitions.
+-- What the memo table that is passed down the cycle of X, Y and Z may hold. Assumes nothing: these
+-- are definitions.
 use Prim.Native.Nat.{ℕ, _+_, _*_, _/_, _%_, _<_, _≤_}
 use mathlib.Core.Bool.{Bool, true, false}
 use mathlib.Core.List.{List}

@@ -1,7 +1,10 @@
-// The equations X, Y and Z of the marking, asked of one silent hop: does it survive k rounds? They call on one another, cut off by the number of rounds.
-// What is known already stands in a table that is lent down the cycle, so that each hop is judged once for each number of rounds. `mark_entry_round` asks X for
-// the entry; the equations themselves ask no limit of k but the room that the table has.
-// It stands on `mark_confluence` (what the equations are, and the rounds), `graph` (hops) and `graph_successors` (a state's hops, by label and by hop).
+// Whether one silent (tau) hop survives k rounds of marking, by RR-7000's equations X, Y and Z as
+// three mutually recursive functions.
+// The number of rounds bounds the recursion. A memo table is passed down the cycle, so that each
+// hop is decided once for each number of rounds. `mark_entry_round` asks X for the entry; the only
+// limit on k here is the length of the table.
+// Uses `mark_confluence` for the equations and the rounds, `graph` for hops, `graph_successors` for
+// a state's hops, by label and by hop.
 use graph::Found;
 use graph::MOST_HOPS;
 use graph::OldState;

@@ -1,5 +1,6 @@
--- The senses of confluence (document 02, wish 7): one condition with the sense as an argument, and the marked set of a sense. What a sense is stands in
--- `lts: Closes`; here are its tests. n is the state count. Assumes nothing: these are definitions.
+-- The senses of tau-confluence (document 02, wish 7): one condition with the sense as an argument,
+-- and the marked set of a sense. What a sense is stands in `lts: Closes`; here are its tests. n is
+-- the state count. Assumes nothing: these are definitions.
 use Prim.Native.Nat.{ℕ}
 use mathlib.Core.Bool.{Bool, cond, _&&_, _||_}
 use mathlib.Core.List.{List}

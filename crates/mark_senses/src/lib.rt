@@ -1,6 +1,9 @@
-// The senses of confluence: R1, R2, R3 and R8 as one condition with the sense as an argument, the marked set of a sense, and the answer of row 19. What
-// holds in all four is shown here once: the condition grows with the set, the marked set is of the sense and holds every set of it. It stands on `lts`
-// (what a sense is, over any relation), `mark_confluence` (document 01's condition, which is sense 1) and `base_fixpoint` (rounds of any condition).
+// The four senses (notions) of tau-confluence, R1, R2, R3 and R8, as one condition with the sense
+// as an argument, and the marked set of a sense.
+// Proved once for all four: the condition is monotone in the set, and the marked set is of the
+// sense and contains every set of it. The answer of row 19 (no such sense) is here too.
+// Uses `lts` for what a sense is, over any relation, `mark_confluence` for document 01's condition,
+// which is sense 1, and `base_fixpoint` for the rounds of any condition.
 use graph::Answer;
 use graph::answers::accept;
 use graph::answers::refuse;

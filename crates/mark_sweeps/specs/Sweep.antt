@@ -1,4 +1,5 @@
--- Marking by sweeps in place: what the marks keep while sweeps run. Assumes nothing: these are definitions.
+-- Marking by sweeps in place: the invariant of the marks while sweeps run. Assumes nothing: these
+-- are definitions.
 use Prim.Native.Nat.{ℕ, _+_, _<_, _≤_}
 use mathlib.Core.Path.{_≡_}
 use mathlib.Core.Bool.{true}

@@ -1,9 +1,11 @@
-// The first marking, by sweeps in place, behind the refusals: which silent hops belong to some strongly confluent set. The marks start at 1 for every silent hop; a
-// sweep goes over the places in list order, and a marked hop that no longer closes loses its mark at once; sweeps go on until one takes nothing. The
-// marks hold the marked set throughout, and are a confluent set when they rest. The entries mark in rounds now (`mark_worklist_loop`), which leave the same marks
-// (`mark_entry_fast: joined`); this one stays as the plain way to them, with a proof that knows of no rounds.
-// What marks keep while they fall, and that they end as the greatest set, is said here of any condition (proofs/Settling); `mark_batch_sweeps` sweeps by it too.
-// It stands on `mark_confluence` (the marked set and its theorems) and `mark_diamond` (whether a hop closes with the marks).
+// The marked set of strong confluence (R1) by sweeps in place, for a checked graph: a marked silent
+// (tau) hop that fails the condition loses its mark at once, until a sweep takes none.
+// Marks start at 1 for every silent hop; a sweep visits the places in list order. The marks contain
+// the marked set throughout, and at the fixpoint they are a confluent set. The entries mark sense 1
+// with `mark_worklist_loop`, which leaves the same marks (`mark_entry_fast: joined`); this is the
+// plain algorithm, with a proof that needs no rounds. That removing marks ends with the greatest
+// set is proved here for any condition (proofs/Settling); `mark_batch_sweeps` rests on it too.
+// Uses `mark_confluence` for the marked set and its theorems, `mark_diamond` for the test of a hop.
 use graph::hops::hop_count;
 use graph_successors::STARTS;
 use graph_successors::starts_of;

@@ -1,5 +1,6 @@
--- The second marking of document 02 (wish 10), in rounds that test only what a fall can have shaken: which hops a round tests, and how many tests there are.
--- Assumes nothing: these are definitions.
+-- The second marking of document 02 (wish 10), by a worklist: which hops a round tests, after the
+-- first only those of which a hop that fell in the round before may have closed a diamond, and how
+-- many tests there are. Assumes nothing: these are definitions.
 use Prim.Native.Nat.{ℕ, zero, suc}
 use mathlib.Core.Bool.{Bool, not, _&&_}
 use mathlib.Core.List.{List}

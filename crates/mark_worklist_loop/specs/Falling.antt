@@ -1,4 +1,5 @@
--- What holds between two rounds. No contract of an entry cites this. Assumes nothing: these are definitions.
+-- The invariant of the worklist marking between two rounds. No contract of an entry cites this.
+-- Assumes nothing: these are definitions.
 use Prim.Native.Nat.{ℕ, suc, _≤_}
 use mathlib.Core.Path.{_≡_}
 use mathlib.Core.List.{List}

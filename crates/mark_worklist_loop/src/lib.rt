@@ -1,7 +1,12 @@
-// Marking in rounds that test only what is due, behind the refusals: document 02's faster marking, with the number of its tests. The first round tests every
-// silent hop, and each later one those that a fall in the round before can have shaken. Rounds are synchronous: a round tests against the marks as they
-// were when it began, and takes the marks of what fell at its end. Whoever has refused already calls `mark_rounds`: `mark`, `mark_fast`, `reduce`, the program.
-// It stands on `mark_worklist` (which hops a round tests, and that the others survive it), `mark_worklist_next` (which finds them) and `mark_worklist_round` (the parts of a round).
+// The marked set of strong confluence (R1) by a worklist, for a checked graph, with the number of
+// its tests: document 02's faster marking.
+// The first round tests every silent (tau) hop, each later one those of which a diamond may have
+// been closed by a hop that fell in the round before. Rounds are synchronous: a round tests against
+// the marks as they were when it began, and takes the marks of what fell at its end. Callers that
+// have checked the graph call `mark_rounds`: `mark`, `mark_fast`, `reduce`, `shrink`, the program.
+// Uses `mark_worklist` for which hops a round tests and that the others survive it,
+// `mark_worklist_next` to find them, `mark_worklist_round` for the parts of a round, and
+// `graph_predecessors` for the index.
 use graph::MOST_HOPS;
 use graph::MOST_STATES;
 use graph_predecessors::begins_of;

@@ -1,7 +1,11 @@
-// Which hops the next round tests, found from those that fell: from each fallen hop s3 to s4 over the hops into s3, which are hops to try of the states
-// that they leave, and for each of them, s1, a, s3, over the silent hops of s1 where its whole row is at most a few hops longer than what leads to s4, else over the
-// hops into s4, of which those labelled a answer. So a pair costs at most the hops into s4 and those few, and is met for one fallen hop at most.
-// It stands on `mark_worklist_push` (what one such pair brings to the queue), `graph_predecessors` (the hops into a state) and `graph_successors` (those out of it).
+// Which hops the next round of the worklist marking tests, found from those that fell (lost their
+// marks) in the round before.
+// For each fallen hop s3 to s4 it visits the hops s1, a, s3 into s3. For each of these it visits
+// the silent (tau) hops of s1 where s1 has at most a few hops more than lead to s4, else the hops
+// into s4, of which those labelled a answer. So a pair costs at most the hops into s4 and those
+// few, and is met for one fallen hop at most.
+// Uses `mark_worklist_push` for what one such pair brings to the queue, `graph_predecessors` for
+// the hops into a state, `graph_successors` for those out of it.
 use graph::MOST_HOPS;
 use graph::MOST_STATES;
 use graph::hops::from_at;

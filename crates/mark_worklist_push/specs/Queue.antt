@@ -1,5 +1,5 @@
--- The queue of the hops that the next round tests, and what comes to it from a hop that fell. No contract of an entry cites this. Assumes nothing: these are
--- definitions.
+-- The worklist: the queue of the hops that the next round tests, and what comes to it from a hop
+-- that fell. No contract of an entry cites this. Assumes nothing: these are definitions.
 use Prim.Native.Nat.{ℕ, _<_, _≤_}
 use mathlib.Core.Path.{_≡_}
 use mathlib.Core.Bool.{Bool, true, false}

@@ -1,7 +1,11 @@
-// One pair of a hop to try and a hop that fell: which silent hops they send to the next test. For the hop s1, a, s3 and the fallen hop s3 to s4 these are the
-// marked hops of s1 to a state that s4 answers for, found by s1's own silent hops (`note_out`) or by the hops into s4 (`note_into`). A hop that is to be tested
-// comes to a queue, once. `mark_worklist_next` asks this of each such pair.
-// It stands on `graph_predecessors` (the hops into a state), `graph_successors` (those out of it) and `mark_confluence` (marks, and document 01's first point).
+// Which marked hops go on the worklist for one pair of a hop s1, a, s3 and a fallen hop (one that
+// lost its mark) s3 to s4.
+// These are the marked hops from s1 to a state that has s4 by document 01's first point: it has a
+// hop labelled a to s4, or a is silent (tau) and it is s4. They are found among s1's own silent
+// hops (`note_out`) or by the hops into s4 (`note_into`). Each comes to the queue once, by a flag a
+// hop. `mark_worklist_next` asks this for each such pair.
+// Uses `graph_predecessors` for the hops into a state, `graph_successors` for those out of it, and
+// `mark_confluence` for marks and document 01's first point.
 use graph::Found;
 use graph::Label;
 use graph::MOST_HOPS;

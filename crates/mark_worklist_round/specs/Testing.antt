@@ -1,4 +1,5 @@
--- The parts of a round, place by place: what they ask and what they leave. No contract of an entry cites this. Assumes nothing: these are definitions.
+-- The parts of a round of the worklist marking, place by place: what they require and what they
+-- leave. No contract of an entry cites this. Assumes nothing: these are definitions.
 use Prim.Native.Nat.{ℕ, suc, _<_, _≤_}
 use mathlib.Core.Path.{_≡_}
 use mathlib.Core.Bool.{Bool, true, false}

@@ -1,7 +1,9 @@
-// The parts of a round of the faster marking: which hops it tests are listed, they are tested against the marks as they are, and those that do not close lose
-// their marks at the end. The first round tests each silent hop whole; a later one tries only what leads to a state that a hop fell from. `mark_worklist_loop` puts
-// the parts together.
-// It stands on `mark_diamond` and `mark_diamond_retest` (the two tests), `mark_worklist` (which hops the first round tests) and `mark_worklist_push` (the queue).
+// The parts of one round of the worklist marking: the hops to test are listed, tested against the
+// marks as they are, and those that fail lose their marks at the end.
+// The first round tests each silent (tau) hop in full; a later one tries only the hops to a state
+// that a fallen hop leaves. `mark_worklist_loop` puts the parts together.
+// Uses `mark_diamond` and `mark_diamond_retest` for the two tests, `mark_worklist` for which hops
+// the first round tests, and `mark_worklist_push` for the queue.
 use graph::MOST_HOPS;
 use graph::MOST_STATES;
 use graph::hops::from_at;

@@ -1,5 +1,5 @@
--- What reducing along marks returns and leaves in its two outputs: the short graph along the set that the marks are. Assumes nothing: these are
--- definitions.
+-- What reducing along marks returns and leaves in its two outputs: the short graph (quotient) along
+-- the set that the marks are. Assumes nothing: these are definitions.
 use Prim.Native.Nat.{ℕ}
 use mathlib.Core.List.{List}
 use lib.ListN.{length, getD}

@@ -1,6 +1,9 @@
-// Reducing along given marks: the map and the short graph of a graph whose marked hops make no ring, whoever marked them. It is the part of `reduce`
-// behind the refusals, so that another marking, another sense of confluence or a repetition can stand in front of it. It checks nothing and asks for
-// no confluence: what the short graph means is said where the marks are known. It stands on reduce_representatives and reduce_short_graph.
+// The reduction along given marks: the map and the short graph (quotient) of a graph whose marked
+// silent (tau) hops make no cycle, whoever marked them.
+// It is `reduce` without its checks and its marking, so that another marking, another sense of
+// confluence or a repetition can use it. It checks nothing and requires no confluence: what the
+// short graph means is stated where the marks are known.
+// Uses `reduce_representatives` for the map and `reduce_short_graph` for the short hops.
 use graph::OldState;
 use graph::Shape;
 use graph::map::map_at;

@@ -1,5 +1,6 @@
--- The entry `reduce`: what it returns and what it leaves in its two outputs. Here the map and the short graph, which are of any set of silent hops, are
--- those of the marked set of the sense with the number k. Assumes nothing: these are definitions.
+-- The entry `reduce`: what it returns and what it leaves in its two outputs. Here the map and the
+-- short graph, which are of any set of silent hops, are those of the marked set (the greatest
+-- tau-confluent set) of the sense with the number k. Assumes nothing: these are definitions.
 use Prim.Native.Nat.{ℕ}
 use mathlib.Core.Bool.{cond}
 use mathlib.Core.List.{List}

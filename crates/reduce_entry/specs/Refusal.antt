@@ -1,4 +1,5 @@
--- Parts of the refusals of `reduce`: rows 19, 5 and 6, and what it returns with a refusal. Assumes nothing: these are definitions.
+-- Parts of the refusals of `reduce`: rows 19, 5 and 6, and what it returns with a refusal. Assumes
+-- nothing: these are definitions.
 use Prim.Native.Nat.{ℕ}
 use mathlib.Core.List.{List}
 use lib.ListN.{length}

@@ -1,4 +1,5 @@
-// The entry `reduce`: the map and the short graph of a graph without rings, in the sense asked, or the row that refuses it.
+// The entry `reduce`: the map and the short graph of a graph without rings, in the sense asked, or
+// the row that refuses it.
 use super::Reduction;
 use graph::Answer;
 use graph::MOST_HOPS;

@@ -1,5 +1,6 @@
--- Classes and representatives (document 01 "Reducing"; SEN-R0123, section 4), along any set u of silent hops; document 01's is the marked set. Assumes
--- nothing: these are definitions.
+-- Classes and representatives (normal forms; document 01 "Reducing"; SEN-R0123, section 4), along
+-- any set u of silent hops; document 01's is the marked set. Assumes nothing: these are
+-- definitions.
 use Prim.Native.Nat.{ℕ, zero, suc, _<_, _≤_}
 use mathlib.Core.Path.{_≡_}
 use mathlib.Core.Bool.{Bool, true, cond, not, _&&_}

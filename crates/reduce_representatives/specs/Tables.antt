@@ -1,4 +1,5 @@
--- What the parts of `reduce` hand to one another: marks, one a hop, and tables with one number a state. Assumes nothing: these are definitions.
+-- What the parts of `reduce` hand to one another: marks, one a hop, and tables with one number a
+-- state. Assumes nothing: these are definitions.
 use Prim.Native.Nat.{ℕ, zero, suc, _<_, _≤_}
 use mathlib.Core.Path.{_≡_}
 use mathlib.Core.Bool.{Bool, true, cond, _&&_}

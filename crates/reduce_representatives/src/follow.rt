@@ -1,5 +1,6 @@
-// Where the first marked hop of each state leads, and the representative that these hops lead to. A walk notes the representative with every state that it
-// passed, in the table itself, so that no later walk passes them again.
+// Where the first marked hop of each state leads, and the representative that these hops lead to.
+// Path compression: a walk writes the representative into the table for every state that it passed,
+// so that no later walk passes them again.
 use graph::MOST_STATES;
 use graph::OldState;
 use graph::hops::from_at;

@@ -1,5 +1,6 @@
--- The short graph along a set u of silent hops: "for each hop r, a, t of a representative r, the hop new(r), a, map(t), once, in ascending order".
--- Assumes nothing: these are definitions.
+-- The short graph (the quotient by the representation map) along a set u of silent hops: "for each
+-- hop r, a, t of a representative r, the hop new(r), a, map(t), once, in ascending order". Assumes
+-- nothing: these are definitions.
 use Prim.Native.Nat.{ℕ}
 use mathlib.Core.Bool.{Bool, _&&_}
 use mathlib.Core.List.{List}

@@ -1,5 +1,5 @@
--- Which source line is kept where several hops become one: "the smallest nonzero line among the hops it comes from, else 0". Assumes nothing: these are
--- definitions.
+-- Which source line is kept where several hops become one: "the smallest nonzero line among the
+-- hops it comes from, else 0". Assumes nothing: these are definitions.
 use Prim.Native.Nat.{ℕ, zero, suc, _<_, _≤_}
 use mathlib.Core.Path.{_≡_}
 use mathlib.Core.Bool.{Bool, true, cond}

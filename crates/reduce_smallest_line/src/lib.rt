@@ -1,5 +1,7 @@
-// Source lines: which of the lines of several hops is kept where they become one, the smallest that is not 0. For whatever puts hops in order once. It
-// stands on graph.
+// Which source line is kept where several hops (transitions) become one: the smallest that is not
+// 0.
+// It serves whatever sorts hops and merges those that are alike.
+// Uses `graph` for hops.
 use graph::Hop;
 use graph::hops::lined_hop;
 ghost use mathlib.Core.Path.{_≡_};

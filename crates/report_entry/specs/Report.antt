@@ -1,4 +1,5 @@
--- What the program prints (document 01, after "Graphs worked by hand"). Assumes nothing: these are definitions.
+-- What the program prints (document 01, after "Graphs worked by hand"). Assumes nothing: these are
+-- definitions.
 use Prim.Native.Nat.{ℕ, _+_, _*_}
 use mathlib.Core.Bool.{cond}
 use mathlib.Core.List.{List, []}

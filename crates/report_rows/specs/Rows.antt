@@ -1,4 +1,5 @@
--- The lines of what the program prints (document 01, after "Graphs worked by hand"). Assumes nothing: these are definitions.
+-- The lines of what the program prints (document 01, after "Graphs worked by hand"). Assumes
+-- nothing: these are definitions.
 use Prim.Native.Nat.{ℕ}
 use mathlib.Core.Bool.{cond}
 use mathlib.Core.List.{List, [], _∷_, _++_}

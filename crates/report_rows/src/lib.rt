@@ -1,5 +1,7 @@
-// The lines of the program's report, put into a buffer one behind the other: `in`, the marked hops, the map, `out` and the short hops; or the one line of
-// a refusal. report calls it when all that is printed is found. Stands on graph (what stands at a place) and report_text (how a line is put).
+// The lines of the program's report, written into a buffer one behind the other: `in`, the marked
+// hops, the map, `out` and the short hops; or the one line of a refusal.
+// `report_entry` calls it when all that is printed has been computed.
+// Uses `graph` for what stands at a place and `report_text` for how a line is written.
 use graph::Answer;
 use graph::OldState;
 use graph::Shape;

@@ -1,5 +1,5 @@
--- Printed text as bytes: numbers in decimal, lines of a word and numbers, lines one behind the other, and what it is to put a text into a buffer.
--- Assumes nothing: these are definitions.
+-- Printed text as bytes: numbers in decimal, lines of a word and numbers, lines one behind the
+-- other, and what it is to put a text into a buffer. Assumes nothing: these are definitions.
 use Prim.Native.Nat.{ℕ, zero, suc, _+_, _-_, _*_, _/_, _%_, _≤_}
 use mathlib.Core.Path.{_≡_}
 use mathlib.Core.Bool.{cond}

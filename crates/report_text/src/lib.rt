@@ -1,6 +1,8 @@
-// Text put into a buffer, for the program's report: numbers in decimal, and lines of a word and numbers. Each function puts one text at a place, over what
-// was there and over nothing else, and returns the place behind it; the caller shows that there is room.
-// Stands on base_outputs (what a lent slice holds afterwards).
+// Text written into a byte buffer, for the program's report: numbers in decimal, and lines of a
+// word and numbers.
+// Each function writes one text at a place, over what was there and over nothing else, and returns
+// the place behind it; the caller proves that the buffer is long enough.
+// Uses `base_outputs` for what a slice holds afterwards.
 use base_outputs::put_bytes;
 ghost use mathlib.Core.List.{[], _∷_};
 ghost use Rattle.report_text.specs.Text.{digits, spaced, numbered, line, Room, Put};

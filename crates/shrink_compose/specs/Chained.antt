@@ -1,4 +1,5 @@
--- Maps put one after the other (document 02, wish 13). A map is a list, one entry a state. Assumes nothing: these are definitions.
+-- Composition of maps: maps put one after the other (document 02, wish 13). A map is a list, one
+-- entry a state. Assumes nothing: these are definitions.
 use Prim.Native.Nat.{ℕ, _<_}
 use mathlib.Core.List.{List}
 use lib.ListN.{length}

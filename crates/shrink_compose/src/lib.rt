@@ -1,6 +1,9 @@
-// Maps put one after the other. The law (proofs/Composed): if a map has no fault from graph 1 to graph 2, and another none from graph 2 to graph 3, by
-// the audit's own count, one after the other has none from graph 1 to graph 3. The code puts one map behind another, in place. For the repeated
-// reduction; it stands on the audit.
+// Composition of maps between graphs: if two maps have no fault by the audit's own count, neither
+// has their composition.
+// The law (proofs/Composed): if a map has no fault from graph 1 to graph 2, and another none from
+// graph 2 to graph 3, one after the other has none from graph 1 to graph 3. The code composes two
+// maps in place. It serves the repeated reduction.
+// Uses `audit_entry` for what a count of 0 means, `lts` for maps that keep branching bisimilarity.
 use graph::OldState;
 use graph::map::map_at;
 ghost use mathlib.Core.Path.{_≡_};

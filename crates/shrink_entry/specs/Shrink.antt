@@ -1,5 +1,5 @@
--- The entry `shrink`: what it returns and what it leaves in its two outputs. "Outputs and refusals are as in reduce." k is the sense's number. Assumes
--- nothing: these are definitions.
+-- The entry `shrink`: what it returns and what it leaves in its two outputs. "Outputs and refusals
+-- are as in reduce." k is the sense's number. Assumes nothing: these are definitions.
 use Prim.Native.Nat.{ℕ}
 use mathlib.Core.Bool.{cond}
 use mathlib.Core.List.{List}

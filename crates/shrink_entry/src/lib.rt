@@ -1,6 +1,8 @@
-// The entry `shrink`: reduces again and again in the sense asked, until no hop is marked, and gives the last graph and the map from first states to last.
-// It refuses as `reduce` does, and asks the rows once: no short graph breaks them. Stands on reduce_entry (the rows), shrink_step (one reduction, and its map behind
-// the map) and shrink_iterate (what it all means).
+// The entry `shrink`: reduction repeated in the sense asked until no hop is marked, with the last
+// graph, the map from first states to last, and the number of reductions.
+// It refuses as `reduce` does, and checks once: every short graph passes the checks.
+// Uses `reduce_entry` for the checks, `shrink_step` for one reduction and its map, `shrink_iterate`
+// for what it all means.
 use base_outputs::put_numbers;
 use graph::Answer;
 use graph::MOST_NUMBERS;

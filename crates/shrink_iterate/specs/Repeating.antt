@@ -1,5 +1,6 @@
--- "Repeat, under a chosen sense, until no hop is marked, and return the last graph, one map from first states to last, and the number of reductions that
--- marked something." (document 02, wish 13) k is the sense's number. Assumes nothing: these are definitions.
+-- "Repeat, under a chosen sense, until no hop is marked, and return the last graph, one map from
+-- first states to last, and the number of reductions that marked something." (document 02, wish 13)
+-- k is the sense's number. Assumes nothing: these are definitions.
 use Prim.Native.Nat.{ℕ, zero, suc}
 use mathlib.Core.Bool.{Bool, cond, _&&_}
 use mathlib.Core.List.{List}

@@ -1,6 +1,9 @@
-// One turn of the repeated reduction: the graph is marked in the sense asked, and where something is marked it is reduced, the short hops take the place
-// of the hops, and the map to them goes behind the map. For `shrink`, which turns until nothing is marked; it stands on reduce_entry (the marking), reduce_by_marks and
-// shrink_compose.
+// One iteration of the repeated reduction: the graph is marked in the sense asked and, if a hop is
+// marked, it is reduced and the maps are composed.
+// The short hops replace the hops in place. After a reduction under R8 nothing is marked, so none
+// follows. It serves `shrink`, which repeats it until nothing is marked.
+// Uses `reduce_entry` for the marking, `reduce_by_marks` for the reduction and `shrink_compose` for
+// the map.
 use base_outputs::put_numbers;
 use graph::MOST_HOPS;
 use graph::MOST_NUMBERS;

@@ -1,4 +1,6 @@
-// A program for tests: graphs at the limits, and bad input, through `check`. What it answers is printed and held to the file stdout.
+// A program for tests: graphs at the limits, and bad input, through `check`.
+// What it answers is printed and compared with the file stdout.
+// Uses `graph_check` for the entry.
 use graph::Answer;
 use graph::Shape;
 use graph_check::check;

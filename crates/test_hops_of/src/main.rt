@@ -1,5 +1,7 @@
-// A program for tests: hops of a state as a part of its table, `hops_of`, of P1 with lines as graph 1 and its short graph as graph 2. The numbers of each part are
-// printed and held to the file stdout. Stands on graph_hops_of (the entry) and test_print (how it is printed).
+// A program for tests: the hops of a state as a part of its table, `hops_of`, of P1 with lines as
+// graph 1 and its short graph as graph 2.
+// The numbers of each part are printed and compared with the file stdout.
+// Uses `graph_hops_of` for the entry and `test_print` for the printing.
 use graph::Shape;
 use graph_hops_of::hops_of;
 use test_print::number;

@@ -1,5 +1,7 @@
-// How the programs test_records, test_hops_of and test_round_trip print names, numbers, answers and shapes to standard output: each number behind a space.
-// Stands on graph (answers and shapes) and on the kit's io.
+// How test programs print names, numbers, answers and shapes to standard output: each number behind
+// a space.
+// It serves `test_records`, `test_hops_of` and `test_round_trip`.
+// Uses `graph` for answers and shapes, and io and libc of the toolchain.
 use graph::Answer;
 use graph::Shape;
 use io::print_decimal;

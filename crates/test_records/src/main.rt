@@ -1,6 +1,8 @@
-// A program for tests: the two entries over records, `check_records` and `mark_records`, over P1, bad input, the senses and the limits. What they answer is
-// printed and held to the file stdout. An element of the output for marks that was not written is 7.
-// Stands on mark_entry_records (the entries) and test_print (how it is printed).
+// A program for tests: the two entries over records, `check_records` and `mark_records`, over P1,
+// bad input, the senses and the limits.
+// What they answer is printed and compared with the file stdout. An element of the output for marks
+// that was not written is 7.
+// Uses `mark_entry_records` for the entries and `test_print` for the printing.
 use graph::Answer;
 use graph::Hop;
 use graph::MOST_HOPS;

@@ -1,5 +1,8 @@
-// Several files through the library in one program: what is printed of each, behind its name. The whole program is run over more files by
+// A program for tests: several files through the library, and what is printed of each, behind its
+// name.
+// What it prints is compared with the file stdout. The whole program is run over more files by
 // tests/program.sh.
+// Uses `report_entry` for the report.
 use libc::STDOUT_FILENO;
 use report_entry::print::MOST_TEXT;
 use report_entry::print::print_file;

@@ -1,5 +1,8 @@
-// A program for tests: the two round trips of a file, `copy_file` and `graph_back`, over P1, names, lines and bad input. What they answer is printed and held
-// to the file stdout. An element of an output that was not written is 7. Stands on file_round_trip (the entries) and test_print (how it is printed).
+// A program for tests: the two round trips of a file, `copy_file` and `graph_back`, over P1, names,
+// lines and bad input.
+// What they answer is printed and compared with the file stdout. An element of an output that was
+// not written is 7.
+// Uses `file_round_trip` for the two functions and `test_print` for the printing.
 use file_read::Contents;
 use file_round_trip::round_trip::copy_file;
 use file_round_trip::round_trip::graph_back;

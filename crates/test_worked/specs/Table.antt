@@ -1,5 +1,5 @@
--- "Graphs worked by hand": P1 to P10 as one table, and what the definitions give for the same graphs. Some rows are ours, and say so. Assumes nothing:
--- these are definitions.
+-- "Graphs worked by hand": P1 to P10 as one table, and what the definitions yield for the same
+-- graphs. Some rows are ours, and say so. Assumes nothing: these are definitions.
 use Prim.Native.Nat.{ℕ}
 use mathlib.Core.Bool.{cond, not, _&&_}
 use mathlib.Core.List.{List, [], _∷_, map}

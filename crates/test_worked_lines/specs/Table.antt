@@ -1,5 +1,5 @@
--- Graphs worked by hand for source lines: those of wish 2 and its readings, and ours, as one table, and what the definitions give for the same graphs. Assumes
--- nothing: these are definitions.
+-- Graphs worked by hand for source lines: those of wish 2 and its readings, and ours, as one table,
+-- and what the definitions yield for the same graphs. Assumes nothing: these are definitions.
 use Prim.Native.Nat.{ℕ}
 use mathlib.Core.List.{List, [], _∷_, map}
 use Rattle.graph.specs.Hops.{linedHop, flat}

@@ -1,5 +1,6 @@
--- Graphs worked by hand for the senses: the case of wish 7, and ours that tell the senses apart, as one table, and what the definitions give for the same
--- graphs. Assumes nothing: these are definitions.
+-- Graphs worked by hand for the senses: the case of wish 7, and ours that separate the senses, as
+-- one table, and what the definitions yield for the same graphs. Assumes nothing: these are
+-- definitions.
 use Prim.Native.Nat.{ℕ}
 use mathlib.Core.List.{List, [], _∷_, map}
 use lib.ListN.{length}

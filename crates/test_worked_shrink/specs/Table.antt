@@ -1,5 +1,5 @@
--- Graphs worked by hand for the repeated reduction, as one table, and what the definitions give for the same graphs. Assumes nothing: these are
--- definitions.
+-- Graphs worked by hand for the repeated reduction, as one table, and what the definitions yield
+-- for the same graphs. Assumes nothing: these are definitions.
 use Prim.Native.Nat.{ℕ, suc}
 use mathlib.Core.List.{List, [], _∷_, _++_, map}
 use lib.ListN.{length}

@@ -1,5 +1,5 @@
--- Ranks: a ranked state has byte 1; all its silent hops lead to states ranked before it, so that it is on no ring.
--- Assumes nothing: these are definitions.
+-- Ranks: a ranked state has byte 1; all its silent (tau) hops lead to states ranked before it, so
+-- that it is on no ring (silent cycle). Assumes nothing: these are definitions.
 use Prim.Native.Nat.{ℕ, _+_, _<_, _≤_}
 use mathlib.Core.Path.{_≡_}
 use mathlib.Core.Bool.{Bool, true, not, _||_}

@@ -1,8 +1,11 @@
-// Ranking: which states are certainly on no ring, for the answer of row 5. A state all of whose silent hops lead to ranked states is ranked, and so
-// on no ring. Where silent hops lead upward, one pass in descending order ranks every state. Where states are left, a search along the silent hops
-// visits what a state leads to before the state itself, so that all that can be ranked is, and no hop is passed more than a few times. The search only
-// says in which order: each state is ranked by `rank_one`, which looks at its hops. It stands on the table of first places and on what `walk_silent`
-// calls a ring.
+// Which states are certainly on no ring (silent cycle): those that can be ranked, which is to say
+// that all their silent (tau) hops lead to states ranked before.
+// Where silent hops lead upward, one pass in descending order ranks every state. Where states are
+// left, a depth-first search along the silent hops visits the successors of a state before the
+// state itself (postorder), so that all that can be ranked is, and no hop is passed more than a few
+// times. The search only chooses the order: each state is ranked by `rank_one`, which looks at its
+// hops.
+// Uses `graph_successors` for the hops of a state, `walk_silent` for what a ring is.
 use graph::MOST_STATES;
 use graph::OldState;
 use graph::Shape;

@@ -1,5 +1,6 @@
--- The parts of the search for the states that a state leads to along chosen hops: a byte for each state, 1 where the state is noted, and a queue
--- of the states noted so far. Assumes nothing: these are definitions.
+-- The parts of the breadth-first search for the states that a state leads to along chosen hops: a
+-- byte for each state, 1 where the state has been visited, and a queue of the states visited so
+-- far. Assumes nothing: these are definitions.
 use Prim.Native.Nat.{ℕ, _+_, _<_, _≤_}
 use mathlib.Core.Path.{_≡_}
 use mathlib.Core.Bool.{Bool, true, false, cond}

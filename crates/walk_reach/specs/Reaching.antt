@@ -1,5 +1,6 @@
--- Reaching along a chosen set of hops: a set of hops is a test of their places, and a state leads to another by zero or more hops of the set.
--- The silent hops are one such set. Assumes nothing: these are definitions.
+-- Reachability along a chosen set of hops: a set of hops is a test of their places, and a state
+-- leads to another by zero or more hops of the set. The silent (tau) hops are one such set. Assumes
+-- nothing: these are definitions.
 use Prim.Native.Nat.{ℕ, zero, suc, _<_}
 use mathlib.Core.Path.{_≡_}
 use mathlib.Core.Bool.{Bool, true, _&&_, _||_}

@@ -1,6 +1,9 @@
-// Reaching: which states a state leads to by zero or more hops of a chosen set, for whoever walks a graph along silent hops or along any others. The
-// set is lent as one byte a hop, 1 where the hop is chosen; the answer is one byte a state, 1 where the state is reached. A breadth-first search
-// over the table of first places, so it stands on `graph_successors`; that it finds exactly what walks of any length reach is proved here once for every set.
+// Reachability along a chosen set of hops (transitions): which states a state leads to by zero or
+// more of them.
+// A breadth-first search with a queue over the successor index. The set is one byte a hop, 1 where
+// the hop is chosen; the answer is one byte a state, 1 where the state is reached. That it finds
+// exactly what walks of any length reach is proved here once, for every set.
+// Uses `graph_successors` for the hops of a state, `lts` for the closure of a relation.
 use graph::OldState;
 use graph::Shape;
 use graph::hops::to_at;

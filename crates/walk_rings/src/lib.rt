@@ -1,6 +1,9 @@
-// Rings: whether some state can walk silent hops back to itself, and which is the lowest that can: the answer of row 5, for the entries that refuse
-// such a graph. A graph without rings is ranked whole and costs no search; only from states that are left without a rank does `walk_reach` search,
-// along the silent hops.
+// Whether a graph has a ring (silent cycle), and which is the lowest state on one.
+// This is the answer of row 5 of document 01, for the entries that refuse such a graph. If all
+// states can be ranked there is no ring, and no further search is made. Else a breadth-first search
+// along the silent (tau) hops from each state without a rank, in ascending order, asks whether it
+// leads back.
+// Uses `walk_acyclic` for the ranks, `walk_reach` and `walk_silent` for the search.
 use graph::Answer;
 use graph::MOST_STATES;
 use graph::OldState;

@@ -1,4 +1,5 @@
--- The line: the places of the silent hops, in an order in which each stands behind all that leave its end. Assumes nothing: these are definitions.
+-- Reverse topological order of the silent (tau) hops: their places, in an order in which each
+-- stands behind all that leave its end. Assumes nothing: these are definitions.
 use Prim.Native.Nat.{ℕ, _<_, _≤_}
 use mathlib.Core.Path.{_≡_}
 use mathlib.Core.List.{List}

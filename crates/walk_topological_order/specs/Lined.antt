@@ -1,5 +1,6 @@
--- A line in the making: a placed state has byte 1, all its silent hops lead to placed states and stand in the line. No contract of an entry cites this.
--- Assumes nothing: these are definitions.
+-- The topological order while it is made: a placed state has byte 1, all its silent hops lead to
+-- placed states and stand in the order so far. No contract of an entry cites this. Assumes nothing:
+-- these are definitions.
 use Prim.Native.Nat.{ℕ, _+_, _-_, _<_, _≤_}
 use mathlib.Core.Path.{_≡_}
 use mathlib.Core.Bool.{Bool, true, cond, _&&_}

@@ -1,7 +1,11 @@
-// Lining: the places of the silent hops, in an order in which those that leave a hop's end stand before it (`Line`). Along such a line one pass tells every
-// walk of silent hops what it leads to, or what leads to it. A state is placed when all its silent hops lead to placed states; then its own silent hops are
-// put at the end of the line. The states are tried in passes, downward and upward by turns, until all are placed: where silent hops lead upward or downward
-// only, that takes two passes at most. It stands on the table of first places, and on the graph having no ring.
+// The silent (tau) hops of a graph without rings (silent cycles) in reverse topological order:
+// those that leave a hop's end stand before it (`Line`).
+// One pass along this order, or backwards, carries a property along all walks of silent hops. A
+// state is placed when all its silent hops lead to placed states; then its own silent hops are
+// appended. Passes over the states, downward and upward alternately, go on until all are placed:
+// where silent hops lead upward only or downward only, that takes two passes at most.
+// Uses `graph_successors` for the hops of a state, `walk_acyclic` for the test of one state, and
+// `walk_silent` for what a ring is.
 use graph::MOST_HOPS;
 use graph::MOST_STATES;
 use graph::OldState;

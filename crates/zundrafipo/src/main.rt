@@ -1,6 +1,8 @@
-// The program: reads the file of a graph from standard input, reduces the graph and prints the report, or the refusal. Where the input cannot be
-// read it prints neither, since a file that was cut by a failure is no short file. What fails is said on standard error; a program here has no
-// exit status.
+// The program: reads the file of a graph from standard input, reduces the graph and prints the
+// report, or the refusal.
+// Where the input cannot be read it prints neither, since a file that was cut by a failure is no
+// short file. What fails is written to standard error; a program here has no exit status.
+// Uses `report_entry` for the report, and io and libc of the toolchain.
 use libc::STDERR_FILENO;
 use libc::STDIN_FILENO;
 use libc::STDOUT_FILENO;
