@@ -66,8 +66,8 @@ module _ (h1 h2 m seen : List ℕ) (r k : ℕ) where
         {after : List ℕ} → after ≡ set stamps (getD images i 0) k →
         TickedOn h1 h2 m seen r k (firstOf h1 u) i before stamps → TickedOn h1 h2 m seen r k (firstOf h1 u) (i + 1) before after
     unfolding TickedOn Imaged
-    state-more ready images im e before stamps room {i} lo hi d o first t =
-        rw (d, im i (omega (arith, first-within h1 up (u + 1)))) (ticked-more h1 h2 m seen r k ready stamps room i (state-seen lo hi ∙ e) first (o first t))
+    state-more ready images im e before stamps capacity {i} lo hi d o first t =
+        rw (d, im i (omega (arith, first-within h1 up (u + 1)))) (ticked-more h1 h2 m seen r k ready stamps capacity i (state-seen lo hi ∙ e) first (o first t))
 
   pub on-none : (n : ℕ) (stamps : List ℕ) → TickedOn h1 h2 m seen r k n n stamps stamps
   unfolding TickedOn

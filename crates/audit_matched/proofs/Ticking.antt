@@ -27,7 +27,7 @@ use Rattle.audit_faults.specs.Images.{mappedHop, nowhere, placeOf, imageOf}
 use Rattle.audit_matched.specs.Ticks.{seenInClass, ticks, TickedBy}
 
 -- a stamp for a hop is seen at its place and nowhere else
-module _ (h2 : List ℕ) (ready : Ready h2) (h : Hop) (k : ℕ) (stamps : List ℕ) (room : count h2 ≤ length stamps) (j : ℕ) (l : j < count h2) where
+module _ (h2 : List ℕ) (ready : Ready h2) (h : Hop) (k : ℕ) (stamps : List ℕ) (capacity : count h2 ≤ length stamps) (j : ℕ) (l : j < count h2) where
   abbrev is-h : ℕ → Bool
   is-h = is h2 (h .from) (h .label) (h .to)
 
@@ -61,16 +61,16 @@ module _ (h1 h2 m seen : List ℕ) (r k : ℕ) where
   image-stamp : Ready h2 → (stamps : List ℕ) → count h2 ≤ length stamps → (i : ℕ) → mapped m (from h1 i) ≡ r → (j : ℕ) → j < count h2 →
       getD (set stamps (imageOf h1 h2 m i) k) j 0 ≡ cond (is h2 r (label h1 i) (mapped m (to h1 i)) j) k (getD stamps j 0)
   unfolding imageOf
-  image-stamp ready stamps room i q j l =
-      stamp-at h2 ready (mappedHop h1 m i) k stamps room j l ∙
+  image-stamp ready stamps capacity i q j l =
+      stamp-at h2 ready (mappedHop h1 m i) k stamps capacity j l ∙
       ap (λ (x : ℕ). cond (is h2 x (label h1 i) (mapped m (to h1 i)) j) k (getD stamps j 0)) q
 
   -- .. and one place more, whose hop leaves a state that counts
   pub ticked-more : Ready h2 → (stamps : List ℕ) → count h2 ≤ length stamps → (i : ℕ) → seenInClass h1 m seen r i ≡ true →
       (first : List ℕ) → TickedBy h1 h2 m seen r k i first stamps → TickedBy h1 h2 m seen r k (i + 1) first (set stamps (imageOf h1 h2 m i) k)
   unfolding TickedBy ticks any
-  ticked-more ready stamps room i e first t j l =
-      image-stamp ready stamps room i (seen-map i e) j l ∙
+  ticked-more ready stamps capacity i e first t j l =
+      image-stamp ready stamps capacity i (seen-map i e) j l ∙
       rw (add-one i, t j l, e) (go (is h2 r (label h1 i) (mapped m (to h1 i)) j) (any i (ticks h1 h2 m seen r j))) where
         go : (x y : Bool) → cond x k (cond y k (getD first j 0)) ≡ cond (x || y) k (getD first j 0)
         go true y = refl

@@ -19,7 +19,7 @@ use Rattle.mark_senses.specs.Senses.{senseOf}
 use Rattle.reduce_entry.proofs.Marked.{marked-within}
 use Rattle.reduce_entry.specs.Reduce.{noShape, markedTo, markedMap, markedHops, markedShape, reduceAnswer, reduction, reduceOf, mapOutput, shortOutput}
 use Rattle.reduce_entry.specs.declared.Reduction.{Reduction}
-use Rattle.reduce_entry.proofs.Answering.{reduce-reducible, reduce-map-room, reduce-short-room, accepted-returns, accepted-map, accepted-short}
+use Rattle.reduce_entry.proofs.Answering.{reduce-reducible, reduce-map-capacity, reduce-short-capacity, accepted-returns, accepted-map, accepted-short}
 use Rattle.audit_entry.specs.declared.Audit.{Audit}
 use Rattle.audit_entry.specs.Auditing.{faultless}
 use Rattle.audit_of_reduce.specs.Together.{auditLeft}
@@ -64,12 +64,12 @@ module _ (sh : Shape) (hs : List ℕ) (k : ℕ) (map short : List ℕ) where
 
     -- both fronts are there
     pub map-there : sh .states ≤ length map
-    map-there = reduce-map-room sh hs k (length map) (length short) (zero accepts)
+    map-there = reduce-map-capacity sh hs k (length map) (length short) (zero accepts)
 
     pub short-there : red .hops ≤ count short
     short-there =
         let few : length (markedHops sh hs k) ≤ count hs = marked-within sh hs k in
-        let room : length hs ≤ length short = reduce-short-room sh hs k (length map) (length short) (zero accepts) in
+        let capacity : length hs ≤ length short = reduce-short-capacity sh hs k (length map) (length short) (zero accepts) in
         rw (e, ← figures accepts) (omega arith)
 
     pub left-faultless : {x : Audit} {map-after short-after : List ℕ} → x ≡ auditLeft sh hs red map-after short-after →

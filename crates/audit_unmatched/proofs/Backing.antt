@@ -123,7 +123,7 @@ module _ (sh1 : Shape) (h1 h2 m : List ℕ) (ranged : InRange sh1 h1) (bytes : L
 -- stamps that are all 0 are fresh for 1
 pub fresh-start : (h2 : List ℕ) (n : ℕ) → count h2 ≤ n → Fresh h2 (replicate n 0) 1
 unfolding Fresh
-fresh-start h2 n room j l = rw (getD-replicate {A = ℕ} n j 0 0 (omega arith)) (omega arith)
+fresh-start h2 n capacity j l = rw (getD-replicate {A = ℕ} n j 0 0 (omega arith)) (omega arith)
 
 -- the third sum by states
 module _ (sh1 : Shape) (h1 h2 m : List ℕ) where

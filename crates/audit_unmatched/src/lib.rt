@@ -130,7 +130,7 @@ fn made_up_of(
 ) -> OfState
     requires countable { ⌜ Countable shape1 (now hops1) (now starts1) (now silent) (now hops2) (now starts2) (now map) (now images) ⌝ }
     requires state { ⌜ s .0 < shape1 .states ⌝ }
-    requires rooms { ⌜ Rooms (shape1 .states) (now hops2) (now seen) (now queue) (now stamps) ⌝ }
+    requires capacities { ⌜ Rooms (shape1 .states) (now hops2) (now seen) (now queue) (now stamps) ⌝ }
     requires fresh { ⌜ Fresh (now hops2) (now stamps) (s .0 + 1) ⌝ }
     ensures counts { λ r. ⌜ r .faults ≡ madeUpOf shape1 (now (hops1 .entry)) (now (hops2 .entry)) (now (map .entry)) (s .0) ⌝ }
     ensures names { λ r. ⌜ r .place ≡ madeUpPlaceOf shape1 (now (hops1 .entry)) (now (hops2 .entry)) (now (map .entry)) (s .0) ⌝ }
@@ -193,7 +193,7 @@ fn made_up_faults(
     stamps: &mut [u16],
 ) -> Share
     requires countable { ⌜ Countable shape1 (now hops1) (now starts1) (now silent) (now hops2) (now starts2) (now map) (now images) ⌝ }
-    requires rooms { ⌜ Rooms (shape1 .states) (now hops2) (now seen) (now queue) (now stamps) ⌝ }
+    requires capacities { ⌜ Rooms (shape1 .states) (now hops2) (now seen) (now queue) (now stamps) ⌝ }
     requires fresh { ⌜ Fresh (now hops2) (now stamps) 1 ⌝ }
     ensures counts { λ r. ⌜ r .faults ≡ madeUpFaults shape1 (now (hops1 .entry)) (now (hops2 .entry)) (now (map .entry)) ⌝ }
     ensures names { λ r. ⌜ r .first ≡ firstMadeUp shape1 (now (hops1 .entry)) (now (hops2 .entry)) (now (map .entry)) ⌝ }

@@ -7,26 +7,26 @@ use lib.Dec.{eqb, leb}
 use Rattle.graph.specs.declared.Answer.{Answer}
 use Rattle.c_answer.specs.Numbers.{returned}
 
-module _ (a : Answer) (n room : ℕ) where
+module _ (a : Answer) (n capacity : ℕ) where
   -- too short: 6, unless the entry refuses
-  pub short-six : room < n → a .number ≡ 0 → 6 ≡ returned a n room
+  pub short-six : capacity < n → a .number ≡ 0 → 6 ≡ returned a n capacity
   unfolding returned
-  short-six l e = rw (eq-eqb _ _ e, lt-leb n room l)
+  short-six l e = rw (eq-eqb _ _ e, lt-leb n capacity l)
 
-  pub refusal-returns : (a .number ≡ 0 → ⊥) → a .number ≡ returned a n room
+  pub refusal-returns : (a .number ≡ 0 → ⊥) → a .number ≡ returned a n capacity
   unfolding returned
   refusal-returns e = rw (ne-eqb _ _ e)
 
-  pub long-returns : n ≤ room → a .number ≡ returned a n room
+  pub long-returns : n ≤ capacity → a .number ≡ returned a n capacity
   unfolding returned
   long-returns l = go (eqb (a .number) 0) refl where
-    go : (x : Bool) → eqb (a .number) 0 ≡ x → a .number ≡ cond x (cond (leb n room) 0 6) (a .number)
-    go true e = eqb-true _ _ e ∙ rw (le-leb n room l)
+    go : (x : Bool) → eqb (a .number) 0 ≡ x → a .number ≡ cond x (cond (leb n capacity) 0 6) (a .number)
+    go true e = eqb-true _ _ e ∙ rw (le-leb n capacity l)
     go false e = refl
 
 -- what is returned for an answer is returned for an equal one
-pub returned-of : (n room : ℕ) {a b : Answer} {r : ℕ} → a ≡ b → r ≡ returned a n room → r ≡ returned b n room
-returned-of n room e h = h ∙ ap (λ (x : Answer). returned x n room) e
+pub returned-of : (n capacity : ℕ) {a b : Answer} {r : ℕ} → a ≡ b → r ≡ returned a n capacity → r ≡ returned b n capacity
+returned-of n capacity e h = h ∙ ap (λ (x : Answer). returned x n capacity) e
 
 -- the answer that stands in one of two results, of which the first is taken by a test
 pub either-answer : {A : Type 0} (answer : A → Answer) (x : Bool) (r q : A) {a : Answer} → (x ≡ true → answer r ≡ a) → answer q ≡ a →

@@ -19,7 +19,7 @@ numbersOf a figures = a .number ∷ a .table ∷ a .place ∷ figures
 
 -- what is returned: the entry's number if it refuses, else 0, or 6 for an answer slice too short for n numbers
 unfoldable pub returned : Answer → ℕ → ℕ → ℕ
-returned a n room = cond (eqb (a .number) 0) (cond (leb n room) 0 6) (a .number)
+returned a n capacity = cond (eqb (a .number) 0) (cond (leb n capacity) 0 6) (a .number)
 
 -- the answer slice afterwards
 unfoldable pub told : ℕ → List ℕ → List ℕ → List ℕ

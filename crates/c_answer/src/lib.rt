@@ -13,9 +13,9 @@ ghost use Rattle.base_outputs.specs.Output.{onFront};
 ghost use Rattle.c_answer.specs.Numbers.{numbersOf, returned, told};
 
 // The number where the answer slice is too short for n figures: a refusal's own, else 6.
-pub fn short_number(a: Answer, room: usize, n: usize) -> u32
-    requires { ⌜ room < n ⌝ }
-    ensures { λ r. ⌜ r ≡ returned a n room ⌝ }
+pub fn short_number(a: Answer, capacity: usize, n: usize) -> u32
+    requires { ⌜ capacity < n ⌝ }
+    ensures { λ r. ⌜ r ≡ returned a n capacity ⌝ }
 {
     let number = a.number;
     if number == 0 {

@@ -13,13 +13,13 @@ use Rattle.file_read.proofs.Entry.{read-accepts}
 use Rattle.file_write.proofs.Given.{write-accepts}
 use Rattle.c_answer.proofs.Answers.{either-answer}
 
-pub found-answer : (b : List ℕ) (room : ℕ) → readOf b room .answer ≡ readAnswer b room
+pub found-answer : (b : List ℕ) (capacity : ℕ) → readOf b capacity .answer ≡ readAnswer b capacity
 unfolding readOf
-found-answer b room =
-    either-answer (λ (c : Contents). c .answer) (eqb (readAnswer b room .number) 0) _ _ (λ e. sym (read-accepts b room (eqb-true _ _ e) .0)) refl
+found-answer b capacity =
+    either-answer (λ (c : Contents). c .answer) (eqb (readAnswer b capacity .number) 0) _ _ (λ e. sym (read-accepts b capacity (eqb-true _ _ e) .0)) refl
 
-pub written-answer : (sh : Shape) (hs ns : List ℕ) (room : ℕ) → writeOf sh hs ns room .answer ≡ writeAnswer sh hs ns room
+pub written-answer : (sh : Shape) (hs ns : List ℕ) (capacity : ℕ) → writeOf sh hs ns capacity .answer ≡ writeAnswer sh hs ns capacity
 unfolding writeOf
-written-answer sh hs ns room =
-    either-answer (λ (w : Written). w .answer) (eqb (writeAnswer sh hs ns room .number) 0) _ _
-    (λ e. sym (write-accepts sh hs ns room (eqb-true _ _ e) .0)) refl
+written-answer sh hs ns capacity =
+    either-answer (λ (w : Written). w .answer) (eqb (writeAnswer sh hs ns capacity .number) 0) _ _
+    (λ e. sym (write-accepts sh hs ns capacity (eqb-true _ _ e) .0)) refl

@@ -8,7 +8,7 @@ use Rattle.reduce_entry.specs.declared.Reduction.{Reduction}
 use Rattle.reduce_entry.specs.Reduce.{reduceAnswer, reduceOf}
 use Rattle.c_answer.proofs.Answers.{either-answer}
 
-pub reduced-answer : (sh : Shape) (hs : List ℕ) (k map-room short-room : ℕ) →
-    reduceOf sh hs k map-room short-room .answer ≡ reduceAnswer sh hs k map-room short-room
+pub reduced-answer : (sh : Shape) (hs : List ℕ) (k map-capacity short-capacity : ℕ) →
+    reduceOf sh hs k map-capacity short-capacity .answer ≡ reduceAnswer sh hs k map-capacity short-capacity
 unfolding reduceOf
 reduced-answer sh hs k m s = either-answer (λ (r : Reduction). r .answer) (eqb (reduceAnswer sh hs k m s .number) 0) _ _ (λ _. refl) refl

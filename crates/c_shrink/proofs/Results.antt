@@ -9,7 +9,7 @@ use Rattle.shrink_entry.specs.declared.Shrinking.{Shrinking}
 use Rattle.shrink_entry.specs.Shrink.{shrinkOf}
 use Rattle.c_answer.proofs.Answers.{either-answer}
 
-pub shrunk-answer : (sh : Shape) (hs : List ℕ) (k map-room short-room : ℕ) →
-    shrinkOf sh hs k map-room short-room .answer ≡ reduceAnswer sh hs k map-room short-room
+pub shrunk-answer : (sh : Shape) (hs : List ℕ) (k map-capacity short-capacity : ℕ) →
+    shrinkOf sh hs k map-capacity short-capacity .answer ≡ reduceAnswer sh hs k map-capacity short-capacity
 unfolding shrinkOf
 shrunk-answer sh hs k m s = either-answer (λ (r : Shrinking). r .answer) (eqb (reduceAnswer sh hs k m s .number) 0) _ _ (λ _. refl) refl

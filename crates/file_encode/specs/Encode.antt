@@ -38,9 +38,9 @@ unfoldable pub encode : Shape → List ℕ → List ℕ → List ℕ
 encode sh hs ns = headBytes sh (bitsOf sh hs ns) ++ (initialBytes sh ++ (hopsBytes hs ++ (ns ++ linesBytes hs)))
 
 -- what putting a file asks: its numbers are 16-bit, and the output has room
-pub record Writable (sh : Shape) (hs ns : List ℕ) (room : ℕ) : Type 0 where
+pub record Writable (sh : Shape) (hs ns : List ℕ) (capacity : ℕ) : Type 0 where
   pub states-fit : sh .states ≤ most-number
   pub labels-fit : sh .labels ≤ most-number
   pub initial-fits : sh .initial ≤ most-number
   pub hops-fit : count hs ≤ most-hops
-  pub fits : length (encode sh hs ns) ≤ room
+  pub fits : length (encode sh hs ns) ≤ capacity

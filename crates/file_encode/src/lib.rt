@@ -85,7 +85,7 @@ fn bits_of(shape: Shape, hops: &[u16], names: &[u8], lined: bool) -> u8
 
 fn put_initial(out: &mut [u8], at: usize, shape: Shape)
     requires fits { ⌜ shape .initial ≤ most-number ⌝ }
-    requires room { ⌜ at + length (initialBytes shape) ≤ length (now out) ⌝ }
+    requires capacity { ⌜ at + length (initialBytes shape) ≤ length (now out) ⌝ }
     ensures { λ _. ⌜ now (out .exit) ≡ overAt at (initialBytes shape) (now (out .entry)) ⌝ }
 {
     if shape.initial != 0 {
@@ -95,7 +95,7 @@ fn put_initial(out: &mut [u8], at: usize, shape: Shape)
 
 fn put_hops(out: &mut [u8], at: usize, hops: &[u16])
     requires few { ⌜ count (now hops) ≤ most-hops ⌝ }
-    requires room { ⌜ at + length (hopsBytes (now hops)) ≤ length (now out) ⌝ }
+    requires capacity { ⌜ at + length (hopsBytes (now hops)) ≤ length (now out) ⌝ }
     ensures { λ _. ⌜ now (out .exit) ≡ overAt at (hopsBytes (now (hops .entry))) (now (out .entry)) ⌝ }
 {
     if hop_count(hops) != 0 {
@@ -105,7 +105,7 @@ fn put_hops(out: &mut [u8], at: usize, hops: &[u16])
 
 fn put_lines_of(out: &mut [u8], at: usize, hops: &[u16], lined: bool)
     requires lined { ⌜ lined ≡ anyLine (now hops) ⌝ }
-    requires room { ⌜ at + length (linesBytes (now hops)) ≤ length (now out) ⌝ }
+    requires capacity { ⌜ at + length (linesBytes (now hops)) ≤ length (now out) ⌝ }
     ensures { λ _. ⌜ now (out .exit) ≡ overAt at (linesBytes (now (hops .entry))) (now (out .entry)) ⌝ }
 {
     if lined {
@@ -117,7 +117,7 @@ fn put_lines_of(out: &mut [u8], at: usize, hops: &[u16], lined: bool)
 fn put_head(shape: Shape, bits: u8, out: &mut [u8])
     requires states { ⌜ shape .states ≤ most-number ⌝ }
     requires labels { ⌜ shape .labels ≤ most-number ⌝ }
-    requires room { ⌜ initial-place ≤ length (now out) ⌝ }
+    requires capacity { ⌜ initial-place ≤ length (now out) ⌝ }
     ensures { λ _. ⌜ now (out .exit) ≡ onFront (headBytes shape bits) (now (out .entry)) ⌝ }
 {
     out[0] = bits;

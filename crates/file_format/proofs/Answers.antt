@@ -80,7 +80,7 @@ module _ {b rest : List ℕ} {place : ℕ} (k : RestAt b rest place) {n end line
     rest-within = omega (arith, need-is, rest-length)
 
     pub rest-searchable : {places : ℕ} → most-place < least-name-bytes * places → Searchable rest n places
-    rest-searchable g = record { whole = rw (← e) (omega arith); room = inr g }
+    rest-searchable g = record { whole = rw (← e) (omega arith); capacity = inr g }
 
     module _ (g : length rest ≤ end + lines) {f : Bool} (d : f ≡ idleBit b) where
       pub rest-idle : f ≡ true → refused 12 0 ≡ formatAnswer b

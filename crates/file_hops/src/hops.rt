@@ -50,7 +50,7 @@ fn hop_in(file: &[u8], at: usize, lines: Lines, i: usize) -> Hop
 pub fn take_hops(file: &[u8], at: usize, lines: Lines, n: usize, hops: &mut [u16])
     requires lie { ⌜ HopsLie (now file) at n ⌝ }
     requires lined { ⌜ LinesLie (now file) lines n ⌝ }
-    requires room { ⌜ n ≤ count (now hops) ⌝ }
+    requires capacity { ⌜ n ≤ count (now hops) ⌝ }
     ensures { λ _. ⌜ now (hops .exit) ≡ onFront (hopsInField (now (file .entry)) at lines n) (now (hops .entry)) ⌝ }
 {
     let mut i: usize = 0;
@@ -86,7 +86,7 @@ fn put_each_hop(out: &mut [u8], at: usize, hops: &[u16])
 // The field of a hop list, at a place of the output.
 pub fn put_field(out: &mut [u8], at: usize, hops: &[u16])
     requires few { ⌜ count (now hops) ≤ most-number ⌝ }
-    requires room { ⌜ at + fieldLength (count (now hops)) ≤ length (now out) ⌝ }
+    requires capacity { ⌜ at + fieldLength (count (now hops)) ≤ length (now out) ⌝ }
     ensures { λ _. ⌜ now (out .exit) ≡ overAt at (fieldBytes (now (hops .entry))) (now (out .entry)) ⌝ }
 {
     put_number(out, at, hop_count(hops) as u16);

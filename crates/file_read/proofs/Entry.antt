@@ -68,48 +68,48 @@ module _ (b : List ℕ) where
     pub graph-copied : {sh : Shape} {m : ℕ} → sh ≡ shapeIn b → m ≡ numberPlace n → checkOf sh (take (m - 0) (drop 0 copy)) ≡ checkOf (shapeIn b) (hopListIn b)
     graph-copied s k = rw s (ap (checkOf (shapeIn b)) (hops-part copy old hops-taken (k ∙ ap numberPlace d)))
 
-  module _ (room : ℕ) {a : Answer} (f : a ≡ formatAnswer b) where
-    pub format-speaks : (a .number ≡ 0 → ⊥) → a ≡ readAnswer b room
+  module _ (capacity : ℕ) {a : Answer} (f : a ≡ formatAnswer b) where
+    pub format-speaks : (a .number ≡ 0 → ⊥) → a ≡ readAnswer b capacity
     unfolding readAnswer
     format-speaks n = rw (← f, ne-eqb _ _ n)
 
     module _ (z : a .number ≡ 0) {g : Answer} (e : g ≡ checkOf (shapeIn b) (hopListIn b)) where
-      pub graph-speaks : (g .number ≡ 0 → ⊥) → g ≡ readAnswer b room
+      pub graph-speaks : (g .number ≡ 0 → ⊥) → g ≡ readAnswer b capacity
       unfolding readAnswer
       graph-speaks n = rw (← f, eq-eqb _ _ z, ← e, ne-eqb _ _ n)
 
       module _ (y : g .number ≡ 0) {n : ℕ} (d : n ≡ numberPlace (hopsIn b)) where
-        pub room-speaks : room < n → refused 6 0 ≡ readAnswer b room
+        pub capacity-speaks : capacity < n → refused 6 0 ≡ readAnswer b capacity
         unfolding readAnswer
-        room-speaks l = rw (← f, eq-eqb _ _ z, ← e, eq-eqb _ _ y, ← d, lt-leb _ _ l)
+        capacity-speaks l = rw (← f, eq-eqb _ _ z, ← e, eq-eqb _ _ y, ← d, lt-leb _ _ l)
 
-        pub none-speaks : n ≤ room → accepted ≡ readAnswer b room
+        pub none-speaks : n ≤ capacity → accepted ≡ readAnswer b capacity
         unfolding readAnswer
         none-speaks l = rw (← f, eq-eqb _ _ z, ← e, eq-eqb _ _ y, ← d, le-leb _ _ l)
 
   -- what acceptance says
-  pub read-accepts : (room : ℕ) → readAnswer b room .number ≡ 0 → (readAnswer b room ≡ accepted) × (numberPlace (hopsIn b) ≤ room)
+  pub read-accepts : (capacity : ℕ) → readAnswer b capacity .number ≡ 0 → (readAnswer b capacity ≡ accepted) × (numberPlace (hopsIn b) ≤ capacity)
   unfolding readAnswer
-  read-accepts room z =
-      let (f, g) = both-accept (formatAnswer b) (andThen (checkOf (shapeIn b) (hopListIn b)) (roomFor (numberPlace (hopsIn b)) room)) z in
-      let (h, r) = both-accept (checkOf (shapeIn b) (hopListIn b)) (roomFor (numberPlace (hopsIn b)) room) g in
-      let (a, l) = room-accepts (numberPlace (hopsIn b)) room r in
+  read-accepts capacity z =
+      let (f, g) = both-accept (formatAnswer b) (andThen (checkOf (shapeIn b) (hopListIn b)) (roomFor (numberPlace (hopsIn b)) capacity)) z in
+      let (h, r) = both-accept (checkOf (shapeIn b) (hopListIn b)) (roomFor (numberPlace (hopsIn b)) capacity) g in
+      let (a, l) = room-accepts (numberPlace (hopsIn b)) capacity r in
       (second-accepts (formatAnswer b) _ z ∙ second-accepts (checkOf (shapeIn b) (hopListIn b)) _ g ∙ a, l)
 
-  pub graph-accepts : (room : ℕ) → readAnswer b room .number ≡ 0 → checkOf (shapeIn b) (hopListIn b) .number ≡ 0
+  pub graph-accepts : (capacity : ℕ) → readAnswer b capacity .number ≡ 0 → checkOf (shapeIn b) (hopListIn b) .number ≡ 0
   unfolding readAnswer
-  graph-accepts room z =
-      both-accept (checkOf (shapeIn b) (hopListIn b)) (roomFor (numberPlace (hopsIn b)) room)
-      (both-accept (formatAnswer b) (andThen (checkOf (shapeIn b) (hopListIn b)) (roomFor (numberPlace (hopsIn b)) room)) z .1) .0
+  graph-accepts capacity z =
+      both-accept (checkOf (shapeIn b) (hopListIn b)) (roomFor (numberPlace (hopsIn b)) capacity)
+      (both-accept (formatAnswer b) (andThen (checkOf (shapeIn b) (hopListIn b)) (roomFor (numberPlace (hopsIn b)) capacity)) z .1) .0
 
-  pub hops-most : (room : ℕ) → readAnswer b room .number ≡ 0 → hopsIn b ≤ most-hops
-  hops-most room z = graph-few refl (graph-accepts room z)
+  pub hops-most : (capacity : ℕ) → readAnswer b capacity .number ≡ 0 → hopsIn b ≤ most-hops
+  hops-most capacity z = graph-few refl (graph-accepts capacity z)
 
   -- an accepted file has the form that it should
-  pub accepted-sound : (room : ℕ) → readAnswer b room .number ≡ 0 → Sound b
+  pub accepted-sound : (capacity : ℕ) → readAnswer b capacity .number ≡ 0 → Sound b
   unfolding readAnswer
-  accepted-sound room z =
-      format-sound b (both-accept (formatAnswer b) (andThen (checkOf (shapeIn b) (hopListIn b)) (roomFor (numberPlace (hopsIn b)) room)) z .0)
+  accepted-sound capacity z =
+      format-sound b (both-accept (formatAnswer b) (andThen (checkOf (shapeIn b) (hopListIn b)) (roomFor (numberPlace (hopsIn b)) capacity)) z .0)
 
   -- what a refusal and an acceptance give and write
   module _ (old : List ℕ) where
@@ -122,5 +122,5 @@ module _ (b : List ℕ) where
     accepted-gives e = (rw (← e), rw (← e))
 
 -- "file ends before its contents": every proper front of an accepted file is refused with 11, at its own length
-pub front-ends-early : (b : List ℕ) (room k : ℕ) → readAnswer b room .number ≡ 0 → k < length b → readAnswer (take k b) room ≡ refused 11 k
-front-ends-early b room k e l = sym (format-speaks (take k b) room (front-refused b k l (accepted-sound b room e)) (λ z. absurd (omega arith)))
+pub front-ends-early : (b : List ℕ) (capacity k : ℕ) → readAnswer b capacity .number ≡ 0 → k < length b → readAnswer (take k b) capacity ≡ refused 11 k
+front-ends-early b capacity k e l = sym (format-speaks (take k b) capacity (front-refused b k l (accepted-sound b capacity e)) (λ z. absurd (omega arith)))

@@ -15,7 +15,7 @@ use Rattle.file_read.specs.declared.Contents.{Contents}
 
 -- "then 1 to 4, then 6": the output takes four numbers a hop
 unfoldable pub readAnswer : List ℕ → ℕ → Answer
-readAnswer b room = andThen (formatAnswer b) (andThen (checkOf (shapeIn b) (hopListIn b)) (roomFor (numberPlace (hopsIn b)) room))
+readAnswer b capacity = andThen (formatAnswer b) (andThen (checkOf (shapeIn b) (hopListIn b)) (roomFor (numberPlace (hopsIn b)) capacity))
 
 -- "with any number but 0 every other figure in the answer is 0"
 abbrev pub nothing : Answer → Contents
@@ -25,7 +25,7 @@ abbrev pub contentsOf : List ℕ → Contents
 contentsOf b = record { answer = accepted; shape = shapeIn b; hops = hopsIn b; «names_place» = blockPlace b; «names_len» = blockLength b }
 
 unfoldable pub readOf : List ℕ → ℕ → Contents
-readOf b room = cond (eqb (readAnswer b room .number) 0) (contentsOf b) (nothing (readAnswer b room))
+readOf b capacity = cond (eqb (readAnswer b capacity .number) 0) (contentsOf b) (nothing (readAnswer b capacity))
 
 -- "A refusal leaves all lent elements untouched"; "Acceptance writes the named elements and none past them"
 unfoldable pub readHops : List ℕ → List ℕ → List ℕ

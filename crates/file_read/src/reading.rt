@@ -39,8 +39,8 @@ fn hops_answer(file: &[u8]) -> Answer
 }
 
 // The answer, before anything is written: the format, then 1 to 4, then 6.
-pub fn read_answer(file: &[u8], room: usize) -> Answer
-    ensures { λ r. ⌜ r ≡ readAnswer (now (file .entry)) room ⌝ }
+pub fn read_answer(file: &[u8], capacity: usize) -> Answer
+    ensures { λ r. ⌜ r ≡ readAnswer (now (file .entry)) capacity ⌝ }
 {
     let format = format_answer(file);
     if format.number != 0 {
@@ -50,7 +50,7 @@ pub fn read_answer(file: &[u8], room: usize) -> Answer
     if graph.number != 0 {
         return graph;
     }
-    if room < number_place(hops_in(file) as usize) {
+    if capacity < number_place(hops_in(file) as usize) {
         return refuse(6, 0);
     }
     accept()

@@ -181,5 +181,5 @@ module _ (b : List ℕ) (small : Bytes b) where
         (number-again b small labels-place (omega (arith, names-place-least b, names-within b s)) ∙ ap (number (labelsIn b) ++_)
         (initial-again ∙ ap (initialBytes (shapeIn b) ++_) (hops-again ∙ ap (hopsBytes (hopListIn b) ++_) (block-again ∙ ap (blockIn b ++_) lines-at-end)))))))
 
-pub decode-encode : (b : List ℕ) (room : ℕ) → Bytes b → readAnswer b room .number ≡ 0 → encode (shapeIn b) (hopListIn b) (blockIn b) ≡ b
-decode-encode b room small e = same-bytes b small (accepted-sound b room e)
+pub decode-encode : (b : List ℕ) (capacity : ℕ) → Bytes b → readAnswer b capacity .number ≡ 0 → encode (shapeIn b) (hopListIn b) (blockIn b) ≡ b
+decode-encode b capacity small e = same-bytes b small (accepted-sound b capacity e)

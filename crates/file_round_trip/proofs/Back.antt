@@ -264,9 +264,9 @@ module _ (sh : Shape) (hs ns : List ℕ) (whole : length hs % numbers-a-hop ≡ 
       unfolding shapeIn
       shape-back = rw (states-back, labels-back, initial-back .0)
 
-      answer-back : (room : ℕ) → length hs ≤ room → readAnswer file room ≡ accepted
-      answer-back room l =
-          sym (none-speaks file room refl (ap (λ (x : Answer). x .number) format-back) refl (rw (shape-back, list-back) (ap (λ (x : Answer). x .number) (admitted-check sh hs a))) refl (omega (arith, hops-back .0, whole)))
+      answer-back : (capacity : ℕ) → length hs ≤ capacity → readAnswer file capacity ≡ accepted
+      answer-back capacity l =
+          sym (none-speaks file capacity refl (ap (λ (x : Answer). x .number) format-back) refl (rw (shape-back, list-back) (ap (λ (x : Answer). x .number) (admitted-check sh hs a))) refl (omega (arith, hops-back .0, whole)))
 
 -- "The longest legal file has 66,536 bytes"
 pub longest : (sh : Shape) (hs ns : List ℕ) → givenAnswer sh hs ns .number ≡ 0 → length (encode sh hs ns) ≤ most-bytes
@@ -279,18 +279,18 @@ longest-at-limits sh hs ns i h e n =
     omega (arith, length-encode sh hs ns, ap length (initial-some sh i), length-hops-some hs (λ z. omega arith), length-lines-some hs e)
 
 -- what is read of a file that was written
-pub record ReadBack (sh : Shape) (hs ns b : List ℕ) (room : ℕ) : Type 0 where
-  pub accepts : readAnswer b room ≡ accepted
+pub record ReadBack (sh : Shape) (hs ns b : List ℕ) (capacity : ℕ) : Type 0 where
+  pub accepts : readAnswer b capacity ≡ accepted
   pub same-graph : contentsOf b ≡ sameGraph sh hs ns
   pub same-hops : hopListIn b ≡ hs
   pub same-block : blockIn b ≡ ns
 
-pub encode-decode : (sh : Shape) (hs ns : List ℕ) (room : ℕ) → givenAnswer sh hs ns .number ≡ 0 → length hs ≤ room → ReadBack sh hs ns (encode sh hs ns) room
-encode-decode sh hs ns room e m =
+pub encode-decode : (sh : Shape) (hs ns : List ℕ) (capacity : ℕ) → givenAnswer sh hs ns .number ≡ 0 → length hs ≤ capacity → ReadBack sh hs ns (encode sh hs ns) capacity
+encode-decode sh hs ns capacity e m =
     let (a, l) = written-means sh hs ns e in
     let t = a .whole-hops in
     record {
-      accepts = answer-back sh hs ns t l a room m;
+      accepts = answer-back sh hs ns t l a capacity m;
       same-graph = rw (shape-back sh hs ns t l a, hops-back sh hs ns t .0, block-back sh hs ns t l .1, block-back sh hs ns t l .2);
       same-hops = list-back sh hs ns t l;
       same-block = block-back sh hs ns t l .0;

@@ -38,46 +38,46 @@ use Rattle.file_round_trip.proofs.Again.{block-again, block-ends, block
 use Rattle.file_round_trip.proofs.Back.{ReadBack, encode-decode}
 
 -- what the entries' results say of their answers
-module _ (b : List ℕ) (room : ℕ) {c : Contents} (e : c ≡ readOf b room) where
-  pub found-refused : (c .answer .number ≡ 0 → ⊥) → c .answer ≡ readAnswer b room
+module _ (b : List ℕ) (capacity : ℕ) {c : Contents} (e : c ≡ readOf b capacity) where
+  pub found-refused : (c .answer .number ≡ 0 → ⊥) → c .answer ≡ readAnswer b capacity
   unfolding readOf
-  found-refused n = go (eqb (readAnswer b room .number) 0) refl where
-    go : (t : Bool) → eqb (readAnswer b room .number) 0 ≡ t → c .answer ≡ readAnswer b room
+  found-refused n = go (eqb (readAnswer b capacity .number) 0) refl where
+    go : (t : Bool) → eqb (readAnswer b capacity .number) 0 ≡ t → c .answer ≡ readAnswer b capacity
     go true d = absurd (n (ap (λ (x : Contents). x .answer .number) e ∙ rw d))
     go false d = ap (λ (x : Contents). x .answer) e ∙ rw d
 
-  pub found-accepted : c .answer .number ≡ 0 → (readAnswer b room .number ≡ 0) × (c ≡ contentsOf b)
+  pub found-accepted : c .answer .number ≡ 0 → (readAnswer b capacity .number ≡ 0) × (c ≡ contentsOf b)
   unfolding readOf
-  found-accepted z = go (eqb (readAnswer b room .number) 0) refl where
-    go : (t : Bool) → eqb (readAnswer b room .number) 0 ≡ t → (readAnswer b room .number ≡ 0) × (c ≡ contentsOf b)
+  found-accepted z = go (eqb (readAnswer b capacity .number) 0) refl where
+    go : (t : Bool) → eqb (readAnswer b capacity .number) 0 ≡ t → (readAnswer b capacity .number ≡ 0) × (c ≡ contentsOf b)
     go true d = (eqb-true _ _ d, e ∙ rw d)
-    go false d = let q : c ≡ nothing (readAnswer b room) = e ∙ rw d in absurd (eqb-false _ _ d (ap (λ (x : Contents). x .answer .number) (sym q) ∙ z))
+    go false d = let q : c ≡ nothing (readAnswer b capacity) = e ∙ rw d in absurd (eqb-false _ _ d (ap (λ (x : Contents). x .answer .number) (sym q) ∙ z))
 
-module _ (sh : Shape) (hs ns : List ℕ) (room : ℕ) {w : Written} (e : w ≡ writeOf sh hs ns room) where
-  pub put-refused : (w .answer .number ≡ 0 → ⊥) → w .answer ≡ writeAnswer sh hs ns room
+module _ (sh : Shape) (hs ns : List ℕ) (capacity : ℕ) {w : Written} (e : w ≡ writeOf sh hs ns capacity) where
+  pub put-refused : (w .answer .number ≡ 0 → ⊥) → w .answer ≡ writeAnswer sh hs ns capacity
   unfolding writeOf
-  put-refused n = go (eqb (writeAnswer sh hs ns room .number) 0) refl where
-    go : (t : Bool) → eqb (writeAnswer sh hs ns room .number) 0 ≡ t → w .answer ≡ writeAnswer sh hs ns room
+  put-refused n = go (eqb (writeAnswer sh hs ns capacity .number) 0) refl where
+    go : (t : Bool) → eqb (writeAnswer sh hs ns capacity .number) 0 ≡ t → w .answer ≡ writeAnswer sh hs ns capacity
     go true d = absurd (n (ap (λ (x : Written). x .answer .number) e ∙ rw d))
     go false d = ap (λ (x : Written). x .answer) e ∙ rw d
 
-  pub put-accepted : w .answer .number ≡ 0 → (writeAnswer sh hs ns room .number ≡ 0) × (w .length ≡ length (encode sh hs ns))
+  pub put-accepted : w .answer .number ≡ 0 → (writeAnswer sh hs ns capacity .number ≡ 0) × (w .length ≡ length (encode sh hs ns))
   unfolding writeOf
-  put-accepted z = go (eqb (writeAnswer sh hs ns room .number) 0) refl where
-    go : (t : Bool) → eqb (writeAnswer sh hs ns room .number) 0 ≡ t → (writeAnswer sh hs ns room .number ≡ 0) × (w .length ≡ length (encode sh hs ns))
+  put-accepted z = go (eqb (writeAnswer sh hs ns capacity .number) 0) refl where
+    go : (t : Bool) → eqb (writeAnswer sh hs ns capacity .number) 0 ≡ t → (writeAnswer sh hs ns capacity .number ≡ 0) × (w .length ≡ length (encode sh hs ns))
     go true d = (eqb-true _ _ d, ap (λ (x : Written). x .length) e ∙ rw d)
-    go false d = let q : w ≡ nothingWritten (writeAnswer sh hs ns room) = e ∙ rw d in absurd (eqb-false _ _ d (ap (λ (x : Written). x .answer .number) (sym q) ∙ z))
+    go false d = let q : w ≡ nothingWritten (writeAnswer sh hs ns capacity) = e ∙ rw d in absurd (eqb-false _ _ d (ap (λ (x : Written). x .answer .number) (sym q) ∙ z))
 
 -- a file that reading accepts
-module _ (b : List ℕ) (room : ℕ) (small : Bytes b) (z : readAnswer b room .number ≡ 0) where
+module _ (b : List ℕ) (capacity : ℕ) (small : Bytes b) (z : readAnswer b capacity .number ≡ 0) where
   sound : Sound b
-  sound = accepted-sound b room z
+  sound = accepted-sound b capacity z
 
   admitted-again : Admitted (shapeIn b) (hopListIn b)
-  admitted-again = check-admitted (shapeIn b) (hopListIn b) (graph-accepts b room z)
+  admitted-again = check-admitted (shapeIn b) (hopListIn b) (graph-accepts b capacity z)
 
   pub hops-again-most : numberPlace (hopsIn b) ≤ most-numbers
-  hops-again-most = omega (arith, hops-most b room z)
+  hops-again-most = omega (arith, hops-most b capacity z)
 
   pub block-within : blockPlace b + blockLength b ≤ length b
   unfolding need
@@ -183,9 +183,9 @@ module _ (sh : Shape) (hs ns file again : List ℕ) where
     back-graph n = rw (← e, ne-eqb _ _ n)
 
     module _ (z : a .number ≡ 0) where
-      pub back-room : length again < length hs → refused 6 0 ≡ backAnswer sh hs ns (length file) (length again)
+      pub back-capacity : length again < length hs → refused 6 0 ≡ backAnswer sh hs ns (length file) (length again)
       unfolding backAnswer
-      back-room l = rw (← e, eq-eqb _ _ z, lt-leb _ _ l)
+      back-capacity l = rw (← e, eq-eqb _ _ z, lt-leb _ _ l)
 
       module _ (l : length hs ≤ length again) where
         back-write : writeAnswer sh hs ns (length file) ≡ backAnswer sh hs ns (length file) (length again)
@@ -220,9 +220,9 @@ module _ (sh : Shape) (hs ns file again : List ℕ) where
           back-accepted f =
               (rw (same .accepts, eq-eqb _ _ back-zero) (same .same-graph), (f ∙ rw (eq-eqb _ _ y, eq-eqb _ _ back-zero), rw (same .accepts, eq-eqb _ _ back-zero, same .same-hops)))
 
-          pub written-room : length (encode sh hs ns) ≤ length file
+          pub written-capacity : length (encode sh hs ns) ≤ length file
           unfolding writeAnswer
-          written-room =
+          written-capacity =
               go (leb (length (encode sh hs ns)) (length file)) refl (both-accept (givenAnswer sh hs ns) (roomFor (length (encode sh hs ns)) (length file)) y .1) where
                 go : (t : Bool) → leb (length (encode sh hs ns)) (length file) ≡ t → (cond t accepted (refused 6 0)) .number ≡ 0 → length (encode sh hs ns) ≤ length file
                 go true d x = leb-true _ _ d

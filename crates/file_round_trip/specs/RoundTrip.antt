@@ -17,10 +17,10 @@ use Rattle.file_write.specs.declared.Written.{Written}
 
 -- "A file read and written again has the same bytes": it is read into room for the hops of every graph
 unfoldable pub copyAnswer : List ℕ → ℕ → Answer
-copyAnswer b room = andThen (readAnswer b most-numbers) (roomFor (length b) room)
+copyAnswer b capacity = andThen (readAnswer b most-numbers) (roomFor (length b) capacity)
 
 unfoldable pub copyOf : List ℕ → ℕ → Written
-copyOf b room = cond (eqb (copyAnswer b room .number) 0) (record { answer = accepted; length = length b }) (nothingWritten (copyAnswer b room))
+copyOf b capacity = cond (eqb (copyAnswer b capacity .number) 0) (record { answer = accepted; length = length b }) (nothingWritten (copyAnswer b capacity))
 
 unfoldable pub copyBytes : List ℕ → List ℕ → List ℕ
 copyBytes b old = written (copyAnswer b (length old) .number) b old
@@ -33,13 +33,13 @@ abbrev pub sameGraph : Shape → List ℕ → List ℕ → Contents
 sameGraph sh hs ns = record { answer = accepted; shape = sh; hops = count hs; «names_place» = blockStart sh hs ns; «names_len» = length ns }
 
 unfoldable pub backAnswer : Shape → List ℕ → List ℕ → ℕ → ℕ → Answer
-backAnswer sh hs ns room hopRoom = andThen (givenAnswer sh hs ns) (andThen (roomFor (length hs) hopRoom) (roomFor (length (encode sh hs ns)) room))
+backAnswer sh hs ns capacity hopCapacity = andThen (givenAnswer sh hs ns) (andThen (roomFor (length hs) hopCapacity) (roomFor (length (encode sh hs ns)) capacity))
 
 unfoldable pub backOf : Shape → List ℕ → List ℕ → ℕ → ℕ → Contents
-backOf sh hs ns room hopRoom = cond (eqb (backAnswer sh hs ns room hopRoom .number) 0) (sameGraph sh hs ns) (nothing (backAnswer sh hs ns room hopRoom))
+backOf sh hs ns capacity hopCapacity = cond (eqb (backAnswer sh hs ns capacity hopCapacity .number) 0) (sameGraph sh hs ns) (nothing (backAnswer sh hs ns capacity hopCapacity))
 
 unfoldable pub backBytes : Shape → List ℕ → List ℕ → List ℕ → ℕ → List ℕ
-backBytes sh hs ns old hopRoom = written (backAnswer sh hs ns (length old) hopRoom .number) (encode sh hs ns) old
+backBytes sh hs ns old hopCapacity = written (backAnswer sh hs ns (length old) hopCapacity .number) (encode sh hs ns) old
 
 unfoldable pub backHops : Shape → List ℕ → List ℕ → ℕ → List ℕ → List ℕ
-backHops sh hs ns room old = written (backAnswer sh hs ns room (length old) .number) hs old
+backHops sh hs ns capacity old = written (backAnswer sh hs ns capacity (length old) .number) hs old

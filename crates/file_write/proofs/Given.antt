@@ -33,7 +33,7 @@ module _ (ns : List ℕ) (n : ℕ) {end : ℕ} (e : end ≡ nameAt ns n) where
     block-left m = rw (← e, le-ltb _ _ l, lt-ltb _ _ m)
 
     pub block-searchable : {places : ℕ} → n ≤ places → Searchable ns n places
-    block-searchable g = record { whole = rw (← e) l; room = inl g }
+    block-searchable g = record { whole = rw (← e) l; capacity = inl g }
 
     module _ (m : length ns ≤ end) {bad : ℕ} (d : bad ≡ nameAt ns (firstBad ns n)) where
       pub block-bad : bad < end → refused 14 bad ≡ blockAnswer ns n
@@ -67,8 +67,8 @@ module _ (sh : Shape) (hs ns : List ℕ) where
       graph-named n d = rw (← e, eq-eqb _ _ z, ne-eqb _ _ n) d
 
   -- then 6
-  module _ (room : ℕ) {a : Answer} (e : a ≡ givenAnswer sh hs ns) where
-    pub given-speaks : (a .number ≡ 0 → ⊥) → a ≡ writeAnswer sh hs ns room
+  module _ (capacity : ℕ) {a : Answer} (e : a ≡ givenAnswer sh hs ns) where
+    pub given-speaks : (a .number ≡ 0 → ⊥) → a ≡ writeAnswer sh hs ns capacity
     unfolding writeAnswer
     given-speaks n = rw (← e, ne-eqb _ _ n)
 
@@ -81,15 +81,15 @@ module _ (sh : Shape) (hs ns : List ℕ) where
       given-few = given-admitted .hops-most
 
       module _ {n : ℕ} (d : n ≡ length (encode sh hs ns)) where
-        pub room-speaks : room < n → refused 6 0 ≡ writeAnswer sh hs ns room
+        pub capacity-speaks : capacity < n → refused 6 0 ≡ writeAnswer sh hs ns capacity
         unfolding writeAnswer
-        room-speaks l = rw (← e, eq-eqb _ _ z, ← d, lt-leb _ _ l)
+        capacity-speaks l = rw (← e, eq-eqb _ _ z, ← d, lt-leb _ _ l)
 
-        pub none-speaks : n ≤ room → accepted ≡ writeAnswer sh hs ns room
+        pub none-speaks : n ≤ capacity → accepted ≡ writeAnswer sh hs ns capacity
         unfolding writeAnswer
         none-speaks l = rw (← e, eq-eqb _ _ z, ← d, le-leb _ _ l)
 
-        pub writable : n ≤ room → Writable sh hs ns room
+        pub writable : n ≤ capacity → Writable sh hs ns capacity
         writable l = record {
           states-fit = omega (arith, given-admitted .states-most);
           labels-fit = omega (arith, given-admitted .labels-most);
@@ -99,30 +99,30 @@ module _ (sh : Shape) (hs ns : List ℕ) where
         }
 
   -- what acceptance says
-  pub write-accepts : (room : ℕ) → writeAnswer sh hs ns room .number ≡ 0 →
-      (writeAnswer sh hs ns room ≡ accepted) × (givenAnswer sh hs ns .number ≡ 0) × (length (encode sh hs ns) ≤ room)
+  pub write-accepts : (capacity : ℕ) → writeAnswer sh hs ns capacity .number ≡ 0 →
+      (writeAnswer sh hs ns capacity ≡ accepted) × (givenAnswer sh hs ns .number ≡ 0) × (length (encode sh hs ns) ≤ capacity)
   unfolding writeAnswer
-  write-accepts room z =
-      let (g, r) = both-accept (givenAnswer sh hs ns) (roomFor (length (encode sh hs ns)) room) z in
-      let (a, l) = room-accepts (length (encode sh hs ns)) room r in
+  write-accepts capacity z =
+      let (g, r) = both-accept (givenAnswer sh hs ns) (roomFor (length (encode sh hs ns)) capacity) z in
+      let (a, l) = room-accepts (length (encode sh hs ns)) capacity r in
       (second-accepts (givenAnswer sh hs ns) _ z ∙ a, g, l)
 
   -- what a refusal and an acceptance give
-  module _ (room : ℕ) where
-    pub refused-gives : {a : Answer} → a ≡ writeAnswer sh hs ns room → (a .number ≡ 0 → ⊥) → nothingWritten a ≡ writeOf sh hs ns room
+  module _ (capacity : ℕ) where
+    pub refused-gives : {a : Answer} → a ≡ writeAnswer sh hs ns capacity → (a .number ≡ 0 → ⊥) → nothingWritten a ≡ writeOf sh hs ns capacity
     unfolding writeOf
     refused-gives e n = rw (← e, ne-eqb _ _ n)
 
-    pub accepted-gives : {a : Answer} {n : ℕ} → a ≡ accepted → accepted ≡ writeAnswer sh hs ns room → n ≡ length (encode sh hs ns) →
-        _≡_ {A = Written} (record { answer = a; length = n }) (writeOf sh hs ns room)
+    pub accepted-gives : {a : Answer} {n : ℕ} → a ≡ accepted → accepted ≡ writeAnswer sh hs ns capacity → n ≡ length (encode sh hs ns) →
+        _≡_ {A = Written} (record { answer = a; length = n }) (writeOf sh hs ns capacity)
     unfolding writeOf
     accepted-gives e y d = rw (e, d, ← y)
 
-    pub gives-answer : writeOf sh hs ns room .answer ≡ writeAnswer sh hs ns room
+    pub gives-answer : writeOf sh hs ns capacity .answer ≡ writeAnswer sh hs ns capacity
     unfolding writeOf
     gives-answer =
-        ⊎-elim (λ z. rw (eq-eqb (writeAnswer sh hs ns room .number) 0 z) (sym (write-accepts room z .0)))
-        (λ n. rw (ne-eqb (writeAnswer sh hs ns room .number) 0 n)) (eq-or-not (writeAnswer sh hs ns room .number) 0)
+        ⊎-elim (λ z. rw (eq-eqb (writeAnswer sh hs ns capacity .number) 0 z) (sym (write-accepts capacity z .0)))
+        (λ n. rw (ne-eqb (writeAnswer sh hs ns capacity .number) 0 n)) (eq-or-not (writeAnswer sh hs ns capacity .number) 0)
 
   -- what is then written
   module _ (old : List ℕ) {w : Written} (e : w ≡ writeOf sh hs ns (length old)) where

@@ -30,16 +30,16 @@ unfoldable pub givenAnswer : Shape → List ℕ → List ℕ → Answer
 givenAnswer sh hs ns = andThen (checkOf sh hs) (namesGiven sh ns)
 
 unfoldable pub writeAnswer : Shape → List ℕ → List ℕ → ℕ → Answer
-writeAnswer sh hs ns room = andThen (givenAnswer sh hs ns) (roomFor (length (encode sh hs ns)) room)
+writeAnswer sh hs ns capacity = andThen (givenAnswer sh hs ns) (roomFor (length (encode sh hs ns)) capacity)
 
 -- "with any number but 0 every other figure in the answer is 0"
 abbrev pub nothingWritten : Answer → Written
 nothingWritten a = record { answer = a; length = 0 }
 
 unfoldable pub writeOf : Shape → List ℕ → List ℕ → ℕ → Written
-writeOf sh hs ns room =
-    cond (eqb (writeAnswer sh hs ns room .number) 0) (record { answer = accepted; length = length (encode sh hs ns) })
-    (nothingWritten (writeAnswer sh hs ns room))
+writeOf sh hs ns capacity =
+    cond (eqb (writeAnswer sh hs ns capacity .number) 0) (record { answer = accepted; length = length (encode sh hs ns) })
+    (nothingWritten (writeAnswer sh hs ns capacity))
 
 -- "A refusal leaves all lent elements untouched"; "Acceptance writes the named elements and none past them"
 unfoldable pub writeBytes : Shape → List ℕ → List ℕ → List ℕ → List ℕ

@@ -59,15 +59,15 @@ pub fn unwritten(answer: Answer) -> Written
 }
 
 // What writing is to give, before anything is written: 1 to 4, then 14, then 6, and the length of the file.
-fn foreseen(shape: Shape, hops: &[u16], names: &[u8], room: usize) -> Written
-    ensures { λ r. ⌜ r ≡ writeOf shape (now (hops .entry)) (now (names .entry)) room ⌝ }
+fn foreseen(shape: Shape, hops: &[u16], names: &[u8], capacity: usize) -> Written
+    ensures { λ r. ⌜ r ≡ writeOf shape (now (hops .entry)) (now (names .entry)) capacity ⌝ }
 {
     let given = given_answer(shape, hops, names);
     if given.number != 0 {
         return unwritten(given);
     }
     let length = encoded_length(shape, hops, names);
-    if room < length {
+    if capacity < length {
         return unwritten(refuse(6, 0));
     }
     let answer = accept();
@@ -75,10 +75,10 @@ fn foreseen(shape: Shape, hops: &[u16], names: &[u8], room: usize) -> Written
 }
 
 // The answer alone.
-pub fn write_answer(shape: Shape, hops: &[u16], names: &[u8], room: usize) -> Answer
-    ensures { λ r. ⌜ r ≡ writeAnswer shape (now (hops .entry)) (now (names .entry)) room ⌝ }
+pub fn write_answer(shape: Shape, hops: &[u16], names: &[u8], capacity: usize) -> Answer
+    ensures { λ r. ⌜ r ≡ writeAnswer shape (now (hops .entry)) (now (names .entry)) capacity ⌝ }
 {
-    foreseen(shape, hops, names, room).answer
+    foreseen(shape, hops, names, capacity).answer
 }
 
 // The entry. Nothing is written before the last check, 6, has passed.

@@ -79,12 +79,12 @@ module _ {hs hs' : List ℕ} (un : Unlined hs hs') (sh : Shape) where
     marked-hops-unlined = paired-flat _ _ (paired-short (marked-same un sh k))
 
     -- what the entry answers, returns and leaves as the map
-    module _ (map-room short-room : ℕ) where
-      pub answer-same : reduceAnswer sh hs k map-room short-room ≡ reduceAnswer sh hs' k map-room short-room
+    module _ (map-capacity short-capacity : ℕ) where
+      pub answer-same : reduceAnswer sh hs k map-capacity short-capacity ≡ reduceAnswer sh hs' k map-capacity short-capacity
       unfolding reduceAnswer
       answer-same = rw (check-same un sh, ringless-same un sh, un .as-long)
 
-      pub reduce-same : reduceOf sh hs k map-room short-room ≡ reduceOf sh hs' k map-room short-room
+      pub reduce-same : reduceOf sh hs k map-capacity short-capacity ≡ reduceOf sh hs' k map-capacity short-capacity
       unfolding reduceOf
       reduce-same = rw (answer-same, marked-shape-same, paired-length _ _ (paired-short (marked-same un sh k)))
 

@@ -61,10 +61,10 @@ module _ {hs hs' : List ℕ} (un : Unlined hs hs') (sh : Shape) (k : ℕ) where
   unfolding lastOf
   last-beside = repeated-beside k (sh .states) (firstStage sh hs) (firstStage sh hs') (record { shapes = refl; unlined = un; maps = refl; counts = refl })
 
-  pub shrink-same : (map-room short-room : ℕ) → shrinkOf sh hs k map-room short-room ≡ shrinkOf sh hs' k map-room short-room
+  pub shrink-same : (map-capacity short-capacity : ℕ) → shrinkOf sh hs k map-capacity short-capacity ≡ shrinkOf sh hs' k map-capacity short-capacity
   unfolding shrinkOf
-  shrink-same map-room short-room =
-      rw (answer-same un sh k map-room short-room, last-beside .shapes, count-same (last-beside .unlined), last-beside .counts)
+  shrink-same map-capacity short-capacity =
+      rw (answer-same un sh k map-capacity short-capacity, last-beside .shapes, count-same (last-beside .unlined), last-beside .counts)
 
   pub last-map-same : (map short : List ℕ) → lastMap sh hs k map short ≡ lastMap sh hs' k map short
   unfolding lastMap

@@ -129,7 +129,7 @@ module _ (sense : Sense) (sh : Shape) (hs ms : List ℕ) (k : Marking hs (marked
   unfolding markCount isMarked
   judged-swept new r g =
       record {
-        marking = record { room = omega (arith, g .long, k .room); bits = bits; silent = λ i l o. k .silent i l (was i l o); holds = holds };
+        marking = record { capacity = omega (arith, g .long, k .capacity); bits = bits; silent = λ i l o. k .silent i l (was i l o); holds = holds };
         beyond = g .beyond;
         fewer = g .fewer;
         same = λ q. (g .same q, known (g .same q));

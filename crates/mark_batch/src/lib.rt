@@ -43,7 +43,7 @@ fn close(
 )
     requires ready { ⌜ Ready (now hops) ⌝ }
     requires line { ⌜ Line (now hops) (now line) n ⌝ }
-    requires room { ⌜ count (now hops) ≤ length (now marks) ⌝ }
+    requires capacity { ⌜ count (now hops) ≤ length (now marks) ⌝ }
     ensures { λ r. ⌜ Forth (In (heldBy (now (hops .entry)) (now (marks .entry)))) (senseOf sense .closing) (now (words .entry)) (now (words .exit)) ⌝ }
 {
     if (sense == 1) | ((sense == 2) | (sense == 3)) {
@@ -64,7 +64,7 @@ fn follow(
 )
     requires ready { ⌜ Ready (now hops) ⌝ }
     requires line { ⌜ Line (now hops) (now line) n ⌝ }
-    requires room { ⌜ count (now hops) ≤ length (now marks) ⌝ }
+    requires capacity { ⌜ count (now hops) ≤ length (now marks) ⌝ }
     ensures { λ r. ⌜ Back (In (heldBy (now (hops .entry)) (now (marks .entry)))) (senseOf sense .after) (now (words .entry)) (now (words .exit)) ⌝ }
 {
     if (sense == 1) | (sense == 3) {
@@ -84,7 +84,7 @@ fn lead(
 )
     requires ready { ⌜ Ready (now hops) ⌝ }
     requires line { ⌜ Line (now hops) (now line) n ⌝ }
-    requires room { ⌜ count (now hops) ≤ length (now marks) ⌝ }
+    requires capacity { ⌜ count (now hops) ≤ length (now marks) ⌝ }
     ensures { λ r. ⌜ Back (In (heldBy (now (hops .entry)) (now (marks .entry)))) (senseOf sense .before) (now (words .entry)) (now (words .exit)) ⌝ }
 {
     if (sense == 1) | (sense == 2) {

@@ -44,7 +44,7 @@ module _ (hs ms froms answers : List ℕ) where
   judged-none =
       record { long = refl; beyond = refl; done = λ j l. absurd (omega arith); rest = λ j l. refl; fewer = omega arith; same = λ q. refl }
 
-  module _ {i : ℕ} {new : List ℕ} {r : ℕ} (v : JudgedTo i new r) (l : i < count hs) (room : count hs ≤ length ms) where
+  module _ {i : ℕ} {new : List ℕ} {r : ℕ} (v : JudgedTo i new r) (l : i < count hs) (capacity : count hs ≤ length ms) where
     -- the mark at i is still the one that it was
     still : falls hs new froms answers i ≡ falls hs ms froms answers i
     unfolding isMarked

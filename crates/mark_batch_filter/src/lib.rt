@@ -36,7 +36,7 @@ fn judge_at(
     i: usize,
 ) -> usize
     requires ready { ⌜ Ready (now hops) ⌝ }
-    requires room { ⌜ count (now hops) ≤ length (now marks) ⌝ }
+    requires capacity { ⌜ count (now hops) ≤ length (now marks) ⌝ }
     requires place { ⌜ i < count (now hops) ⌝ }
     ensures marks { λ r. ⌜ now (marks .exit) ≡
         cond (falls (now (hops .entry)) (now (marks .entry)) (now (froms .entry)) (now (answers .entry)) i)
@@ -61,7 +61,7 @@ pub fn judge(
     answers: &[u64; MOST_STATES],
 ) -> usize
     requires ready { ⌜ Ready (now hops) ⌝ }
-    requires room { ⌜ count (now hops) ≤ length (now marks) ⌝ }
+    requires capacity { ⌜ count (now hops) ≤ length (now marks) ⌝ }
     ensures { λ r. ⌜ Judged (now (hops .entry)) (now (marks .entry)) (now (froms .entry)) (now (answers .entry)) (now (marks .exit)) r ⌝ }
 {
     let n = hop_count(hops);

@@ -60,7 +60,7 @@ pub fn gather(
 )
     requires ready { ⌜ Ready (now hops) ⌝ }
     requires line { ⌜ Line (now hops) (now line) n ⌝ }
-    requires room { ⌜ count (now hops) ≤ length (now marks) ⌝ }
+    requires capacity { ⌜ count (now hops) ≤ length (now marks) ⌝ }
     ensures { λ r. ⌜ Back (In (heldBy (now (hops .entry)) (now (marks .entry)))) walks (now (words .entry)) (now (words .exit)) ⌝ }
 {
     sized(words);
@@ -85,7 +85,7 @@ pub fn pass_once(
 )
     requires ready { ⌜ Ready (now hops) ⌝ }
     requires line { ⌜ Line (now hops) (now line) n ⌝ }
-    requires room { ⌜ count (now hops) ≤ length (now marks) ⌝ }
+    requires capacity { ⌜ count (now hops) ≤ length (now marks) ⌝ }
     ensures { λ r. ⌜ Forth (In (heldBy (now (hops .entry)) (now (marks .entry)))) single (now (words .entry)) (now (words .exit)) ⌝ }
 {
     sized(words);
@@ -110,7 +110,7 @@ pub fn pass_on(
 )
     requires ready { ⌜ Ready (now hops) ⌝ }
     requires line { ⌜ Line (now hops) (now line) n ⌝ }
-    requires room { ⌜ count (now hops) ≤ length (now marks) ⌝ }
+    requires capacity { ⌜ count (now hops) ≤ length (now marks) ⌝ }
     ensures { λ r. ⌜ Forth (In (heldBy (now (hops .entry)) (now (marks .entry)))) walks (now (words .entry)) (now (words .exit)) ⌝ }
 {
     sized(words);

@@ -75,7 +75,7 @@ fn due_after(
     touched: &[u64; MOST_STATES],
 ) -> u64
     requires ready { ⌜ Ready (now hops) ⌝ }
-    requires room { ⌜ count (now hops) ≤ length (now marks) ⌝ }
+    requires capacity { ⌜ count (now hops) ≤ length (now marks) ⌝ }
 {
     let n = hop_count(hops);
     let mut due = 0;
@@ -316,7 +316,7 @@ pub fn mark_by_sweeps(
 )
     requires tabled { ⌜ Tabled shape (now hops) (now starts) ⌝ }
     requires free { ⌜ ringless shape (now hops) .number ≡ 0 ⌝ }
-    requires room { ⌜ count (now hops) ≤ length (now marks) ⌝ }
+    requires capacity { ⌜ count (now hops) ≤ length (now marks) ⌝ }
     ensures { λ r. ⌜ now (marks .exit) ≡
         onFront (marksOf (now (hops .entry)) (markedBy sense shape (now (hops .entry)))) (now (marks .entry)) ⌝ }
 {

@@ -61,10 +61,10 @@ module _ (hs : List ℕ) (u : Pairs) where
   pub marks-made : (ms out : List ℕ) → count hs ≤ length ms → ((i : ℕ) → i < count hs → getD ms i 0 ≡ markOf hs u i) →
       drop (count hs) ms ≡ drop (count hs) out → ms ≡ onFront (marksOf hs u) out
   unfolding marksOf
-  marks-made ms out room f e =
+  marks-made ms out capacity f e =
       sym (take-append-drop (count hs) ms) ∙ rw (e, length-marks) (ap (λ (xs : List ℕ). xs ++ drop (count hs) out) front) where
         long : length (take (count hs) ms) ≡ count hs
-        long = length-take-le (count hs) ms room
+        long = length-take-le (count hs) ms capacity
 
         front : take (count hs) ms ≡ marksOf hs u
         front =
@@ -73,9 +73,9 @@ module _ (hs : List ℕ) (u : Pairs) where
             getD-take (count hs) ms i 0 k ∙ (f i k ∙ sym (getD-listed (markOf hs u) (count hs) k)))
 
   module _ (ms out : List ℕ) (e : ms ≡ onFront (marksOf hs u) out) where
-    pub marks-room : count hs ≤ length out → length ms ≡ length out
+    pub marks-capacity : count hs ≤ length out → length ms ≡ length out
     unfolding marksOf
-    marks-room l = length-so-far (markOf hs u) out (count hs) l e
+    marks-capacity l = length-so-far (markOf hs u) out (count hs) l e
 
     pub marks-beyond : drop (count hs) ms ≡ drop (count hs) out
     marks-beyond = rw (e, length-marks) (drop-at (marksOf hs u) (drop (count hs) out) (count hs) length-marks)

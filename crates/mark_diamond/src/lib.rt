@@ -55,7 +55,7 @@ fn skip(hops: &[u16], at: usize, past: usize, a: Label) -> usize
 pub fn is_answered(hops: &[u16], starts: &[u16; STARTS], marks: &[u8], rest: Rest, j: usize) -> bool
     requires ready { ⌜ Ready (now hops) ⌝ }
     requires table { ⌜ Table (now hops) (now starts) ⌝ }
-    requires room { ⌜ count (now hops) ≤ length (now marks) ⌝ }
+    requires capacity { ⌜ count (now hops) ≤ length (now marks) ⌝ }
     requires place { ⌜ j < count (now hops) ⌝ }
     requires row { ⌜ Row (now hops) (rest .state .0) (label (now hops) j) (rest .at) (rest .past) ⌝ }
     requires asked { ⌜ rest .state .0 < most-states ⌝ }
@@ -83,7 +83,7 @@ fn is_met(
 ) -> bool
     requires ready { ⌜ Ready (now hops) ⌝ }
     requires table { ⌜ Table (now hops) (now starts) ⌝ }
-    requires room { ⌜ count (now hops) ≤ length (now marks) ⌝ }
+    requires capacity { ⌜ count (now hops) ≤ length (now marks) ⌝ }
     requires place { ⌜ j < count (now hops) ⌝ }
     requires row { ⌜ Row (now hops) (rest .state .0) (label (now hops) j) (rest .at) (rest .past) ⌝ }
     requires asked { ⌜ rest .state .0 < most-states ⌝ }
@@ -111,7 +111,7 @@ fn stays(hops: &[u16], s2: OldState, j: usize) -> bool
 pub fn closes_at(hops: &[u16], starts: &[u16; STARTS], marks: &[u8], i: usize) -> bool
     requires ready { ⌜ Ready (now hops) ⌝ }
     requires table { ⌜ Table (now hops) (now starts) ⌝ }
-    requires room { ⌜ count (now hops) ≤ length (now marks) ⌝ }
+    requires capacity { ⌜ count (now hops) ≤ length (now marks) ⌝ }
     requires place { ⌜ i < count (now hops) ⌝ }
     ensures { λ r. ⌜ r ≡ closesAt (now (hops .entry)) (heldBy (now (hops .entry)) (now (marks .entry))) i ⌝ }
 {

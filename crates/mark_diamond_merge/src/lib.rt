@@ -84,7 +84,7 @@ pub fn row_answers(
 ) -> bool
     requires ready { ⌜ Ready (now hops) ⌝ }
     requires table { ⌜ Table (now hops) (now starts) ⌝ }
-    requires room { ⌜ count (now hops) ≤ length (now marks) ⌝ }
+    requires capacity { ⌜ count (now hops) ≤ length (now marks) ⌝ }
     requires row { ⌜ Row (now hops) (rest .state .0) (a .0) (rest .at) (rest .past) ⌝ }
     requires state { ⌜ s3 .0 < most-states ⌝ }
     ensures { λ r. ⌜ r ≡ hopAnswers (now (hops .entry)) (closing (heldBy (now (hops .entry)) (now (marks .entry)))) (rest .state .0) (a .0) (s3 .0) ⌝ }

@@ -35,7 +35,7 @@ ghost use Rattle.mark_diamond_retest.specs.Again.{Unshed};
 fn passes(hops: &[u16], starts: &[u16; STARTS], marks: &[u8], s2: OldState, j: usize) -> bool
     requires ready { ⌜ Ready (now hops) ⌝ }
     requires table { ⌜ Table (now hops) (now starts) ⌝ }
-    requires room { ⌜ count (now hops) ≤ length (now marks) ⌝ }
+    requires capacity { ⌜ count (now hops) ≤ length (now marks) ⌝ }
     requires place { ⌜ j < count (now hops) ⌝ }
     requires asked { ⌜ s2 .0 < most-states ⌝ }
     ensures { λ r. ⌜ r ≡ answered (now (hops .entry)) (heldBy (now (hops .entry)) (now (marks .entry))) (s2 .0) j ⌝ }
@@ -71,7 +71,7 @@ pub fn closes_again(
 ) -> bool
     requires ready { ⌜ Ready (now hops) ⌝ }
     requires table { ⌜ Table (now hops) (now starts) ⌝ }
-    requires room { ⌜ count (now hops) ≤ length (now marks) ⌝ }
+    requires capacity { ⌜ count (now hops) ≤ length (now marks) ⌝ }
     requires place { ⌜ i < count (now hops) ⌝ }
     requires others { ⌜ Unshed (now hops) (now marks) (now shed) i ⌝ }
     ensures { λ r. ⌜ r ≡ closesAt (now (hops .entry)) (heldBy (now (hops .entry)) (now (marks .entry))) i ⌝ }

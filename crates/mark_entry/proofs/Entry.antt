@@ -17,26 +17,26 @@ use Rattle.mark_senses.specs.Senses.{senseAnswer}
 use Rattle.mark_entry.specs.Mark.{marksMade, markAnswer, markOutput}
 
 -- rows 5 and 6 of an admitted graph: the ways out of the code, in order
-module _ (sh : Shape) (hs : List ℕ) (room : ℕ) {d : Answer} (f : d ≡ ringless sh hs) where
+module _ (sh : Shape) (hs : List ℕ) (capacity : ℕ) {d : Answer} (f : d ≡ ringless sh hs) where
   abbrev later : Answer
-  later = andThen (ringless sh hs) (roomFor (count hs) room)
+  later = andThen (ringless sh hs) (roomFor (count hs) capacity)
 
   pub later-ringed : (d .number ≡ 0 → ⊥) → d ≡ later
   later-ringed n = f ∙ sym (then-first (ringless sh hs) _ (rw f at n))
 
   module _ (y : d .number ≡ 0) where
-    last : roomFor (count hs) room ≡ later
+    last : roomFor (count hs) capacity ≡ later
     last = sym (then-next (ringless sh hs) _ (rw f at y))
 
-    pub later-narrow : room < count hs → refused 6 0 ≡ later
+    pub later-narrow : capacity < count hs → refused 6 0 ≡ later
     later-narrow l = narrow ∙ last where
-      narrow : refused 6 0 ≡ roomFor (count hs) room
-      narrow = rw (lt-leb (count hs) room l)
+      narrow : refused 6 0 ≡ roomFor (count hs) capacity
+      narrow = rw (lt-leb (count hs) capacity l)
 
-    pub later-accepts : count hs ≤ room → accepted ≡ later
+    pub later-accepts : count hs ≤ capacity → accepted ≡ later
     later-accepts l = wide ∙ last where
-      wide : accepted ≡ roomFor (count hs) room
-      wide = rw (le-leb (count hs) room l)
+      wide : accepted ≡ roomFor (count hs) capacity
+      wide = rw (le-leb (count hs) capacity l)
 
 module _ (sh : Shape) (hs : List ℕ) (k : ℕ) (out : List ℕ) where
   abbrev behind-sense : Answer
@@ -72,8 +72,8 @@ module _ (sh : Shape) (hs : List ℕ) (k : ℕ) (out : List ℕ) where
     pub mark-ringless : ringless sh hs .number ≡ 0
     mark-ringless = both-accept (ringless sh hs) _ later-accepted .0
 
-    pub mark-room : count hs ≤ length out
-    mark-room = room-accepts (count hs) (length out) (both-accept (ringless sh hs) _ later-accepted .1) .1
+    pub mark-capacity : count hs ≤ length out
+    mark-capacity = room-accepts (count hs) (length out) (both-accept (ringless sh hs) _ later-accepted .1) .1
 
     -- what stands in the output afterwards
     pub output-marked : {ms : List ℕ} → ms ≡ onFront (marksMade sh hs k) out → ms ≡ markOutput sh hs k out

@@ -25,15 +25,15 @@ ghost use Rattle.mark_senses.specs.Senses.{markedBy};
 ghost use Rattle.mark_entry.specs.Mark.{markAnswer, markOutput};
 
 // Rows 5 and 6 of an admitted graph, by its table of first places.
-pub fn later_answer(shape: Shape, hops: &[u16], starts: &[u16; STARTS], room: usize) -> Answer
+pub fn later_answer(shape: Shape, hops: &[u16], starts: &[u16; STARTS], capacity: usize) -> Answer
     requires { ⌜ Tabled shape (now hops) (now starts) ⌝ }
-    ensures { λ r. ⌜ r ≡ andThen (ringless shape (now (hops .entry))) (roomFor (count (now (hops .entry))) room) ⌝ }
+    ensures { λ r. ⌜ r ≡ andThen (ringless shape (now (hops .entry))) (roomFor (count (now (hops .entry))) capacity) ⌝ }
 {
     let ringed = ring_answer(shape, hops, starts);
     if ringed.number != 0 {
         return ringed;
     }
-    if room < hop_count(hops) {
+    if capacity < hop_count(hops) {
         return refuse(6, 0);
     }
     accept()
@@ -60,7 +60,7 @@ pub fn mark_answer(shape: Shape, hops: &[u16], sense: u32, marks: &[u8]) -> Answ
 fn mark_in(shape: Shape, hops: &[u16], starts: &[u16; STARTS], sense: u32, marks: &mut [u8])
     requires tabled { ⌜ Tabled shape (now hops) (now starts) ⌝ }
     requires free { ⌜ ringless shape (now hops) .number ≡ 0 ⌝ }
-    requires room { ⌜ count (now hops) ≤ length (now marks) ⌝ }
+    requires capacity { ⌜ count (now hops) ≤ length (now marks) ⌝ }
     ensures { λ r. ⌜ now (marks .exit) ≡
         onFront (marksOf (now (hops .entry)) (markedBy sense shape (now (hops .entry)))) (now (marks .entry)) ⌝ }
 {

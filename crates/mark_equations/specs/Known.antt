@@ -32,5 +32,5 @@ pub record Prepared (hs st m : List ℕ) (k : ℕ) : Type 0 where
   pub ready : Ready hs
   pub label-in : (i : ℕ) → i < count hs → label hs i < most-labels
   pub table : Table hs st
-  pub room : answerPlace k most-hops ≤ length m
+  pub capacity : answerPlace k most-hops ≤ length m
   pub right : Right hs m

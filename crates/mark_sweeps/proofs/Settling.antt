@@ -19,7 +19,7 @@ use Rattle.base_fixpoint.specs.Rounds.{Operator}
 use Rattle.mark_confluence.specs.Rounds.{silentHops}
 use Rattle.mark_confluence.specs.Held.{isMarked, heldBy, markOf, marksOf, everyPair}
 use Rattle.mark_confluence.proofs.Held.{held-says, held-yes, held-at}
-use Rattle.mark_confluence.proofs.Marks.{mark-bit, mark-one, mark-says, marks-room, marks-bits, marks-silent, marks-held, marks-made}
+use Rattle.mark_confluence.proofs.Marks.{mark-bit, mark-one, mark-says, marks-capacity, marks-bits, marks-silent, marks-held, marks-made}
 use Rattle.mark_sweeps.specs.Sweep.{markCount, Marking, Swept}
 
 pub count-within : (hs ms : List ℕ) → markCount hs ms ≤ count hs
@@ -56,9 +56,9 @@ module _ {hs : List ℕ} {m : Pairs} where
 
 -- the marks that sweeps begin with
 pub first-marking : (hs : List ℕ) (m : Pairs) → Within (In m) (In (silentHops hs)) → (ms out : List ℕ) → count hs ≤ length out → ms ≡ onFront (marksOf hs everyPair) out → Marking hs m ms
-first-marking hs m silent ms out room e =
+first-marking hs m silent ms out capacity e =
     record {
-      room = rw (marks-room hs everyPair ms out e room) room;
+      capacity = rw (marks-capacity hs everyPair ms out e capacity) capacity;
       bits = marks-bits hs everyPair ms out e;
       silent = marks-silent hs everyPair ms out e;
       holds = λ s t h. marks-held hs everyPair ms out e s t ∙ and-yes (silent s t h) refl;
@@ -96,4 +96,4 @@ module _ {hs : List ℕ} {m : Pairs} (F : Operator)
 
   -- so the marks are those of m
   pub settled-marks : (out : List ℕ) → drop (count hs) ms ≡ drop (count hs) out → ms ≡ onFront (marksOf hs m) out
-  settled-marks out e = rw (← settled-set) (marks-made hs (heldBy hs ms) ms out (k .room) mark-is e)
+  settled-marks out e = rw (← settled-set) (marks-made hs (heldBy hs ms) ms out (k .capacity) mark-is e)

@@ -34,7 +34,7 @@ module _ (hs : List ℕ) {ms : List ℕ} (m : Marking hs (marked hs) ms) where
   module _ {i : ℕ} (l : i < count hs) where
     off-here : isMarked (set ms i 0) i ≡ false
     unfolding isMarked
-    off-here = rw (getD-set-same ms i 0 0 (omega (arith, m .room)))
+    off-here = rw (getD-set-same ms i 0 0 (omega (arith, m .capacity)))
 
     off-there : (j : ℕ) → (j ≡ i → ⊥) → isMarked (set ms i 0) j ≡ isMarked ms j
     unfolding isMarked
@@ -50,7 +50,7 @@ module _ (hs : List ℕ) {ms : List ℕ} (m : Marking hs (marked hs) ms) where
     unfolding markCount
     tested-lost n x d =
         record {
-          marking = record { room = simp length-set (m .room); bits = bits; silent = λ j k e. m .silent j k (off-only j e); holds = holds };
+          marking = record { capacity = simp length-set (m .capacity); bits = bits; silent = λ j k e. m .silent j k (off-only j e); holds = holds };
           beyond = drop-set-lt (count hs) ms i 0 l;
           fewer = omega (arith, tally-less (isMarked (set ms i 0)) (isMarked ms) (count hs) (λ j k e. off-only j e) l off-here (on-or-off m l n));
           same = λ q. absurd (omega arith);
@@ -58,7 +58,7 @@ module _ (hs : List ℕ) {ms : List ℕ} (m : Marking hs (marked hs) ms) where
           bits : (j : ℕ) → j < count hs → (getD (set ms i 0) j 0 ≡ 0) ⊎ (getD (set ms i 0) j 0 ≡ 1)
           bits j k = go (eq-or-not j i) where
             go : (j ≡ i) ⊎ (j ≡ i → ⊥) → (getD (set ms i 0) j 0 ≡ 0) ⊎ (getD (set ms i 0) j 0 ≡ 1)
-            go (inl q) = inl (rw q (getD-set-same ms i 0 0 (omega (arith, m .room))))
+            go (inl q) = inl (rw q (getD-set-same ms i 0 0 (omega (arith, m .capacity))))
             go (inr n) = rw (getD-set-other ms i j 0 0 n) (m .bits j k)
 
           holds : (s t : ℕ) → marked hs s t ≡ true → heldBy hs (set ms i 0) s t ≡ true

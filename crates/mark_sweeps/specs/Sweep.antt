@@ -18,7 +18,7 @@ markCount hs ms = tally (count hs) (isMarked ms)
 
 -- what marks keep while sweeps run: they are 1 or 0, 1 at silent hops only, and they hold the set m that is sought
 pub record Marking (hs : List ℕ) (m : Pairs) (ms : List ℕ) : Type 0 where
-  pub room : count hs ≤ length ms
+  pub capacity : count hs ≤ length ms
   pub bits : (i : ℕ) → i < count hs → (getD ms i 0 ≡ 0) ⊎ (getD ms i 0 ≡ 1)
   pub silent : (i : ℕ) → i < count hs → isMarked ms i ≡ true → label hs i ≡ 0
   pub holds : (s t : ℕ) → m s t ≡ true → heldBy hs ms s t ≡ true

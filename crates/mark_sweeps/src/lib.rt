@@ -73,7 +73,7 @@ fn settle(hops: &[u16], starts: &[u16; STARTS], marks: &mut [u8])
 // Marks by sweeps: the part of `mark` behind the refusals.
 pub fn mark_all(hops: &[u16], marks: &mut [u8])
     requires ready { ⌜ Ready (now hops) ⌝ }
-    requires room { ⌜ count (now hops) ≤ length (now marks) ⌝ }
+    requires capacity { ⌜ count (now hops) ≤ length (now marks) ⌝ }
     ensures { λ r. ⌜ now (marks .exit) ≡ onFront (marksOf (now (hops .entry)) (marked (now (hops .entry)))) (now (marks .entry)) ⌝ }
 {
     let starts = starts_of(hops);

@@ -24,7 +24,7 @@ use Rattle.mark_confluence.specs.Held.{isMarked, markOf, marksOf, everyPair}
 use Rattle.mark_confluence.proofs.Rounds.{survives-none}
 use Rattle.mark_confluence.proofs.Closing.{Answered, answers-yes, closes-says}
 use Rattle.mark_diamond_retest.specs.Again.{Unshed}
-use Rattle.mark_confluence.proofs.Marks.{mark-one, mark-visible, marks-at, marks-room, marks-beyond, marks-made}
+use Rattle.mark_confluence.proofs.Marks.{mark-one, mark-visible, marks-at, marks-capacity, marks-beyond, marks-made}
 use Rattle.mark_worklist.specs.Due.{fell, standing, shaken, due, testsIn, testsUpTo, testsOf}
 use Rattle.mark_worklist.proofs.Due.{survives-closes, due-standing, fell-yes, fell-place, standing-yes, standing-silent, standing-survives, standing-falls, shaken-yes, shaken-says, not-due-stands, Idle, none-idle, idle-marked, due-early, tests-end}
 use Rattle.mark_worklist_push.specs.Queue.{Among, Leaving, Queue, Noted, ClosedByAny, Listed, Unset}
@@ -133,28 +133,28 @@ module _ (hs : List ℕ) where
       module _ {new fl' : List ℕ} {n' : ℕ} (d : Tested hs ms qs r fs new fl' n') where
         pub tested-queue : Queue hs new qs 0
         unfolding Unset
-        tested-queue = queue-none hs ms (d .flags) (g .queue .room) unset where
+        tested-queue = queue-none hs ms (d .flags) (g .queue .capacity) unset where
           unset : Unset hs new
           unset i l = no-test (isMarked new i) (λ e. clash e (d .taken i (g .queue .all i l (d .kept i e))))
 
         pub next-falls : Falls hs (suc k) fl' n'
         next-falls = falls-all hs (suc k) ms out (a .marks) qs r noted-lists d
 
-        module _ {ms' : List ℕ} (room : count hs ≤ length ms') (w : Taken ms fl' n' ms') where
+        module _ {ms' : List ℕ} (capacity : count hs ≤ length ms') (w : Taken ms fl' n' ms') where
           pub after-next : n' ≤ most-hops → After hs (suc k) ms' out fl' n' (t + r)
           unfolding testsIn
           after-next l = record {
-            marks = marks-next hs (suc k) ms out (a .marks) room next-falls w;
+            marks = marks-next hs (suc k) ms out (a .marks) capacity next-falls w;
             falls = next-falls;
             most = l;
-            room = d .room;
+            capacity = d .capacity;
             tests = tests-next (suc k) (a .tests) (noted-lists .counted);
           }
 
           fewer : (i : ℕ) → i < count hs → isMarked ms' i ≡ true → isMarked ms i ≡ true
           fewer i l e =
               mark-test hs (suc k) ms out (a .marks) l ∙
-              standing-falls hs (suc k) i (sym (mark-test hs (suc (suc k)) ms' out (marks-next hs (suc k) ms out (a .marks) room next-falls w) l) ∙ e)
+              standing-falls hs (suc k) i (sym (mark-test hs (suc (suc k)) ms' out (marks-next hs (suc k) ms out (a .marks) capacity next-falls w) l) ∙ e)
 
           pub leaving-next : (ls : List ℕ) → Leaving hs ms ls → Leaving hs ms' ls
           unfolding Leaving
@@ -167,7 +167,7 @@ module _ (hs : List ℕ) where
             go (inl m) =
                 let (x, y, z) = next-falls .each 0 m in
                 let o : isMarked ms (getD fl' 0 0) ≡ true = mark-test hs (suc k) ms out (a .marks) x ∙ y in
-                let p : isMarked ms' (getD fl' 0 0) ≡ false = mark-test hs (suc (suc k)) ms' out (marks-next hs (suc k) ms out (a .marks) room next-falls w) x ∙ z in
+                let p : isMarked ms' (getD fl' 0 0) ≡ false = mark-test hs (suc (suc k)) ms' out (marks-next hs (suc k) ms out (a .marks) capacity next-falls w) x ∙ z in
                 rw (lt-ltb 0 n' m) (omega (arith, tally-less (isMarked ms') (isMarked ms) (count hs) fewer x p o))
             go (inr m) = rw (le-ltb 0 n' m) (omega (arith, tally-mono (isMarked ms') (isMarked ms) (count hs) fewer))
 
@@ -190,19 +190,19 @@ module _ (hs : List ℕ) where
 
   -- marks that are written at the front of a list are at the front of what is left
   pub after-itself : {k : ℕ} {ms out fl : List ℕ} {n t : ℕ} → count hs ≤ length ms → After hs k ms out fl n t → After hs k ms ms fl n t
-  after-itself {k} {ms} {out} room a = record {
-    marks = marks-made hs (survives hs (suc k)) ms ms room (λ i l. marks-at hs (survives hs (suc k)) ms out (a .marks) l) refl;
+  after-itself {k} {ms} {out} capacity a = record {
+    marks = marks-made hs (survives hs (suc k)) ms ms capacity (λ i l. marks-at hs (survives hs (suc k)) ms out (a .marks) l) refl;
     falls = a .falls;
     most = a .most;
-    room = a .room;
+    capacity = a .capacity;
     tests = a .tests;
   }
 
   -- the first round
-  module _ (ms out : List ℕ) (room : count hs ≤ length out) (e : ms ≡ onFront (marksOf hs everyPair) out) where
+  module _ (ms out : List ℕ) (capacity : count hs ≤ length out) (e : ms ≡ onFront (marksOf hs everyPair) out) where
     first-marks : ms ≡ onFront (marksOf hs (survives hs 0)) out
     first-marks =
-        marks-made hs (survives hs 0) ms out (rw (marks-room hs everyPair ms out e room) room) at-place (marks-beyond hs everyPair ms out e) where
+        marks-made hs (survives hs 0) ms out (rw (marks-capacity hs everyPair ms out e capacity) capacity) at-place (marks-beyond hs everyPair ms out e) where
           at-place : (i : ℕ) → i < count hs → getD ms i 0 ≡ markOf hs (survives hs 0) i
           at-place i l = marks-at hs everyPair ms out e l ∙ go (eq-or-not (label hs i) 0) where
             go : (label hs i ≡ 0) ⊎ (label hs i ≡ 0 → ⊥) → markOf hs everyPair i ≡ markOf hs (survives hs 0) i
@@ -217,14 +217,14 @@ module _ (hs : List ℕ) where
       marks = marks-next hs 0 ms out first-marks m (falls-all hs 0 ms out first-marks qs n d x) w;
       falls = falls-all hs 0 ms out first-marks qs n d x;
       most = l;
-      room = x .room;
+      capacity = x .capacity;
       tests = omega (arith, d .counted);
     }
 
     -- in which nothing fell
     pub after-still : {qs old new fl : List ℕ} {n r : ℕ} → Lists (count hs) (due hs 0) qs n → Tested hs ms qs n old new fl r → r ≡ 0 → After hs 0 ms out fl r n
     after-still {fl = fl} d x z =
-        after-first d x (omega arith) (rw z (taken-none ms fl)) (rw (marks-room hs everyPair ms out e room) room)
+        after-first d x (omega arith) (rw z (taken-none ms fl)) (rw (marks-capacity hs everyPair ms out e capacity) capacity)
 
   pub lists-listed : {p : ℕ → Bool} {qs : List ℕ} {n : ℕ} → Lists (count hs) p qs n → Listed hs qs n
   unfolding Listed

@@ -16,7 +16,7 @@ pub record After (hs : List ℕ) (k : ℕ) (ms out fl : List ℕ) (n t : ℕ) : 
   pub marks : ms ≡ onFront (marksOf hs (survives hs (suc k))) out
   pub falls : Falls hs k fl n
   pub most : n ≤ most-hops
-  pub room : most-hops ≤ length fl
+  pub capacity : most-hops ≤ length fl
   pub tests : t ≡ testsUpTo hs (suc k)
 
 -- the same after some number of rounds

@@ -45,7 +45,7 @@ fn later_rounds(
 ) -> usize
     requires ready { ⌜ Ready (now hops) ⌝ }
     requires table { ⌜ Table (now hops) (now starts) ⌝ }
-    requires room { ⌜ count (now hops) ≤ length (now marks) ⌝ }
+    requires capacity { ⌜ count (now hops) ≤ length (now marks) ⌝ }
     requires queue { ⌜ Queue (now hops) (now flags) (now queue) 0 ⌝ }
     requires after { ⌜ AfterSome (now hops) (now marks) (now marks) (now fallen) lost tests ⌝ }
     ensures tests { λ r. ⌜ r ≡ testsOf (now (hops .entry)) ⌝ }
@@ -81,7 +81,7 @@ fn later_rounds(
 pub fn mark_rounds(hops: &[u16], starts: &[u16; STARTS], marks: &mut [u8]) -> usize
     requires ready { ⌜ Ready (now hops) ⌝ }
     requires table { ⌜ Table (now hops) (now starts) ⌝ }
-    requires room { ⌜ count (now hops) ≤ length (now marks) ⌝ }
+    requires capacity { ⌜ count (now hops) ≤ length (now marks) ⌝ }
     ensures tests { λ r. ⌜ r ≡ testsOf (now (hops .entry)) ⌝ }
     ensures writes { λ r. ⌜ now (marks .exit) ≡ onFront (marksOf (now (hops .entry)) (marked (now (hops .entry)))) (now (marks .entry)) ⌝ }
 {

@@ -30,7 +30,7 @@ const FEW: usize = 16;
 // The states that a marked hop leaves: 1 for each of them. Marks only fall, so what is said of another state stays true.
 pub fn leaving_of(hops: &[u16], marks: &[u8]) -> [u8; MOST_STATES]
     requires ready { ⌜ Ready (now hops) ⌝ }
-    requires room { ⌜ count (now hops) ≤ length (now marks) ⌝ }
+    requires capacity { ⌜ count (now hops) ≤ length (now marks) ⌝ }
     ensures { λ r. ⌜ Leaving (now (hops .entry)) (now (marks .entry)) r ⌝ }
 {
     let mut leaving = [0u8; MOST_STATES];
@@ -62,7 +62,7 @@ fn note_hop(
 ) -> usize
     requires tables { ⌜ Tables (now hops) (now starts) (now begins) (now places) ⌝ }
     requires leaving { ⌜ Leaving (now hops) (now marks) (now leaving) ⌝ }
-    requires room { ⌜ count (now hops) ≤ length (now marks) ⌝ }
+    requires capacity { ⌜ count (now hops) ≤ length (now marks) ⌝ }
     requires queue { ⌜ Queue (now hops) (now flags) (now queue) n ⌝ }
     requires tried { ⌜ j < count (now hops) ⌝ }
     requires fallen { ⌜ p < count (now hops) ⌝ }
@@ -97,7 +97,7 @@ fn note_fallen(
 ) -> usize
     requires tables { ⌜ Tables (now hops) (now starts) (now begins) (now places) ⌝ }
     requires leaving { ⌜ Leaving (now hops) (now marks) (now leaving) ⌝ }
-    requires room { ⌜ count (now hops) ≤ length (now marks) ⌝ }
+    requires capacity { ⌜ count (now hops) ≤ length (now marks) ⌝ }
     requires queue { ⌜ Queue (now hops) (now flags) (now queue) n ⌝ }
     requires fallen { ⌜ p < count (now hops) ⌝ }
     ensures { λ r. ⌜ Noted (now (hops .entry)) (now (marks .entry)) (ClosedBy (now (hops .entry)) p)
@@ -142,7 +142,7 @@ pub fn next_due(
 ) -> usize
     requires tables { ⌜ Tables (now hops) (now starts) (now begins) (now places) ⌝ }
     requires leaving { ⌜ Leaving (now hops) (now marks) (now leaving) ⌝ }
-    requires room { ⌜ count (now hops) ≤ length (now marks) ⌝ }
+    requires capacity { ⌜ count (now hops) ≤ length (now marks) ⌝ }
     requires queue { ⌜ Queue (now hops) (now flags) (now queue) 0 ⌝ }
     requires most { ⌜ lost ≤ most-hops ⌝ }
     requires fallen { ⌜ Listed (now hops) (now fallen) lost ⌝ }

@@ -60,15 +60,15 @@ module _ (hs ms : List ℕ) where
   unfolding Unset
   queue-none {fs} a b u = record {
     flags = a;
-    room = b;
+    capacity = b;
     counted = sym (tally-zero (isMarked fs) (count hs) u);
     each = λ k l. absurd (not-suc-le-zero l);
     all = λ i l e. clash e (u i l);
   }
 
   -- a queue that a hop is missing in has room
-  pub queue-room : {fs qs : List ℕ} {n i : ℕ} → Queue hs fs qs n → i < count hs → isMarked fs i ≡ false → n < count hs
-  queue-room {fs} q l e =
+  pub queue-capacity : {fs qs : List ℕ} {n i : ℕ} → Queue hs fs qs n → i < count hs → isMarked fs i ≡ false → n < count hs
+  queue-capacity {fs} q l e =
       omega (arith, q .counted, tally-less (isMarked fs) (λ (j : ℕ). true) (count hs) (λ j m h. refl) l e refl, tally-within (λ (j : ℕ). true) (count hs))
 
   pub queue-most : {fs qs : List ℕ} {n : ℕ} → Queue hs fs qs n → n ≤ count hs
@@ -87,10 +87,10 @@ module _ (hs ms : List ℕ) where
     one-here = flag-here fs (omega (arith, q .flags))
 
     fits : n < length qs
-    fits = omega (arith, queue-room q l off, q .room)
+    fits = omega (arith, queue-capacity q l off, q .capacity)
 
     one-queue : Queue hs (set fs i 1) (set qs n i) (n + 1)
-    one-queue = record { flags = simp length-set (q .flags); room = simp length-set (q .room); counted = counted; each = each; all = all } where
+    one-queue = record { flags = simp length-set (q .flags); capacity = simp length-set (q .capacity); counted = counted; each = each; all = all } where
       counted : n + 1 ≡ tally (count hs) (isMarked (set fs i 1))
       counted = (rw (q .counted) refl) ∙ tally-one (isMarked fs) (isMarked (set fs i 1)) (count hs) l off one-here (flag-there fs i 1)
 

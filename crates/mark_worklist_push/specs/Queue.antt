@@ -31,7 +31,7 @@ Leaving hs ms ls = (i : ℕ) → i < count hs → isMarked ms i ≡ true → isM
 -- the queue is the first n of qs: places of hops, each once, and just those whose flag in fs is 1
 pub record Queue (hs fs qs : List ℕ) (n : ℕ) : Type 0 where
   pub flags : count hs ≤ length fs
-  pub room : count hs ≤ length qs
+  pub capacity : count hs ≤ length qs
   pub counted : n ≡ tally (count hs) (isMarked fs)
   pub each : (k : ℕ) → k < n → (getD qs k 0 < count hs) × (isMarked fs (getD qs k 0) ≡ true)
   pub all : (i : ℕ) → i < count hs → isMarked fs i ≡ true → Among qs n i

@@ -38,7 +38,7 @@ fn note(
     i: usize,
 ) -> usize
     requires ready { ⌜ Ready (now hops) ⌝ }
-    requires room { ⌜ count (now hops) ≤ length (now marks) ⌝ }
+    requires capacity { ⌜ count (now hops) ≤ length (now marks) ⌝ }
     requires queue { ⌜ Queue (now hops) (now flags) (now queue) n ⌝ }
     requires place { ⌜ i < count (now hops) ⌝ }
     requires silent { ⌜ label (now hops) i ≡ 0 ⌝ }
@@ -68,7 +68,7 @@ fn note_pair(
 ) -> usize
     requires ready { ⌜ Ready (now hops) ⌝ }
     requires table { ⌜ Table (now hops) (now starts) ⌝ }
-    requires room { ⌜ count (now hops) ≤ length (now marks) ⌝ }
+    requires capacity { ⌜ count (now hops) ≤ length (now marks) ⌝ }
     requires queue { ⌜ Queue (now hops) (now flags) (now queue) n ⌝ }
     requires state { ⌜ s1 .0 < most-states ⌝ }
     ensures { λ r. ⌜ Noted (now (hops .entry)) (now (marks .entry)) (Joining (now (hops .entry)) (s1 .0) (s2 .0))
@@ -93,7 +93,7 @@ fn note_like(
 ) -> usize
     requires ready { ⌜ Ready (now hops) ⌝ }
     requires table { ⌜ Table (now hops) (now starts) ⌝ }
-    requires room { ⌜ count (now hops) ≤ length (now marks) ⌝ }
+    requires capacity { ⌜ count (now hops) ≤ length (now marks) ⌝ }
     requires queue { ⌜ Queue (now hops) (now flags) (now queue) n ⌝ }
     requires tried { ⌜ j < count (now hops) ⌝ }
     requires answer { ⌜ m < count (now hops) ⌝ }
@@ -130,7 +130,7 @@ fn note_answers(
     p: usize,
 ) -> usize
     requires tables { ⌜ Tables (now hops) (now starts) (now begins) (now places) ⌝ }
-    requires room { ⌜ count (now hops) ≤ length (now marks) ⌝ }
+    requires capacity { ⌜ count (now hops) ≤ length (now marks) ⌝ }
     requires queue { ⌜ Queue (now hops) (now flags) (now queue) n ⌝ }
     requires tried { ⌜ j < count (now hops) ⌝ }
     requires fallen { ⌜ p < count (now hops) ⌝ }
@@ -163,7 +163,7 @@ pub fn note_into(
     p: usize,
 ) -> usize
     requires tables { ⌜ Tables (now hops) (now starts) (now begins) (now places) ⌝ }
-    requires room { ⌜ count (now hops) ≤ length (now marks) ⌝ }
+    requires capacity { ⌜ count (now hops) ≤ length (now marks) ⌝ }
     requires queue { ⌜ Queue (now hops) (now flags) (now queue) n ⌝ }
     requires tried { ⌜ j < count (now hops) ⌝ }
     requires fallen { ⌜ p < count (now hops) ⌝ }
@@ -211,7 +211,7 @@ fn note_answered(
 ) -> usize
     requires ready { ⌜ Ready (now hops) ⌝ }
     requires table { ⌜ Table (now hops) (now starts) ⌝ }
-    requires room { ⌜ count (now hops) ≤ length (now marks) ⌝ }
+    requires capacity { ⌜ count (now hops) ≤ length (now marks) ⌝ }
     requires queue { ⌜ Queue (now hops) (now flags) (now queue) n ⌝ }
     requires place { ⌜ i < count (now hops) ⌝ }
     requires silent { ⌜ label (now hops) i ≡ 0 ⌝ }
@@ -251,7 +251,7 @@ pub fn note_out(
 ) -> usize
     requires ready { ⌜ Ready (now hops) ⌝ }
     requires table { ⌜ Table (now hops) (now starts) ⌝ }
-    requires room { ⌜ count (now hops) ≤ length (now marks) ⌝ }
+    requires capacity { ⌜ count (now hops) ≤ length (now marks) ⌝ }
     requires queue { ⌜ Queue (now hops) (now flags) (now queue) n ⌝ }
     requires tried { ⌜ j < count (now hops) ⌝ }
     requires fallen { ⌜ p < count (now hops) ⌝ }

@@ -97,7 +97,7 @@ module _ (hs ms qs old : List ℕ) where
   pub tested-none : {fl : List ℕ} → most-hops ≤ length fl → count hs ≤ length old → Tested hs ms qs 0 old old fl 0
   tested-none l m = record {
     most = omega arith;
-    room = l;
+    capacity = l;
     flags = m;
     each = λ k h. absurd (not-suc-le-zero h);
     all = λ i a e. absurd (among-none qs i a);
@@ -122,7 +122,7 @@ module _ (hs ms qs old : List ℕ) where
     pub tested-closes : {v : Bool} → v ≡ closesAt hs (heldBy hs ms) i → v ≡ true → Tested hs ms qs (k + 1) old (set new i 0) fl r
     tested-closes e d = record {
       most = omega (arith, t .most);
-      room = t .room;
+      capacity = t .capacity;
       flags = simp length-set (t .flags);
       each = λ j m. let h = t .each j m in (among-wider qs k _ (h .0), h .1);
       all = λ j a n. ⊎-elim (λ b. t .all j b n) (λ b. clash (sym e ∙ d) (rw b at n)) (among-next qs k j q a);
@@ -133,7 +133,7 @@ module _ (hs ms qs old : List ℕ) where
     pub tested-falls : r < most-hops → {v : Bool} → v ≡ closesAt hs (heldBy hs ms) i → v ≡ false → Tested hs ms qs (k + 1) old (set new i 0) (set fl r i) (r + 1)
     tested-falls w e d = record {
       most = omega (arith, t .most);
-      room = simp length-set (t .room);
+      capacity = simp length-set (t .capacity);
       flags = simp length-set (t .flags);
       each = each;
       all = λ j a n. ⊎-elim (λ b. among-more fl r i j fits (t .all j b n)) (λ b. rw b (among-last fl r i fits)) (among-next qs k j q a);
@@ -141,7 +141,7 @@ module _ (hs ms qs old : List ℕ) where
       kept = kept-on;
     } where
       fits : r < length fl
-      fits = omega (arith, t .room)
+      fits = omega (arith, t .capacity)
 
       each : (j : ℕ) → j < r + 1 → Among qs (k + 1) (getD (set fl r i) j 0) × (closesAt hs (heldBy hs ms) (getD (set fl r i) j 0) ≡ false)
       each j m = go (eq-or-not j r) where
@@ -214,8 +214,8 @@ module _ (hs : List ℕ) where
     -- and without the marks of what fell, the marks are those of the next round
     pub marks-next : {fl new : List ℕ} {r : ℕ} → count hs ≤ length new → Falls hs k fl r → Taken ms fl r new → new ≡ onFront (marksOf hs (survives hs (suc k))) out
     unfolding markOf standing
-    marks-next {fl} {new} {r} room f t =
-        marks-made hs (survives hs (suc k)) new out room at-place (t .beyond (count hs) (λ q m. f .each q m .0) ∙ marks-beyond hs (survives hs k) ms out e) where
+    marks-next {fl} {new} {r} capacity f t =
+        marks-made hs (survives hs (suc k)) new out capacity at-place (t .beyond (count hs) (λ q m. f .each q m .0) ∙ marks-beyond hs (survives hs k) ms out e) where
           at-place : (i : ℕ) → i < count hs → getD new i 0 ≡ markOf hs (survives hs (suc k)) i
           at-place i l = go (decided (standing hs (suc k) i)) (decided (standing hs k i)) where
             go : (standing hs (suc k) i ≡ true) ⊎ (standing hs (suc k) i ≡ false) → (standing hs k i ≡ true) ⊎ (standing hs k i ≡ false) →

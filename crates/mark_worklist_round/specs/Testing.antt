@@ -31,7 +31,7 @@ Shed hs fl n sh = (k : ℕ) → k < n → isMarked sh (from hs (getD fl k 0)) �
 -- what testing the first n of qs leaves: the first r of fl are those of them that do not close with the set that the marks are, and their flags are taken
 pub record Tested (hs ms qs : List ℕ) (n : ℕ) (old new fl : List ℕ) (r : ℕ) : Type 0 where
   pub most : r ≤ n
-  pub room : most-hops ≤ length fl
+  pub capacity : most-hops ≤ length fl
   pub flags : count hs ≤ length new
   pub each : (k : ℕ) → k < r → Among qs n (getD fl k 0) × (closesAt hs (heldBy hs ms) (getD fl k 0) ≡ false)
   pub all : (i : ℕ) → Among qs n i → closesAt hs (heldBy hs ms) i ≡ false → Among fl r i

@@ -32,9 +32,9 @@ ghost use Rattle.mark_worklist_round.specs.Testing.{Lists, Spared, Shed,
 // that nothing hangs on a branch that cannot be foreseen.
 pub fn list_silent(hops: &[u16], queue: &mut [u16; MOST_HOPS]) -> usize
     requires ready { ⌜ Ready (now hops) ⌝ }
-    requires room { ⌜ most-hops ≤ length (now queue) ⌝ }
+    requires capacity { ⌜ most-hops ≤ length (now queue) ⌝ }
     ensures lists { λ r. ⌜ Lists (count (now (hops .entry))) (due (now (hops .entry)) 0) (now (queue .exit)) r ⌝ }
-    ensures room { λ r. ⌜ most-hops ≤ length (now (queue .exit)) ⌝ }
+    ensures capacity { λ r. ⌜ most-hops ≤ length (now (queue .exit)) ⌝ }
 {
     let past = hop_count(hops);
     let mut n = 0;
@@ -77,7 +77,7 @@ fn stands(
 ) -> bool
     requires ready { ⌜ Ready (now hops) ⌝ }
     requires table { ⌜ Table (now hops) (now starts) ⌝ }
-    requires room { ⌜ count (now hops) ≤ length (now marks) ⌝ }
+    requires capacity { ⌜ count (now hops) ≤ length (now marks) ⌝ }
     requires place { ⌜ i < count (now hops) ⌝ }
     requires others { ⌜ (first ≡ false → Unshed (now hops) (now marks) (now shed) i) ⌝ }
     ensures { λ r. ⌜ r ≡ closesAt (now (hops .entry)) (heldBy (now (hops .entry)) (now (marks .entry))) i ⌝ }
@@ -106,7 +106,7 @@ pub fn test_due(
     requires marks { ⌜ count (now hops) ≤ length (now marks) ⌝ }
     requires spared { ⌜ Spared (now hops) (now marks) (now shed) first (now queue) n ⌝ }
     requires flags { ⌜ count (now hops) ≤ length (now flags) ⌝ }
-    requires room { ⌜ most-hops ≤ length (now fallen) ⌝ }
+    requires capacity { ⌜ most-hops ≤ length (now fallen) ⌝ }
     requires most { ⌜ n ≤ most-hops ⌝ }
     requires listed { ⌜ Listed (now hops) (now queue) n ⌝ }
     ensures { λ r. ⌜ Tested (now (hops .entry)) (now (marks .entry)) (now (queue .entry)) n

@@ -45,7 +45,7 @@ module _ {sh : Shape} {hs : List ℕ} {u : Pairs} (adm : Admitted sh hs) (sett :
     -- and so every hop has an image, where the map has an entry for each state
     pub reduced-images : sh .states ≤ length map → AllImaged hs map
     unfolding AllImaged
-    reduced-images room i l =
+    reduced-images capacity i l =
         record {
           inside = l;
           from-map = omega (arith, adm .range .from-in i l);

@@ -62,8 +62,8 @@ pub fn reduce_marked(
     requires admitted { ⌜ Admitted shape (now hops) ⌝ }
     requires settles { ⌜ Settles shape (now hops) (heldBy (now hops) (now marks)) ⌝ }
     requires marks { ⌜ SilentMarks (now hops) (now marks) ⌝ }
-    requires map_room { ⌜ shape .states ≤ length (now map) ⌝ }
-    requires short_room { ⌜ length (now hops) ≤ length (now short) ⌝ }
+    requires map_capacity { ⌜ shape .states ≤ length (now map) ⌝ }
+    requires short_capacity { ⌜ length (now hops) ≤ length (now short) ⌝ }
     ensures returned { λ r. ⌜ r ≡ shortGraph shape (now (hops .entry)) (heldBy (now (hops .entry)) (now (marks .entry))) ⌝ }
     ensures mapped { λ r. ⌜ now (map .exit) ≡ mapLeft shape (now (hops .entry)) (now (marks .entry)) (now (map .entry)) ⌝ }
     ensures shortened { λ r. ⌜ now (short .exit) ≡ shortLeft shape (now (hops .entry)) (now (marks .entry)) (now (short .entry)) ⌝ }

@@ -24,12 +24,12 @@ use Rattle.reduce_entry.specs.Reduce.{reduceAnswer, reduction, reduceOf,
 use Rattle.reduce_entry.specs.Refusal.{refusal, laterAnswer}
 
 -- row 6 of both outputs
-abbrev room : Shape → List ℕ → ℕ → ℕ → Answer
-room sh hs m n = andThen (roomFor (sh .states) m) (roomFor (length hs) n)
+abbrev capacity : Shape → List ℕ → ℕ → ℕ → Answer
+capacity sh hs m n = andThen (roomFor (sh .states) m) (roomFor (length hs) n)
 
 -- rows 5 and 6
 abbrev ringed : Shape → List ℕ → ℕ → ℕ → Answer
-ringed sh hs m n = andThen (ringless sh hs) (room sh hs m n)
+ringed sh hs m n = andThen (ringless sh hs) (capacity sh hs m n)
 
 -- rows 19, 5 and 6 of an admitted graph: the ways out of the code, in order
 module _ (sh : Shape) (hs : List ℕ) (k m n : ℕ) {c : Answer} (g : c ≡ senseAnswer k) where
@@ -41,15 +41,15 @@ module _ (sh : Shape) (hs : List ℕ) (k m n : ℕ) {c : Answer} (g : c ≡ sens
     next = sym (then-next (senseAnswer k) (ringed sh hs m n) (rw g at w))
 
     pub later-ringed : (d .number ≡ 0 → ⊥) → d ≡ laterAnswer sh hs k m n
-    later-ringed x = f ∙ sym (then-first (ringless sh hs) (room sh hs m n) (rw f at x)) ∙ next
+    later-ringed x = f ∙ sym (then-first (ringless sh hs) (capacity sh hs m n) (rw f at x)) ∙ next
 
     module _ (y : d .number ≡ 0) where
-      last : room sh hs m n ≡ laterAnswer sh hs k m n
-      last = sym (then-next (ringless sh hs) (room sh hs m n) (rw f at y)) ∙ next
+      last : capacity sh hs m n ≡ laterAnswer sh hs k m n
+      last = sym (then-next (ringless sh hs) (capacity sh hs m n) (rw f at y)) ∙ next
 
       pub later-narrow : (ltb m (sh .states) || ltb n (length hs)) ≡ true → refused 6 0 ≡ laterAnswer sh hs k m n
       later-narrow t = both (lt-or-le m (sh .states)) (or-yes (ltb m (sh .states)) (ltb n (length hs)) t) ∙ last where
-        both : (m < sh .states) ⊎ (sh .states ≤ m) → (ltb m (sh .states) ≡ true) ⊎ (ltb n (length hs) ≡ true) → refused 6 0 ≡ room sh hs m n
+        both : (m < sh .states) ⊎ (sh .states ≤ m) → (ltb m (sh .states) ≡ true) ⊎ (ltb n (length hs) ≡ true) → refused 6 0 ≡ capacity sh hs m n
         both (inl l) w = rw (lt-leb (sh .states) m l)
         both (inr l) (inl w) = absurd (omega (arith, ltb-true m (sh .states) w))
         both (inr l) (inr w) = rw (le-leb (sh .states) m l, lt-leb (length hs) n (ltb-true n (length hs) w))
@@ -64,7 +64,7 @@ module _ (sh : Shape) (hs : List ℕ) (k m n : ℕ) {c : Answer} (g : c ≡ sens
         or-no-right true b q = clash refl q
         or-no-right false b q = q
 
-        wide : accepted ≡ room sh hs m n
+        wide : accepted ≡ capacity sh hs m n
         wide =
             rw (le-leb (sh .states) m (ltb-false m (sh .states) (or-no-left (ltb m (sh .states)) (ltb n (length hs)) t)), le-leb (length hs) n (ltb-false n (length hs) (or-no-right (ltb m (sh .states)) (ltb n (length hs)) t)))
 
@@ -87,8 +87,8 @@ module _ (sh : Shape) (hs : List ℕ) (k m n : ℕ) where
     sensed : (senseAnswer k .number ≡ 0) × (ringed sh hs m n .number ≡ 0)
     sensed = both-accept (senseAnswer k) (ringed sh hs m n) (checked .1)
 
-    freed : (ringless sh hs .number ≡ 0) × (room sh hs m n .number ≡ 0)
-    freed = both-accept (ringless sh hs) (room sh hs m n) (sensed .1)
+    freed : (ringless sh hs .number ≡ 0) × (capacity sh hs m n .number ≡ 0)
+    freed = both-accept (ringless sh hs) (capacity sh hs m n) (sensed .1)
 
     roomed : (roomFor (sh .states) m .number ≡ 0) × (roomFor (length hs) n .number ≡ 0)
     roomed = both-accept (roomFor (sh .states) m) (roomFor (length hs) n) (freed .1)
@@ -96,18 +96,18 @@ module _ (sh : Shape) (hs : List ℕ) (k m n : ℕ) where
     pub reduce-reducible : Reducible sh hs
     reduce-reducible = record { admitted = check-admitted sh hs (checked .0); free = freed .0 }
 
-    pub reduce-map-room : sh .states ≤ m
-    reduce-map-room = room-accepts (sh .states) m (roomed .0) .1
+    pub reduce-map-capacity : sh .states ≤ m
+    reduce-map-capacity = room-accepts (sh .states) m (roomed .0) .1
 
-    pub reduce-short-room : length hs ≤ n
-    reduce-short-room = room-accepts (length hs) n (roomed .1) .1
+    pub reduce-short-capacity : length hs ≤ n
+    reduce-short-capacity = room-accepts (length hs) n (roomed .1) .1
 
     pub reduce-accepted : reduceAnswer sh hs k m n ≡ accepted
     unfolding reduceAnswer
     reduce-accepted =
         then-next (checkOf sh hs) (laterAnswer sh hs k m n) (checked .0) ∙ then-next (senseAnswer k) (ringed sh hs m n) (sensed .0) ∙
-        then-next (ringless sh hs) (room sh hs m n) (freed .0) ∙
-        rw (le-leb (sh .states) m reduce-map-room, le-leb (length hs) n reduce-short-room)
+        then-next (ringless sh hs) (capacity sh hs m n) (freed .0) ∙
+        rw (le-leb (sh .states) m reduce-map-capacity, le-leb (length hs) n reduce-short-capacity)
 
 -- what is returned and written, a being the answer
 module _ (sh : Shape) (hs : List ℕ) (k : ℕ) (map short : List ℕ) {a : Answer} (e : a ≡ reduceAnswer sh hs k (length map) (length short)) where

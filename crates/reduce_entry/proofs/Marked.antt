@@ -18,7 +18,7 @@ use Rattle.walk_silent.proofs.Rings.{rank}
 use Rattle.base_fixpoint.specs.Pairs.{Pairs, In, Within}
 use Rattle.mark_confluence.specs.Rounds.{silentHops}
 use Rattle.mark_confluence.specs.Held.{marksOf, heldBy}
-use Rattle.mark_confluence.proofs.Marks.{marks-room, marks-silent, held-set}
+use Rattle.mark_confluence.proofs.Marks.{marks-capacity, marks-silent, held-set}
 use Rattle.mark_senses.specs.Senses.{markedIn, senseOf, markedBy}
 use Rattle.mark_senses.proofs.Marked.{in-silent, marked-of}
 use Rattle.reduce_representatives.specs.Representative.{Settles}
@@ -43,7 +43,7 @@ module _ {sh : Shape} {hs : List ℕ} (red : Reducible sh hs) (sense : Sense) wh
 -- what marking with the silent hops u leaves in ms is marks, one a hop, of which no visible hop has one, and they are of u
 module _ (sh : Shape) (hs : List ℕ) (u : Pairs) (ms out : List ℕ) (e : ms ≡ onFront (marksOf hs u) out) where
   pub left-marks : count hs ≤ length out → SilentMarks hs ms
-  left-marks l = record { room = omega (arith, marks-room hs u ms out e l); silent = marks-silent hs u ms out e }
+  left-marks l = record { capacity = omega (arith, marks-capacity hs u ms out e l); silent = marks-silent hs u ms out e }
 
   module _ (w : Within (In u) (In (silentHops hs))) where
     -- so what is reduced along them is reduced along u

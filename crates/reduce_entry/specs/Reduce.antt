@@ -37,9 +37,9 @@ markedShape sh hs k = shortShape sh hs (markedBy k sh hs)
 -- rows 1 to 4, then "19 for another sense, after 4 and before 5", 5, then 6: "map, one a state; short hops, three a hop of the input", four by wish 2, which
 -- is as many as the input has
 unfoldable pub reduceAnswer : Shape → List ℕ → ℕ → ℕ → ℕ → Answer
-reduceAnswer sh hs k map-room short-room =
+reduceAnswer sh hs k map-capacity short-capacity =
     andThen (checkOf sh hs)
-    (andThen (senseAnswer k) (andThen (ringless sh hs) (andThen (roomFor (sh .states) map-room) (roomFor (length hs) short-room))))
+    (andThen (senseAnswer k) (andThen (ringless sh hs) (andThen (roomFor (sh .states) map-capacity) (roomFor (length hs) short-capacity))))
 
 -- "with any number but 0 every other figure in the answer is 0"
 abbrev pub noShape : Shape
@@ -51,7 +51,7 @@ reduction sh hs k a =
     (record { answer = a; shape = noShape; hops = 0 })
 
 unfoldable pub reduceOf : Shape → List ℕ → ℕ → ℕ → ℕ → Reduction
-reduceOf sh hs k map-room short-room = reduction sh hs k (reduceAnswer sh hs k map-room short-room)
+reduceOf sh hs k map-capacity short-capacity = reduction sh hs k (reduceAnswer sh hs k map-capacity short-capacity)
 
 -- the outputs afterwards: "Acceptance writes the named elements and none past them", and a refusal writes none
 unfoldable pub mapOutput : Shape → List ℕ → ℕ → List ℕ → List ℕ → List ℕ

@@ -17,5 +17,5 @@ refusal a = record { answer = a; shape = noShape; hops = 0 }
 
 -- rows 19, 5 and 6 of `reduceAnswer`, of an admitted graph
 abbrev pub laterAnswer : Shape → List ℕ → ℕ → ℕ → ℕ → Answer
-laterAnswer sh hs k map-room short-room =
-    andThen (senseAnswer k) (andThen (ringless sh hs) (andThen (roomFor (sh .states) map-room) (roomFor (length hs) short-room)))
+laterAnswer sh hs k map-capacity short-capacity =
+    andThen (senseAnswer k) (andThen (ringless sh hs) (andThen (roomFor (sh .states) map-capacity) (roomFor (length hs) short-capacity)))

@@ -77,7 +77,7 @@ pub fn reduce_answer(
 pub fn mark_in(shape: Shape, hops: &[u16], starts: &[u16; STARTS], sense: u32, marks: &mut [u8])
     requires tabled { ⌜ Tabled shape (now hops) (now starts) ⌝ }
     requires free { ⌜ ringless shape (now hops) .number ≡ 0 ⌝ }
-    requires room { ⌜ count (now hops) ≤ length (now marks) ⌝ }
+    requires capacity { ⌜ count (now hops) ≤ length (now marks) ⌝ }
     ensures { λ r. ⌜ now (marks .exit) ≡
         onFront (marksOf (now (hops .entry)) (markedBy sense shape (now (hops .entry)))) (now (marks .entry)) ⌝ }
 {
@@ -99,8 +99,8 @@ fn accepted_reduction(
 ) -> Reduction
     requires reducible { ⌜ Reducible shape (now hops) ⌝ }
     requires table { ⌜ Table (now hops) (now starts) ⌝ }
-    requires map_room { ⌜ shape .states ≤ length (now map) ⌝ }
-    requires short_room { ⌜ length (now hops) ≤ length (now short) ⌝ }
+    requires map_capacity { ⌜ shape .states ≤ length (now map) ⌝ }
+    requires short_capacity { ⌜ length (now hops) ≤ length (now short) ⌝ }
     ensures returned { λ r. ⌜ r ≡ reduction shape (now (hops .entry)) sense accepted ⌝ }
     ensures mapped { λ r. ⌜ now (map .exit) ≡ onFront (markedMap shape (now (hops .entry)) sense) (now (map .entry)) ⌝ }
     ensures shortened { λ r. ⌜ now (short .exit) ≡ onFront (flat (markedHops shape (now (hops .entry)) sense)) (now (short .entry)) ⌝ }

@@ -24,7 +24,7 @@ use Rattle.reduce_representatives.specs.Tables.{Reducible, Marks, Silent
 
 -- the set that marks are has its own marks
 pub held-marks : {hs ms : List ℕ} → Ascending hs → SilentMarks hs ms → Marks hs (heldBy hs ms) ms
-held-marks {hs} {ms} up m = record { room = m .room; marks = mark } where
+held-marks {hs} {ms} up m = record { capacity = m .capacity; marks = mark } where
   mark : (i : ℕ) → i < count hs → isMarked ms i ≡ (eqb (label hs i) 0 && heldBy hs ms (from hs i) (to hs i))
   mark i l = go (eq-or-not (label hs i) 0) where
     go : (label hs i ≡ 0) ⊎ (label hs i ≡ 0 → ⊥) → isMarked ms i ≡ (eqb (label hs i) 0 && heldBy hs ms (from hs i) (to hs i))

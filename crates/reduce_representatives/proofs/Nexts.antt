@@ -53,7 +53,7 @@ module _ (hs : List ℕ) (u : Pairs) where
     ends-take : {s : ℕ} → markedFrom hs u s i ≡ true → Ends hs u s i (to hs i)
     ends-take p = some i (omega arith) inside p (λ j l m. absurd (omega arith)) refl
 
-    module _ (ms next : List ℕ) (mark : isMarked ms i ≡ (eqb (label hs i) 0 && u (from hs i) (to hs i))) (room : from hs i < length next) where
+    module _ (ms next : List ℕ) (mark : isMarked ms i ≡ (eqb (label hs i) 0 && u (from hs i) (to hs i))) (capacity : from hs i < length next) where
       pub entered-ends : (s : ℕ) → Ends hs u s (suc i) (getD next s 0) → Ends hs u s i (getD (entered hs ms i next) s 0)
       unfolding entered markedFrom
       entered-ends s old = go (eqb (label hs i) 0 && u (from hs i) (to hs i)) refl where
@@ -62,7 +62,7 @@ module _ (hs : List ℕ) (u : Pairs) where
         go true e = rw (mark, e) (⊎-elim here there (eq-or-not s (from hs i))) where
           here : s ≡ from hs i → Ends hs u s i (getD (set next (from hs i) (to hs i)) s 0)
           here q =
-              subst (λ (v : ℕ). Ends hs u s i v) (sym (ap (λ (x : ℕ). getD (set next (from hs i) (to hs i)) x 0) q ∙ getD-set-same next (from hs i) (to hs i) 0 room))
+              subst (λ (v : ℕ). Ends hs u s i v) (sym (ap (λ (x : ℕ). getD (set next (from hs i) (to hs i)) x 0) q ∙ getD-set-same next (from hs i) (to hs i) 0 capacity))
               (ends-take (and-yes (eq-eqb _ _ (sym q)) e))
 
           there : (s ≡ from hs i → ⊥) → Ends hs u s i (getD (set next (from hs i) (to hs i)) s 0)

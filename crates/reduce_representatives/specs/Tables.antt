@@ -24,12 +24,12 @@ pub record Reducible (sh : Shape) (hs : List ℕ) : Type 0 where
 
 -- the marks of the set u stand in the list: 1 at its hops and only there
 pub record Marks (hs : List ℕ) (u : Pairs) (ms : List ℕ) : Type 0 where
-  pub room : count hs ≤ length ms
+  pub capacity : count hs ≤ length ms
   pub marks : (i : ℕ) → i < count hs → isMarked ms i ≡ (eqb (label hs i) 0 && u (from hs i) (to hs i))
 
 -- marks, one a hop, of which no visible hop has one
 pub record SilentMarks (hs ms : List ℕ) : Type 0 where
-  pub room : count hs ≤ length ms
+  pub capacity : count hs ≤ length ms
   pub silent : (i : ℕ) → i < count hs → isMarked ms i ≡ true → label hs i ≡ 0
 
 -- the table of next states with the hop at place i, if it is marked, as the first of its state

@@ -89,7 +89,7 @@ pub fn follow(next: &[u16; MOST_STATES], states: usize, s: OldState) -> OldState
 pub fn note_way(next: &mut [u16; MOST_STATES], states: usize, s: OldState, rep: OldState)
     requires inside { ⌜ s .0 < states ⌝ }
     requires few { ⌜ states ≤ most-states ⌝ }
-    requires room { ⌜ most-states ≤ length (now next) ⌝ }
+    requires capacity { ⌜ most-states ≤ length (now next) ⌝ }
     requires closed { ⌜ Closed states (now next) ⌝ }
     requires sinks { ⌜ Sinks states (now next) ⌝ }
     requires rep { ⌜ rep .0 ≡ stepped (now next) states (s .0) ⌝ }

@@ -36,7 +36,7 @@ pub fn new_numbers(next: &[u16; MOST_STATES]) -> [u16; NUMBERS]
 pub fn fill_map(states: usize, mut next: [u16; MOST_STATES], news: &[u16], map: &mut [u16])
     requires few { ⌜ states ≤ most-states ⌝ }
     requires numbers { ⌜ states ≤ length (now news) ⌝ }
-    requires room { ⌜ states ≤ length (now map) ⌝ }
+    requires capacity { ⌜ states ≤ length (now map) ⌝ }
     requires closed { ⌜ Closed states next ⌝ }
     requires sinks { ⌜ Sinks states next ⌝ }
     ensures { λ r. ⌜ now (map .exit) ≡ onFront (listed states (numbered next (now (news .entry)) states)) (now (map .entry)) ⌝ }

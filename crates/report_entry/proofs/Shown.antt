@@ -66,9 +66,9 @@ same-text a {t} {u} f = go (eqb (a .number) 0) refl where
   go true e = f (eqb-true (a .number) 0 e)
   go false e = refl
 
-room-text : (n r : ℕ) → n ≤ r → (t : List ℕ) → unlessRefused (roomFor n r) t ≡ t
+capacity-text : (n r : ℕ) → n ≤ r → (t : List ℕ) → unlessRefused (roomFor n r) t ≡ t
 unfolding unlessRefused
-room-text n r l t = rw (le-leb n r l)
+capacity-text n r l t = rw (le-leb n r l)
 
 -- a graph that checks 1 to 4 have passed: what is left to ask is row 5
 module _ {sh : Shape} {hs : List ℕ} (adm : Admitted sh hs) {a : Answer} (e : a ≡ ringless sh hs) where
@@ -134,7 +134,7 @@ module _ (b : List ℕ) where
       then-text (formatAnswer b) (andThen (checkOf (shapeIn b) (hopListIn b)) (roomFor (numberPlace (hopsIn b)) (length old))) t ∙
       same-text (formatAnswer b)
       (λ y. then-text (checkOf (shapeIn b) (hopListIn b)) (roomFor (numberPlace (hopsIn b)) (length old)) t ∙
-      same-text (checkOf (shapeIn b) (hopListIn b)) (λ z. room-text (numberPlace (hopsIn b)) (length old) (omega (arith, hops-fit z, count-hop-list b)) t))
+      same-text (checkOf (shapeIn b) (hopListIn b)) (λ z. capacity-text (numberPlace (hopsIn b)) (length old) (omega (arith, hops-fit z, count-hop-list b)) t))
 
   module _ (old : List ℕ) (l : most-numbers ≤ length old) {x : Contents} (e : x ≡ readOf b (length old)) where
     chosen : (t : Bool) → eqb (readAnswer b (length old) .number) 0 ≡ t → x ≡ cond t (contentsOf b) (nothing (readAnswer b (length old)))
@@ -207,14 +207,14 @@ module _ (b : List ℕ) where
   input-taken l = rw (le-ltb most-input (length b) l)
 
 -- a buffer that is too short, and one that is not
-module _ (room : ℕ) (t : List ℕ) where
-  pub shown-none : room < most-text → shownIn room t ≡ []
+module _ (capacity : ℕ) (t : List ℕ) where
+  pub shown-none : capacity < most-text → shownIn capacity t ≡ []
   unfolding shownIn
-  shown-none l = rw (lt-leb most-text room l)
+  shown-none l = rw (lt-leb most-text capacity l)
 
-  pub shown-whole : most-text ≤ room → shownIn room t ≡ t
+  pub shown-whole : most-text ≤ capacity → shownIn capacity t ≡ t
   unfolding shownIn
-  shown-whole l = rw (le-leb most-text room l)
+  shown-whole l = rw (le-leb most-text capacity l)
 
 -- a text put at the front
 module _ {old t new : List ℕ} {r : ℕ} (p : Put old 0 t r new) where
@@ -227,5 +227,5 @@ module _ {old t new : List ℕ} {r : ℕ} (p : Put old 0 t r new) where
   pub front-within : r ≤ length new
   front-within = rw front-stands (simp length-append (omega arith))
 
-pub text-room : {t out : List ℕ} → length t ≤ most-text → most-text ≤ length out → Room 0 t out
-text-room p q = record { fits = omega arith }
+pub text-capacity : {t out : List ℕ} → length t ≤ most-text → most-text ≤ length out → Room 0 t out
+text-capacity p q = record { fits = omega arith }

@@ -49,4 +49,4 @@ abbrev pub most-text : ℕ
 most-text = 13 + 14 * most-states + 19 + 25 * most-hops
 
 unfoldable pub shownIn : ℕ → List ℕ → List ℕ
-shownIn room text = cond (leb most-text room) text []
+shownIn capacity text = cond (leb most-text capacity) text []

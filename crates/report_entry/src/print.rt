@@ -33,7 +33,7 @@ pub const MOST_TEXT: usize = 13 + 14 * MOST_STATES + 19 + 25 * MOST_HOPS;
 fn print_reduced(shape: Shape, hops: &[u16], starts: &[u16; STARTS], out: &mut [u8]) -> usize
     requires reducible { ⌜ Reducible shape (now hops) ⌝ }
     requires table { ⌜ Table (now hops) (now starts) ⌝ }
-    requires room { ⌜ most-text ≤ length (now out) ⌝ }
+    requires capacity { ⌜ most-text ≤ length (now out) ⌝ }
     ensures { λ r. ⌜ Put (now (out .entry)) 0 (reportOf shape (now (hops .entry))) r (now (out .exit)) ⌝ }
 {
     let mut marks = [0u8; MOST_HOPS];
@@ -49,7 +49,7 @@ fn print_reduced(shape: Shape, hops: &[u16], starts: &[u16; STARTS], out: &mut [
 // The report of an admitted graph, or its refusal by row 5.
 fn print_graph(shape: Shape, hops: &[u16], out: &mut [u8]) -> usize
     requires admitted { ⌜ Admitted shape (now hops) ⌝ }
-    requires room { ⌜ most-text ≤ length (now out) ⌝ }
+    requires capacity { ⌜ most-text ≤ length (now out) ⌝ }
     ensures { λ r. ⌜ Put (now (out .entry)) 0 (printedGraph shape (now (hops .entry))) r (now (out .exit)) ⌝ }
 {
     let starts = starts_of(hops);

@@ -7,7 +7,7 @@ use borrow.Author.Tests.{eq-eqb, ne-eqb}
 use Rattle.graph.specs.Hops.{count, from, label, to, lineAt}
 use Rattle.graph.specs.declared.Shape.{Shape}
 use Rattle.report_text.specs.Text.{line, lines, in-word, marked-word, map-word, out-word, hop-word, Room, Put}
-use Rattle.report_text.proofs.Puts.{put-same, put-then, room-same, room-first, room-rest}
+use Rattle.report_text.proofs.Puts.{put-same, put-then, capacity-same, capacity-first, capacity-rest}
 use Rattle.report_rows.specs.Rows.{byPlace, markedLine, markedLines, mapLine, mapLines, hopLine, hopLines, linesOf, lentLines}
 
 module _ (hs : List ℕ) (mark : ℕ → ℕ) (i : ℕ) where
@@ -52,7 +52,7 @@ report-same sh hs {mark} {mark'} {map} {map'} f g e d =
 
 -- the five parts of a report, put one behind the other: what room there is for each, and that they are the report
 module _ (sh : Shape) (hs ms m : List ℕ) (new : Shape) (short out : List ℕ) (n k : ℕ) (e : n ≡ count hs) (d : k ≡ count short)
-    (room : Room 0 (lentLines sh hs ms m new short) out) where
+    (capacity : Room 0 (lentLines sh hs ms m new short) out) where
   abbrev inLine : List ℕ
   inLine = line in-word (sh .states ∷ n ∷ [])
 
@@ -72,35 +72,35 @@ module _ (sh : Shape) (hs ms m : List ℕ) (new : Shape) (short out : List ℕ) 
   parts = report-parts sh hs (byPlace ms) (byPlace m) new short e d
 
   whole : Room 0 (inLine ++ from-marks) out
-  whole = room-same parts room
+  whole = capacity-same parts capacity
 
-  pub room-in : Room 0 inLine out
-  room-in = room-first inLine from-marks whole
+  pub capacity-in : Room 0 inLine out
+  capacity-in = capacity-first inLine from-marks whole
 
   module _ {o1 : List ℕ} {a1 : ℕ} (p1 : Put out 0 inLine a1 o1) where
     rest1 : Room a1 from-marks o1
-    rest1 = room-rest inLine from-marks whole p1
+    rest1 = capacity-rest inLine from-marks whole p1
 
-    pub room-marks : Room a1 (markedLines hs ms) o1
-    room-marks = room-first (markedLines hs ms) from-map rest1
+    pub capacity-marks : Room a1 (markedLines hs ms) o1
+    capacity-marks = capacity-first (markedLines hs ms) from-map rest1
 
     module _ {o2 : List ℕ} {a2 : ℕ} (p2 : Put o1 a1 (markedLines hs ms) a2 o2) where
       rest2 : Room a2 from-map o2
-      rest2 = room-rest (markedLines hs ms) from-map rest1 p2
+      rest2 = capacity-rest (markedLines hs ms) from-map rest1 p2
 
-      pub room-map : Room a2 (mapLines (sh .states) m) o2
-      room-map = room-first (mapLines (sh .states) m) from-out rest2
+      pub capacity-map : Room a2 (mapLines (sh .states) m) o2
+      capacity-map = capacity-first (mapLines (sh .states) m) from-out rest2
 
       module _ {o3 : List ℕ} {a3 : ℕ} (p3 : Put o2 a2 (mapLines (sh .states) m) a3 o3) where
         rest3 : Room a3 from-out o3
-        rest3 = room-rest (mapLines (sh .states) m) from-out rest2 p3
+        rest3 = capacity-rest (mapLines (sh .states) m) from-out rest2 p3
 
-        pub room-out : Room a3 outLine o3
-        room-out = room-first outLine (hopLines short) rest3
+        pub capacity-out : Room a3 outLine o3
+        capacity-out = capacity-first outLine (hopLines short) rest3
 
         module _ {o4 : List ℕ} {a4 : ℕ} (p4 : Put o3 a3 outLine a4 o4) where
-          pub room-hops : Room a4 (hopLines short) o4
-          room-hops = room-rest outLine (hopLines short) rest3 p4
+          pub capacity-hops : Room a4 (hopLines short) o4
+          capacity-hops = capacity-rest outLine (hopLines short) rest3 p4
 
           pub report-put : {o5 : List ℕ} {a5 : ℕ} → Put o4 a4 (hopLines short) a5 o5 → Put out 0 (lentLines sh hs ms m new short) a5 o5
           report-put p5 =

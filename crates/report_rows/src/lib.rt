@@ -36,7 +36,7 @@ pub fn put_refusal(out: &mut [u8], at: usize, answer: Answer) -> usize
 fn put_mark(out: &mut [u8], at: usize, hops: &[u16], marks: &[u8], i: usize) -> usize
     requires there { ⌜ i < count (now hops) ⌝ }
     requires marked { ⌜ i < length (now marks) ⌝ }
-    requires room { ⌜ Room at (markedLine (now hops) (byPlace (now marks)) i) (now out) ⌝ }
+    requires capacity { ⌜ Room at (markedLine (now hops) (byPlace (now marks)) i) (now out) ⌝ }
     ensures { λ r. ⌜ Put (now (out .entry)) at (markedLine (now (hops .entry)) (byPlace (now (marks .entry))) i) r (now (out .exit)) ⌝ }
 {
     if marks[i] == 1 {
@@ -50,7 +50,7 @@ fn put_mark(out: &mut [u8], at: usize, hops: &[u16], marks: &[u8], i: usize) -> 
 
 fn put_marks(out: &mut [u8], at: usize, hops: &[u16], marks: &[u8]) -> usize
     requires marked { ⌜ count (now hops) ≤ length (now marks) ⌝ }
-    requires room { ⌜ Room at (markedLines (now hops) (now marks)) (now out) ⌝ }
+    requires capacity { ⌜ Room at (markedLines (now hops) (now marks)) (now out) ⌝ }
     ensures { λ r. ⌜ Put (now (out .entry)) at (markedLines (now (hops .entry)) (now (marks .entry))) r (now (out .exit)) ⌝ }
 {
     let n = hop_count(hops);
@@ -66,7 +66,7 @@ fn put_marks(out: &mut [u8], at: usize, hops: &[u16], marks: &[u8]) -> usize
 fn put_map(out: &mut [u8], at: usize, map: &[u16], states: usize) -> usize
     requires mapped { ⌜ states ≤ length (now map) ⌝ }
     requires few { ⌜ states ≤ most-states ⌝ }
-    requires room { ⌜ Room at (mapLines states (now map)) (now out) ⌝ }
+    requires capacity { ⌜ Room at (mapLines states (now map)) (now out) ⌝ }
     ensures { λ r. ⌜ Put (now (out .entry)) at (mapLines states (now (map .entry))) r (now (out .exit)) ⌝ }
 {
     let mut next = at;
@@ -83,7 +83,7 @@ fn put_map(out: &mut [u8], at: usize, map: &[u16], states: usize) -> usize
 // The line of a short hop, by new numbers, its source line last.
 fn put_hop_line(out: &mut [u8], at: usize, short: &[u16], i: usize) -> usize
     requires there { ⌜ i < count (now short) ⌝ }
-    requires room { ⌜ Room at (hopLine (now short) i) (now out) ⌝ }
+    requires capacity { ⌜ Room at (hopLine (now short) i) (now out) ⌝ }
     ensures { λ r. ⌜ Put (now (out .entry)) at (hopLine (now (short .entry)) i) r (now (out .exit)) ⌝ }
 {
     let from = new_from_at(short, i).0 as usize;
@@ -121,7 +121,7 @@ pub fn put_report(
     requires marked { ⌜ count (now hops) ≤ length (now marks) ⌝ }
     requires mapped { ⌜ shape .states ≤ length (now map) ⌝ }
     requires few { ⌜ shape .states ≤ most-states ⌝ }
-    requires room { ⌜ Room 0 (lentLines shape (now hops) (now marks) (now map) new (now short)) (now out) ⌝ }
+    requires capacity { ⌜ Room 0 (lentLines shape (now hops) (now marks) (now map) new (now short)) (now out) ⌝ }
     ensures { λ r. ⌜
         Put (now (out .entry)) 0
         (lentLines shape (now (hops .entry)) (now (marks .entry)) (now (map .entry)) new (now (short .entry)))

@@ -21,30 +21,30 @@ put-none old at = record { follows = omega arith; stands = over-none at old }
 
 -- one byte
 pub put-one : (old : List ℕ) (at b : ℕ) → Room at (b ∷ []) old → Put old at (b ∷ []) (at + 1) (set old at b)
-put-one old at b room = record { follows = refl; stands = rw (add-one at) (set-split old at b (omega arith)) }
+put-one old at b capacity = record { follows = refl; stands = rw (add-one at) (set-split old at b (omega arith)) }
 
 -- the same text
 module _ {a b : List ℕ} (e : a ≡ b) {old : List ℕ} {at : ℕ} where
-  pub room-same : Room at a old → Room at b old
-  room-same room = rw e at room
+  pub capacity-same : Room at a old → Room at b old
+  capacity-same capacity = rw e at capacity
 
   pub put-same : {new : List ℕ} {r : ℕ} → Put old at a r new → Put old at b r new
   put-same p = rw e at p
 
 -- a text behind another
-module _ (a b : List ℕ) {old : List ℕ} {at : ℕ} (room : Room at (a ++ b) old) where
-  pub room-first : Room at a old
-  room-first = record { fits = omega (arith, length-append a b) }
+module _ (a b : List ℕ) {old : List ℕ} {at : ℕ} (capacity : Room at (a ++ b) old) where
+  pub capacity-first : Room at a old
+  capacity-first = record { fits = omega (arith, length-append a b) }
 
   module _ {mid : List ℕ} {k : ℕ} (p : Put old at a k mid) where
-    pub room-rest : Room k b mid
-    room-rest =
-        record { fits = omega (arith, length-append a b, ap length (p .stands) ∙ length-over at a old (room-first .fits)) }
+    pub capacity-rest : Room k b mid
+    capacity-rest =
+        record { fits = omega (arith, length-append a b, ap length (p .stands) ∙ length-over at a old (capacity-first .fits)) }
 
     pub put-then : {new : List ℕ} {r : ℕ} → Put mid k b r new → Put old at (a ++ b) r new
     put-then {r = r} q = record {
       follows = omega (arith, length-append a b);
-      stands = q .stands ∙ ap (overAt k b) (p .stands) ∙ over-then at a b old (p .follows) (omega (arith, room-first .fits));
+      stands = q .stands ∙ ap (overAt k b) (p .stands) ∙ over-then at a b old (p .follows) (omega (arith, capacity-first .fits));
     }
 
 -- the digits of a number
@@ -99,17 +99,17 @@ module _ (f : ℕ → List ℕ) where
     unfolding lines
     lines-none = put-none old at
 
-    module _ (n : ℕ) {i : ℕ} (room : Room at (lines n f) old) (l : i < n) {mid : List ℕ} {k : ℕ} (p : Put old at (lines i f) k mid) where
-      next-room : Room at (lines i f ++ f i) old
+    module _ (n : ℕ) {i : ℕ} (capacity : Room at (lines n f) old) (l : i < n) {mid : List ℕ} {k : ℕ} (p : Put old at (lines i f) k mid) where
+      next-capacity : Room at (lines i f ++ f i) old
       unfolding lines
-      next-room = let h : length (lines (suc i) f) ≤ length (lines n f) = lines-within n l in record { fits = omega arith }
+      next-capacity = let h : length (lines (suc i) f) ≤ length (lines n f) = lines-within n l in record { fits = omega arith }
 
-      pub lines-room : Room k (f i) mid
-      lines-room = room-rest (lines i f) (f i) next-room p
+      pub lines-capacity : Room k (f i) mid
+      lines-capacity = capacity-rest (lines i f) (f i) next-capacity p
 
       pub lines-more : {new : List ℕ} {r : ℕ} → Put mid k (f i) r new → Put old at (lines (i + 1) f) r new
       unfolding lines
-      lines-more q = rw (add-one i) (put-then (lines i f) (f i) next-room p q)
+      lines-more q = rw (add-one i) (put-then (lines i f) (f i) next-capacity p q)
 
     pub lines-done : {n i : ℕ} → i ≤ n → n ≤ i → {mid : List ℕ} {k : ℕ} → Put old at (lines i f) k mid → Put old at (lines n f) k mid
     lines-done {n} {i} l m p = let q : n ≡ i = omega arith in rw q p

@@ -51,5 +51,5 @@ module _
       shortened old q = q ∙ ap (λ (x : List ℕ). onFront x old) (p ∙ hops-are)
 
       -- the last hops have room where the first had
-      pub room : Reducible sh hs → {n : ℕ} → length hs ≤ n → length part ≤ n
-      room red q = omega (arith, ap length (p ∙ hops-are), last-staged k red .fits)
+      pub capacity : Reducible sh hs → {n : ℕ} → length hs ≤ n → length part ≤ n
+      capacity red q = omega (arith, ap length (p ∙ hops-are), last-staged k red .fits)

@@ -25,7 +25,7 @@ shrinking sh hs k a =
     (refusal a)
 
 unfoldable pub shrinkOf : Shape → List ℕ → ℕ → ℕ → ℕ → Shrinking
-shrinkOf sh hs k map-room short-room = shrinking sh hs k (reduceAnswer sh hs k map-room short-room)
+shrinkOf sh hs k map-capacity short-capacity = shrinking sh hs k (reduceAnswer sh hs k map-capacity short-capacity)
 
 -- the outputs afterwards: "one map from first states to last", and the last graph's hops
 unfoldable pub lastMap : Shape → List ℕ → ℕ → List ℕ → List ℕ → List ℕ

@@ -64,8 +64,8 @@ fn accepted_shrinking(
     short: &mut [u16],
 ) -> Shrinking
     requires reducible { ⌜ Reducible shape (now hops) ⌝ }
-    requires map_room { ⌜ shape .states ≤ length (now map) ⌝ }
-    requires short_room { ⌜ length (now hops) ≤ length (now short) ⌝ }
+    requires map_capacity { ⌜ shape .states ≤ length (now map) ⌝ }
+    requires short_capacity { ⌜ length (now hops) ≤ length (now short) ⌝ }
     ensures returned { λ r. ⌜ r ≡ shrinking shape (now (hops .entry)) sense accepted ⌝ }
     ensures mapped { λ r. ⌜ now (map .exit) ≡ onFront (lastStage sense shape (now (hops .entry)) .map) (now (map .entry)) ⌝ }
     ensures shortened { λ r. ⌜ now (short .exit) ≡ onFront (lastStage sense shape (now (hops .entry)) .hops) (now (short .entry)) ⌝ }

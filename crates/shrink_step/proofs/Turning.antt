@@ -61,8 +61,8 @@ module _
           flat-front (markedHops (g .shape) (g .hops) k) _ hops-are
 
       -- they have room where the hops were
-      pub short-room : {part : List ℕ} → part ≡ between short 0 (made .hops) → at .hops ≤ count hops → length part ≤ length hops
-      short-room q l = omega (arith, ap length (q ∙ short-hops), length-flat (markedHops (g .shape) (g .hops) k), hops-are, hops-fewer l)
+      pub short-capacity : {part : List ℕ} → part ≡ between short 0 (made .hops) → at .hops ≤ count hops → length part ≤ length hops
+      short-capacity q l = omega (arith, ap length (q ∙ short-hops), length-flat (markedHops (g .shape) (g .hops) k), hops-are, hops-fewer l)
 
       pub turned : (was : List ℕ) {next then part after : List ℕ} → next ≡ mapLeft (at .shape) seen ms was → part ≡ between short 0 (made .hops) →
           after ≡ onFront part hops → then ≡ chained map (take (at .shape .states) next) →

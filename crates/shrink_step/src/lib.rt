@@ -57,7 +57,7 @@ fn is_any(marks: &[u8], n: usize) -> bool
 // A look at a graph that every row lets pass: it is marked, and whether some hop is marked is told.
 fn look(shape: Shape, hops: &[u16], sense: u32, marks: &mut [u8]) -> bool
     requires reducible { ⌜ Reducible shape (now hops) ⌝ }
-    requires room { ⌜ count (now hops) ≤ length (now marks) ⌝ }
+    requires capacity { ⌜ count (now hops) ≤ length (now marks) ⌝ }
     ensures some { λ r. ⌜ r ≡ someMarked sense shape (now (hops .entry)) ⌝ }
     ensures marked { λ r. ⌜ now (marks .exit) ≡
         onFront (marksOf (now (hops .entry)) (markedBy sense shape (now (hops .entry)))) (now (marks .entry)) ⌝ }

@@ -47,7 +47,7 @@ module _ {M : Type 1} (𝓤 : URA M) (H : Heap 𝓤) (A : Atoms 𝓤) (W : Given
   pub lends-front : (ℓ : Lifetime) (κ : Lft) (v : Val) → length (take k xs) ≡ k → Room R k
       → ent 𝓤 (sep 𝓤 (sem 𝓤 H A (fat fullShare (tyArray (lone (R .mir)) n) b 0 v)) (sem 𝓤 H A (Array R n .own xs (v ∷ []))))
       (H .⇛ (ex 𝓤 (λ (γ : GName). sep 𝓤 (sem 𝓤 H A (Front R b xs k ℓ κ γ)) (sem 𝓤 H A (Kept R b xs k κ)))))
-  lends-front ℓ κ v e room =
+  lends-front ℓ κ v e capacity =
       qed W (‵ (fat fullShare (tyArray (lone (R .mir)) n) b 0 v) ∷ ‵ (Array R n .own xs (v ∷ [])) ∷ []) ∵ updating ! $
       use2 W (‵ (partAt (Array R n) fullShare xs b 0)) (part-in 𝓤 H A W (Array R n) refl fullShare xs b 0 v) $
       use1 W (‵ (arr-parts (shares R) n .part fullShare xs b 0)) (array-apart 𝓤 H A W R fullShare s n xs b 0) $ fsplit ! $ drop ! $
@@ -56,7 +56,7 @@ module _ {M : Type 1} (𝓤 : URA M) (H : Heap 𝓤) (A : Atoms 𝓤) (W : Given
       use1 W (‵ (cells (mem R) (take k xs) b 0) ⊛ ‵ Behind) (cut-app 𝓤 H A (mem R) (take k xs) (dropᴸ k xs) b 0) $ split ! $
       use1 W (‵ (row R fullShare (take k xs) b 0)) (whole-out 𝓤 H A W R (take k xs) b 0) $ feqI ! ℕ (length (take k xs)) (length (take k xs)) refl $ fjoin ! $
       use1 W (later (some (λ (γ : GName). ‵ (ShrSlice ℓ κ R .own (front R b xs k γ) (sliceVal (b, 0) (length (take k xs)) ∷ [])) ⊛ ‵ (flent κ (arr-parts (shares R) (length (take k xs)) .part fullShare (take k xs) b 0)))))
-      (lends-shr-slice 𝓤 H A W R ℓ κ fullShare (take k xs) b 0 (subst (Room R) (sym e) room)) $ await ! tt $ pick ! (λ γ. split ! $
+      (lends-shr-slice 𝓤 H A W R ℓ κ fullShare (take k xs) b 0 (subst (Room R) (sym e) capacity)) $ await ! tt $ pick ! (λ γ. split ! $
       rewrite ! 0 (λ (m : ℕ). ‵ (ShrSlice ℓ κ R .own (front R b xs k γ) (sliceVal (b, 0) m ∷ []))) e refl $
       move ! (1 ∷ 2 ∷ []) $ fjoin ! $ move ! (1 ∷ 0 ∷ []) $
       at-once ! $ show ! (λ (δ : GName). sep 𝓤 (sem 𝓤 H A (Front R b xs k ℓ κ δ)) (sem 𝓤 H A (Kept R b xs k κ))) γ $ done !)

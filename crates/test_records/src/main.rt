@@ -66,22 +66,22 @@ fn records_of(nums: &[u16]) -> [Hop; RECORDS]
 }
 
 // Both entries over the records of a flat list, with the first `room` elements for marks.
-fn ask_list(shape: Shape, nums: &[u16], sense: u32, marks: &mut [u8], room: usize) {
+fn ask_list(shape: Shape, nums: &[u16], sense: u32, marks: &mut [u8], capacity: usize) {
     let n = hop_count(nums);
     if RECORDS < n {
         return;
     }
-    if marks.len() < room {
+    if marks.len() < capacity {
         return;
     }
-    ask(shape, records_of(nums), n, sense, &mut marks[..room]);
+    ask(shape, records_of(nums), n, sense, &mut marks[..capacity]);
 }
 
 // A list of few records, and six elements, of which the first `room` were lent.
-fn few(name: &[u8], shape: Shape, nums: &[u16], sense: u32, room: usize) {
+fn few(name: &[u8], shape: Shape, nums: &[u16], sense: u32, capacity: usize) {
     let mut marks = [7u8; 6];
     text(name);
-    ask_list(shape, nums, sense, &mut marks, room);
+    ask_list(shape, nums, sense, &mut marks, capacity);
     bytes(&marks);
     text(b"\n");
 }
@@ -122,20 +122,20 @@ fn stairs() -> [u16; NUMBERS_A_HOP * RECORDS] {
     nums
 }
 
-fn ask_first(nums: &[u16], n: usize, marks: &mut [u8], room: usize) {
+fn ask_first(nums: &[u16], n: usize, marks: &mut [u8], capacity: usize) {
     if hop_count(nums) < n {
         return;
     }
-    ask_list(shape_of(1024, 5, 0), part(nums, 0, n), 1, marks, room);
+    ask_list(shape_of(1024, 5, 0), part(nums, 0, n), 1, marks, capacity);
 }
 
 // The first n hops of the list at the limit, and of 4,098 elements, of which the first `room` were lent: the first six, the last thirteen, and how
 // many are 1.
-fn many(name: &[u8], n: usize, room: usize) {
+fn many(name: &[u8], n: usize, capacity: usize) {
     let nums = stairs();
     let mut marks = [7u8; 4098];
     text(name);
-    ask_first(&nums, n, &mut marks, room);
+    ask_first(&nums, n, &mut marks, capacity);
     bytes(&marks[0..6]);
     text(b" ..");
     bytes(&marks[4085..4098]);
@@ -144,14 +144,14 @@ fn many(name: &[u8], n: usize, room: usize) {
     text(b"\n");
 }
 
-fn p1(name: &[u8], shape: Shape, room: usize) {
+fn p1(name: &[u8], shape: Shape, capacity: usize) {
     let hops = [0u16, 0, 1, 3, 0, 1, 2, 4, 1, 1, 3, 5, 2, 0, 3, 2];
-    few(name, shape, &hops, 1, room);
+    few(name, shape, &hops, 1, capacity);
 }
 
 fn small() {
     p1(b"P1", shape_of(4, 2, 0), 6);
-    p1(b"P1, just room", shape_of(4, 2, 0), 4);
+    p1(b"P1, just capacity", shape_of(4, 2, 0), 4);
     p1(b"P1, too short", shape_of(4, 2, 0), 3);
     p1(b"no states", shape_of(0, 2, 0), 6);
     p1(b"initial state at the count", shape_of(4, 2, 4), 6);
@@ -182,7 +182,7 @@ fn others() {
 }
 
 // The case of the text, in which 0 to 1 is marked by R8 alone, and P8, whose ring speaks behind a sense that is none.
-fn in_sense(name: &[u8], sense: u32, room: usize) {
+fn in_sense(name: &[u8], sense: u32, capacity: usize) {
     let hops = [
         0u16,
         0,
@@ -205,7 +205,7 @@ fn in_sense(name: &[u8], sense: u32, room: usize) {
         3,
         7,
     ];
-    few(name, shape_of(5, 2, 0), &hops, sense, room);
+    few(name, shape_of(5, 2, 0), &hops, sense, capacity);
 }
 
 fn senses() {
@@ -230,7 +230,7 @@ fn senses() {
 
 fn limits() {
     many(b"4096 records", 4096, 4098);
-    many(b"4096 records, just room", 4096, 4096);
+    many(b"4096 records, just capacity", 4096, 4096);
     many(b"4096 records, too short", 4096, 4095);
     many(b"4097 records", 4097, 4098);
 }

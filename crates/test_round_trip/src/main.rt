@@ -25,18 +25,18 @@ fn print_written(w: Written) {
     text(b", bytes");
 }
 
-fn copy_front(file: &[u8], out: &mut [u8], room: usize) {
-    if out.len() < room {
+fn copy_front(file: &[u8], out: &mut [u8], capacity: usize) {
+    if out.len() < capacity {
         return;
     }
-    print_written(copy_file(file, &mut out[..room]));
+    print_written(copy_file(file, &mut out[..capacity]));
 }
 
 // What is answered and how many bytes were written, and 33 elements, of which the first `room` were lent.
-fn copied(name: &[u8], file: &[u8], room: usize) {
+fn copied(name: &[u8], file: &[u8], capacity: usize) {
     let mut out = [7u8; 33];
     text(name);
-    copy_front(file, &mut out, room);
+    copy_front(file, &mut out, capacity);
     bytes(&out);
     text(b"\n");
 }
@@ -61,31 +61,46 @@ fn back_front(
     hops: &[u16],
     names: &[u8],
     file: &mut [u8],
-    room: usize,
+    capacity: usize,
     again: &mut [u16],
-    hop_room: usize,
+    hop_capacity: usize,
 ) {
-    if file.len() < room {
+    if file.len() < capacity {
         return;
     }
-    if again.len() < hop_room {
+    if again.len() < hop_capacity {
         return;
     }
     print_contents(graph_back(
         shape1,
         hops,
         names,
-        &mut file[..room],
-        &mut again[..hop_room],
+        &mut file[..capacity],
+        &mut again[..hop_capacity],
     ));
 }
 
 // What is answered, and 46 bytes and 18 numbers, of which the first `room` and the first `hop_room` were lent.
-fn back(name: &[u8], shape1: Shape, hops: &[u16], names: &[u8], room: usize, hop_room: usize) {
+fn back(
+    name: &[u8],
+    shape1: Shape,
+    hops: &[u16],
+    names: &[u8],
+    capacity: usize,
+    hop_capacity: usize,
+) {
     let mut file = [7u8; 46];
     let mut again = [7u16; 18];
     text(name);
-    back_front(shape1, hops, names, &mut file, room, &mut again, hop_room);
+    back_front(
+        shape1,
+        hops,
+        names,
+        &mut file,
+        capacity,
+        &mut again,
+        hop_capacity,
+    );
     bytes(&file);
     text(b", numbers");
     numbers(&again);
@@ -93,17 +108,17 @@ fn back(name: &[u8], shape1: Shape, hops: &[u16], names: &[u8], room: usize, hop
 }
 
 // P1 as a file.
-fn p1(name: &[u8], room: usize) {
+fn p1(name: &[u8], capacity: usize) {
     copied(
         name,
         b"\x02\x04\x00\x02\x00\x04\x00\x00\x00\x00\x00\x01\x00\x00\x00\x01\x00\x02\x00\x01\x00\x01\x00\x03\x00\x02\x00\x00\x00\x03\x00",
-        room,
+        capacity,
     );
 }
 
 fn copies() {
     p1(b"P1 as a file", 33);
-    p1(b"P1 as a file, just room", 31);
+    p1(b"P1 as a file, just capacity", 31);
     p1(b"P1 as a file, too short", 30);
 }
 
@@ -142,22 +157,29 @@ fn lined_copies() {
 }
 
 // P1 with lines, a name and so much room.
-fn lined_back(name: &[u8], room: usize) {
+fn lined_back(name: &[u8], capacity: usize) {
     let hops = [0u16, 0, 1, 3, 0, 1, 2, 4, 1, 1, 3, 5, 2, 0, 3, 2];
-    back(name, shape_of(4, 2, 0), &hops, b"\x04open", room, 18);
+    back(name, shape_of(4, 2, 0), &hops, b"\x04open", capacity, 18);
 }
 
 // P1 with an initial state and a block of names.
-fn p1_back(name: &[u8], initial: u32, names: &[u8], room: usize, hop_room: usize) {
+fn p1_back(name: &[u8], initial: u32, names: &[u8], capacity: usize, hop_capacity: usize) {
     let hops = [0u16, 0, 1, 0, 0, 1, 2, 0, 1, 1, 3, 0, 2, 0, 3, 0];
-    back(name, shape_of(4, 2, initial), &hops, names, room, hop_room);
+    back(
+        name,
+        shape_of(4, 2, initial),
+        &hops,
+        names,
+        capacity,
+        hop_capacity,
+    );
 }
 
 fn backs() {
     p1_back(b"P1 with a name", 0, b"\x04open", 46, 18);
     p1_back(b"P1 with no names", 0, b"", 46, 18);
     p1_back(b"an initial state", 3, b"\x04open", 46, 18);
-    p1_back(b"just room", 0, b"\x04open", 36, 16);
+    p1_back(b"just capacity", 0, b"\x04open", 36, 16);
     lined_back(b"P1 with lines", 46);
     lined_back(b"P1 with lines, too short", 43);
 }

@@ -83,7 +83,7 @@ module _ {hs : List ℕ} {n : ℕ} where
 
   -- what is ranked later is on no ring either
   pub ranks-later : {a b : List ℕ} {r : ℕ} → Ranks hs n a → length b ≡ length a → Ranked hs n a b r → Ranks hs n b
-  ranks-later x e y = record { room = rw e (x .room); unringed = y .unringed }
+  ranks-later x e y = record { capacity = rw e (x .capacity); unringed = y .unringed }
 
   pub ranked-join : {a b c : List ℕ} {q r : ℕ} → Ranked hs n a b q → Ranked hs n b c r → Ranked hs n a c (q + r)
   ranked-join x y = record { unringed = y .unringed; gained = omega (arith, x .gained, y .gained) }
@@ -103,7 +103,7 @@ module _ {sh : Shape} {hs : List ℕ} (ranged : InRange sh hs) where
   -- v is ranked
   pub ranked-one : (ranked : List ℕ) (v : ℕ) → Unringed hs (sh .states) ranked → sh .states ≤ length ranked → v < sh .states →
       noted ranked v ≡ false → endsNoted hs ranked v ≡ true → Ranked hs (sh .states) ranked (set ranked v 1) 1
-  ranked-one ranked v u room l e d = record {
+  ranked-one ranked v u capacity l e d = record {
     unringed = λ t k f. ⊎-elim (u t k) (λ q. rw q off) (noted-set-back ranked v t f);
     gained = omega (arith, tally-less (noted ranked) (noted (set ranked v 1)) (sh .states) (λ j k f. noted-set ranked v j within f) l e (noted-set-same ranked v within));
   } where

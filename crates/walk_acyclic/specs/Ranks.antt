@@ -20,7 +20,7 @@ Unringed hs n ranked = (t : ℕ) → t < n → noted ranked t ≡ true → OnRin
 
 -- a byte for each of n states, and no ranked one is on a ring
 pub record Ranks (hs : List ℕ) (n : ℕ) (ranked : List ℕ) : Type 0 where
-  pub room : n ≤ length ranked
+  pub capacity : n ≤ length ranked
   pub unringed : Unringed hs n ranked
 
 -- at least r states more are ranked, and none of them is on a ring

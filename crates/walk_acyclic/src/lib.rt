@@ -34,7 +34,7 @@ pub fn ends_ranked(
     ranked: &[u8],
 ) -> bool
     requires tabled { ⌜ Tabled shape (now hops) (now starts) ⌝ }
-    requires room { ⌜ shape .states ≤ length (now ranked) ⌝ }
+    requires capacity { ⌜ shape .states ≤ length (now ranked) ⌝ }
     requires state { ⌜ v .0 < shape .states ⌝ }
     ensures { λ r. ⌜ r ≡ endsNoted (now (hops .entry)) (now (ranked .entry)) (v .0) ⌝ }
 {
@@ -96,7 +96,7 @@ fn rank_once(shape: Shape, hops: &[u16], starts: &[u16; STARTS], ranked: &mut [u
 // Whether the search may still enter t: it is neither ranked nor entered.
 fn is_fresh(shape: Shape, t: OldState, ranked: &[u8], entered: &[u8; MOST_STATES]) -> bool
     requires most { ⌜ shape .states ≤ most-states ⌝ }
-    requires room { ⌜ shape .states ≤ length (now ranked) ⌝ }
+    requires capacity { ⌜ shape .states ≤ length (now ranked) ⌝ }
     requires state { ⌜ t .0 < shape .states ⌝ }
 {
     let at = wide(t.0);
@@ -133,7 +133,7 @@ fn next_fresh(
 ) -> usize
     requires admitted { ⌜ Admitted shape (now hops) ⌝ }
     requires places { ⌜ past ≤ count (now hops) ⌝ }
-    requires room { ⌜ shape .states ≤ length (now ranked) ⌝ }
+    requires capacity { ⌜ shape .states ≤ length (now ranked) ⌝ }
 {
     let mut i = first;
     while i < past {
@@ -161,7 +161,7 @@ fn climb(
     via: &mut [u16; MOST_STATES],
 ) -> OldState
     requires tabled { ⌜ Tabled shape (now hops) (now starts) ⌝ }
-    requires room { ⌜ shape .states ≤ length (now ranked) ⌝ }
+    requires capacity { ⌜ shape .states ≤ length (now ranked) ⌝ }
     requires state { ⌜ v .0 < shape .states ⌝ }
     ensures { λ r. ⌜ r .0 < shape .states ⌝ }
 {

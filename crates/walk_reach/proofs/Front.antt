@@ -58,30 +58,30 @@ module _ (seen : List ℕ) (t : ℕ) where
   noted-set-back u e = ⊎-elim (λ q. inr q) (λ f. inl (sym (noted-set-other u f) ∙ e)) (eq-or-not u t)
 
 -- a state of n that is not noted leaves room in the queue
-pub front-room : {n : ℕ} {seen queue : List ℕ} {tail : ℕ} → Front n seen queue tail → (t : ℕ) → t < n → noted seen t ≡ false →
+pub front-capacity : {n : ℕ} {seen queue : List ℕ} {tail : ℕ} → Front n seen queue tail → (t : ℕ) → t < n → noted seen t ≡ false →
     (tail < n) × (tail + 1 ≤ tally n (noted (set seen t 1)))
-front-room {n} {seen} {queue} {tail} f t l e =
+front-capacity {n} {seen} {queue} {tail} f t l e =
     let less : tally n (noted seen) < tally n (noted (set seen t 1)) =
-    tally-less (noted seen) (noted (set seen t 1)) n (λ u k d. noted-set seen t u (omega (arith, f .seen-room)) d) l e
-    (noted-set-same seen t (omega (arith, f .seen-room))) in
+    tally-less (noted seen) (noted (set seen t 1)) n (λ u k d. noted-set seen t u (omega (arith, f .seen-capacity)) d) l e
+    (noted-set-same seen t (omega (arith, f .seen-capacity))) in
     (omega (arith, f .counted, tally-within (noted (set seen t 1)) n), omega (arith, f .counted))
 
 -- the front after a state is noted that was not
 module _ {n : ℕ} {seen queue : List ℕ} {tail : ℕ} (f : Front n seen queue tail) (t : ℕ) (l : t < n) (e : noted seen t ≡ false) where
   in-seen : t < length seen
-  in-seen = omega (arith, f .seen-room)
+  in-seen = omega (arith, f .seen-capacity)
 
-  in-room : tail < length queue
-  in-room = omega (arith, f .queue-room, front-room f t l e .0)
+  in-capacity : tail < length queue
+  in-capacity = omega (arith, f .queue-capacity, front-capacity f t l e .0)
 
   pub front-new : Front n (set seen t 1) (set queue tail t) (tail + 1)
   front-new = record {
-    seen-room = simp length-set (f .seen-room);
-    queue-room = simp length-set (f .queue-room);
+    seen-capacity = simp length-set (f .seen-capacity);
+    queue-capacity = simp length-set (f .queue-capacity);
     bits = λ u k d. ⊎-elim (λ q. clash (ap (noted (set seen t 1)) q ∙ noted-set-same seen t in-seen) d)
         (λ g. getD-set-other seen t u 1 0 g ∙ f .bits u k (sym (noted-set-other seen t u g) ∙ d)) (eq-or-not u t);
-    counted = front-room f t l e .1;
-    in-queue = λ u k d. ⊎-elim (λ b. old-place u (f .in-queue u k b)) (λ q. (tail, omega arith, getD-set-same queue tail t 0 in-room ∙ sym q))
+    counted = front-capacity f t l e .1;
+    in-queue = λ u k d. ⊎-elim (λ b. old-place u (f .in-queue u k b)) (λ q. (tail, omega arith, getD-set-same queue tail t 0 in-capacity ∙ sym q))
         (noted-set-back seen t u d);
     from-queue = λ q k. ⊎-elim (λ d. new-entry q d) (λ g. old-entry q (f .from-queue q (omega arith)) g) (eq-or-not q tail);
   } where
@@ -90,7 +90,7 @@ module _ {n : ℕ} {seen queue : List ℕ} {tail : ℕ} (f : Front n seen queue 
 
     new-entry : (q : ℕ) → q ≡ tail → (getD (set queue tail t) q 0 < n) × (noted (set seen t 1) (getD (set queue tail t) q 0) ≡ true)
     new-entry q d =
-        let g : getD (set queue tail t) q 0 ≡ t = rw d (getD-set-same queue tail t 0 in-room) in
+        let g : getD (set queue tail t) q 0 ≡ t = rw d (getD-set-same queue tail t 0 in-capacity) in
         (omega arith, ap (noted (set seen t 1)) g ∙ noted-set-same seen t in-seen)
 
     old-entry : (q : ℕ) → (getD queue q 0 < n) × (noted seen (getD queue q 0) ≡ true) → (q ≡ tail → ⊥) →

@@ -45,8 +45,8 @@ module _ (n : ℕ) (seen queue : List ℕ) (a : n ≤ length seen) (b : n ≤ le
 
   clean-front : Front n clean queue 0
   clean-front = record {
-    seen-room = rw (length-cleared seen n a) a;
-    queue-room = b;
+    seen-capacity = rw (length-cleared seen n a) a;
+    queue-capacity = b;
     bits = λ t l e. clean-at t l;
     counted = omega arith;
     in-queue = λ t l e. clash e (clean-noted t l);
@@ -130,7 +130,7 @@ module _ {sh : Shape} {hs : List ℕ} (ranged : InRange sh hs) {c : ℕ → Bool
       bit t = cond (leadsBy hs c (sh .states) s t) 1 0
 
       size : length (take (sh .states) seen) ≡ sh .states
-      size = length-take-le (sh .states) seen (a .front .seen-room)
+      size = length-take-le (sh .states) seen (a .front .seen-capacity)
 
       fronts : take (sh .states) seen ≡ listed (sh .states) bit
       fronts = ext-getD 0 _ _ (size ∙ sym (length-listed bit (sh .states)))

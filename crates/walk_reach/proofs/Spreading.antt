@@ -65,11 +65,11 @@ module _ {sh : Shape} {hs : List ℕ} {v lo hi : ℕ} (r : Range sh hs v lo hi) 
               chosen = e;
               to-is = refl;
             });
-        ends = λ j a b d. ⊎-elim (λ q. ap (λ (k : ℕ). noted (seenWith seen₁ (to hs i)) (to hs k)) q ∙ noted-with seen₁ (to hs i) room)
-            (λ f. noted-kept seen₁ (to hs i) (to hs j) room (p .ends j a (omega arith) d)) (eq-or-not j i);
+        ends = λ j a b d. ⊎-elim (λ q. ap (λ (k : ℕ). noted (seenWith seen₁ (to hs i)) (to hs k)) q ∙ noted-with seen₁ (to hs i) capacity)
+            (λ f. noted-kept seen₁ (to hs i) (to hs j) capacity (p .ends j a (omega arith) d)) (eq-or-not j i);
       } where
-        room : to hs i < length seen₁
-        room = omega (arith, end-within i m, p .grown .front .seen-room)
+        capacity : to hs i < length seen₁
+        capacity = omega (arith, end-within i m, p .grown .front .seen-capacity)
 
       -- the same of what the code has
       pub passed-more : {t : ℕ} {seen₂ queue₂ : List ℕ} {tail₂ : ℕ} → lo ≤ i → i < hi → c i ≡ true → t ≡ to hs i → seen₂ ≡ seenWith seen₁ t →

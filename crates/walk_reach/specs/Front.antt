@@ -39,13 +39,13 @@ pub record Chosen (sh : Shape) (hs st bytes : List ℕ) : Type 0 where
 
 -- working space for a search over n states
 pub record Space (n : ℕ) (seen queue : List ℕ) : Type 0 where
-  pub seen-room : n ≤ length seen
-  pub queue-room : n ≤ length queue
+  pub seen-capacity : n ≤ length seen
+  pub queue-capacity : n ≤ length queue
 
 -- the noted ones of n states are the first `tail` of the queue
 pub record Front (n : ℕ) (seen queue : List ℕ) (tail : ℕ) : Type 0 where
-  pub seen-room : n ≤ length seen
-  pub queue-room : n ≤ length queue
+  pub seen-capacity : n ≤ length seen
+  pub queue-capacity : n ≤ length queue
   pub bits : (t : ℕ) → t < n → noted seen t ≡ false → getD seen t 0 ≡ 0
   pub counted : tail ≤ tally n (noted seen)
   pub in-queue : (t : ℕ) → t < n → noted seen t ≡ true → (q : ℕ) × (q < tail) × (getD queue q 0 ≡ t)

@@ -33,7 +33,7 @@ fn clear(seen: &mut [u8], n: usize)
 // Notes t and puts it at the queue's end, unless it is noted already; returns the end.
 fn note(seen: &mut [u8], queue: &mut [u16], tail: usize, t: OldState) -> usize
     requires state { ⌜ t .0 < length (now seen) ⌝ }
-    requires room { ⌜ (noted (now seen) (t .0) ≡ false → tail < length (now queue)) ⌝ }
+    requires capacity { ⌜ (noted (now seen) (t .0) ≡ false → tail < length (now queue)) ⌝ }
     ensures seen { λ r. ⌜ now (seen .exit) ≡ seenWith (now (seen .entry)) (t .0) ⌝ }
     ensures queue { λ r. ⌜ now (queue .exit) ≡ queueWith (now (seen .entry)) (now (queue .entry)) tail (t .0) ⌝ }
     ensures tail { λ r. ⌜ r ≡ tailWith (now (seen .entry)) tail (t .0) ⌝ }

@@ -34,7 +34,7 @@ ghost use Rattle.walk_rings.specs.Ring.{leadsBackAt};
 // Whether the hop at the place leads silently from a noted state to s.
 fn returns_at(shape: Shape, hops: &[u16], i: usize, s: OldState, seen: &[u8]) -> bool
     requires admitted { ⌜ Admitted shape (now hops) ⌝ }
-    requires room { ⌜ shape .states ≤ length (now seen) ⌝ }
+    requires capacity { ⌜ shape .states ≤ length (now seen) ⌝ }
     requires place { ⌜ i < count (now hops) ⌝ }
     ensures { λ r. ⌜ r ≡ leadsBackAt (now (hops .entry)) (now (seen .entry)) (s .0) i ⌝ }
 {
@@ -45,7 +45,7 @@ fn returns_at(shape: Shape, hops: &[u16], i: usize, s: OldState, seen: &[u8]) ->
 // Whether some hop does.
 fn returns(shape: Shape, hops: &[u16], s: OldState, seen: &[u8]) -> bool
     requires admitted { ⌜ Admitted shape (now hops) ⌝ }
-    requires room { ⌜ shape .states ≤ length (now seen) ⌝ }
+    requires capacity { ⌜ shape .states ≤ length (now seen) ⌝ }
     ensures { λ r. ⌜ r ≡ any (count (now (hops .entry))) (leadsBackAt (now (hops .entry)) (now (seen .entry)) (s .0)) ⌝ }
 {
     let n = hop_count(hops);

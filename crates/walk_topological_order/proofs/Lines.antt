@@ -45,9 +45,9 @@ module _ (hs placed : List ℕ) (i : ℕ) where
 -- no state is placed
 pub lined-none : {sh : Shape} {hs line : List ℕ} → InRange sh hs → count hs ≤ length line → (m : ℕ) → sh .states ≤ m →
     Lined hs (sh .states) (replicate m 0) line (record { states = 0; places = 0 })
-lined-none {sh} {hs} {line} ranged room m w = record {
+lined-none {sh} {hs} {line} ranged capacity m w = record {
   bytes = rw (length-replicate {A = ℕ} m 0) w;
-  room = room;
+  capacity = capacity;
   counted = sym (tally-zero (noted (replicate m 0)) (sh .states) off);
   few = omega arith;
   ends = λ i l e. clash (lined-from hs (replicate m 0) i e) (off (from hs i) (ranged .from-in i l));
@@ -108,7 +108,7 @@ module _ {hs : List ℕ} {n : ℕ} {placed line : List ℕ} {at : Counts} (x : L
     pub lined-one : Lined hs n after line′ (record { states = at .states + 1; places = r })
     lined-one = record {
       bytes = simp length-set (x .bytes);
-      room = rw (p .long) (x .room);
+      capacity = rw (p .long) (x .capacity);
       counted = ap (λ (k : ℕ). k + 1) (x .counted) ∙ tally-one (noted placed) (noted after) n l off (noted-set-same placed v byte) (noted-set-other placed v);
       few = omega (arith, x .few, p .few, grown);
       ends = λ i k d. noted-set placed v (to hs i) byte (⊎-elim (λ o. x .ends i k o) (λ o. ends-at hs placed v e (to hs i) (silent-here hs v i k o)) (back i d));
@@ -193,7 +193,7 @@ pass-more {sh} {hs} {placed} ranged free x down (none q c f) w l =
 pub lined-whole : {sh : Shape} {hs placed line : List ℕ} {at : Counts} → InRange sh hs → Lined hs (sh .states) placed line at → sh .states ≤ at .states →
     Line hs line (at .places)
 lined-whole {sh} {hs} {placed} {line} {at} ranged x w = record {
-  room = omega (arith, x .few, tally-within (isLined hs placed) (count hs), x .room);
+  capacity = omega (arith, x .few, tally-within (isLined hs placed) (count hs), x .capacity);
   within = λ k l. x .own k l .0;
   silent = λ k l. lined-silent hs placed (getD line k 0) (x .own k l .1);
   every = λ i l q. x .every i l (lined-yes hs placed i q (all-placed (from hs i) (ranged .from-in i l)));

@@ -46,18 +46,18 @@ module _ {hs : List ℕ} {v lo : ℕ} {line : List ℕ} {n : ℕ} where
   }
 
   -- there is room for a silent hop of v more
-  pub putting-room : {line′ : List ℕ} {i r : ℕ} → Putting hs v lo line n line′ i r → i < count hs → labelled hs v 0 i ≡ true →
+  pub putting-capacity : {line′ : List ℕ} {i r : ℕ} → Putting hs v lo line n line′ i r → i < count hs → labelled hs v 0 i ≡ true →
       r < n + tally (count hs) (labelled hs v 0)
-  putting-room {i = i} p l e = omega (arith, p .few-yet, tally-past (labelled hs v 0) (count hs) {i = i} l e)
+  putting-capacity {i = i} p l e = omega (arith, p .few-yet, tally-past (labelled hs v 0) (count hs) {i = i} l e)
 
   pub putting-more : {line′ : List ℕ} {i r : ℕ} → Putting hs v lo line n line′ i r → i < count hs → labelled hs v 0 i ≡ true → r < length line →
       Putting hs v lo line n (set line′ r i) (i + 1) (r + 1)
-  putting-more {line′} {i} {r} p l e room = record {
+  putting-more {line′} {i} {r} p l e capacity = record {
     long = length-set line′ r i ∙ p .long;
     passed = omega (arith, p .passed);
     within = omega arith;
     longer = omega (arith, p .longer);
-    few = omega (arith, putting-room p l e);
+    few = omega (arith, putting-capacity p l e);
     few-yet = omega (arith, p .few-yet, tally-more (labelled hs v 0) i refl e);
     kept = λ k m. getD-set-other line′ r k i 0 (λ q. omega (arith, p .longer, p .passed)) ∙ p .kept k m;
     fresh = λ k a b. go k a (lt-or-le k r) b;
@@ -67,7 +67,7 @@ module _ {hs : List ℕ} {v lo : ℕ} {line : List ℕ} {n : ℕ} where
     go k a (inl m) b = rw (getD-set-other line′ r k i 0 (λ q. omega arith)) (p .fresh k a m)
     go k a (inr m) b =
         let q : k ≡ r = omega arith in
-        rw (q, getD-set-same line′ r i 0 (rw (p .long) room)) (omega (arith, p .longer))
+        rw (q, getD-set-same line′ r i 0 (rw (p .long) capacity)) (omega (arith, p .longer))
 
   -- no silent hop of v stands at i, and so none from there on
   pub putting-done : {line′ : List ℕ} {i r hi : ℕ} → Ascending hs → lo ≡ firstOf hs v → hi ≡ firstOf hs (v + 1) → Putting hs v lo line n line′ i r →

@@ -33,7 +33,7 @@ isLined hs placed i = eqb (label hs i) 0 && noted placed (from hs i)
 -- the silent hops of the placed ones of n states are the line so far, in its order; they lead to placed states
 pub record Lined (hs : List ℕ) (n : ℕ) (placed line : List ℕ) (at : Counts) : Type 0 where
   pub bytes : n ≤ length placed
-  pub room : count hs ≤ length line
+  pub capacity : count hs ≤ length line
   pub counted : at .states ≡ tally n (noted placed)
   pub few : at .places ≤ tally (count hs) (isLined hs placed)
   pub ends : (i : ℕ) → i < count hs → isLined hs placed i ≡ true → noted placed (to hs i) ≡ true

@@ -43,7 +43,7 @@ fn put_row(
     requires tabled { ⌜ Tabled shape (now hops) (now starts) ⌝ }
     requires state { ⌜ v .0 < shape .states ⌝ }
     requires fits { ⌜ n + tally (count (now hops)) (labelled (now hops) (v .0) 0) ≤ count (now hops) ⌝ }
-    requires room { ⌜ count (now hops) ≤ length (now line) ⌝ }
+    requires capacity { ⌜ count (now hops) ≤ length (now line) ⌝ }
     ensures { λ r. ⌜ Put (now (hops .entry)) (v .0) (now (line .entry)) n (now (line .exit)) r ⌝ }
 {
     let s = wide(v.0);
@@ -138,7 +138,7 @@ pub fn line_of(
 ) -> usize
     requires tabled { ⌜ Tabled shape (now hops) (now starts) ⌝ }
     requires free { ⌜ ringless shape (now hops) .number ≡ 0 ⌝ }
-    requires room { ⌜ count (now hops) ≤ length (now line) ⌝ }
+    requires capacity { ⌜ count (now hops) ≤ length (now line) ⌝ }
     ensures { λ r. ⌜ Line (now (hops .entry)) (now (line .exit)) r ⌝ }
 {
     let n = shape.states as usize;

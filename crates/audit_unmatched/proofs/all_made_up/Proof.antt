@@ -49,8 +49,8 @@ made-up-faults-requires c κs =
       (
         record {
           search = record {
-            seen-room = omega (arith, length-replicate {A = ℕ} most-states 0, most);
-            queue-room = omega (arith, length-replicate {A = ℕ} most-states 0, most);
+            seen-capacity = omega (arith, length-replicate {A = ℕ} most-states 0, most);
+            queue-capacity = omega (arith, length-replicate {A = ℕ} most-states 0, most);
           };
           stamp-a-hop = omega (arith, length-replicate {A = ℕ} most-hops 0, few);
         },

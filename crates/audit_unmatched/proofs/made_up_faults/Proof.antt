@@ -57,7 +57,7 @@ made-up-of-requires c κs =
         omega (arith, v .0, c .before .before .before .loop-test .taken),
         (
           record {
-            search = record { seen-room = omega (arith, v .2, p .search .seen-room); queue-room = omega (arith, v .3, p .search .queue-room) };
+            search = record { seen-capacity = omega (arith, v .2, p .search .seen-capacity); queue-capacity = omega (arith, v .3, p .search .queue-capacity) };
             stamp-a-hop = omega (arith, v .4, p .stamp-a-hop);
           },
           v .5,

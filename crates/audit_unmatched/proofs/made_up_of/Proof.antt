@@ -17,7 +17,7 @@ reach-requires c κs = let s = c .before .before .before .before .before .before
 
 tick-all-requires : tie.Need-tick-all-requires
 tick-all-requires c κs =
-    let s = c .before .before .before .before .before .before .before .before .before .before .before .before .before .before .before .before .before .before in (s .pre .0 .tickable, (omega (arith, s .pre .1 .1 .0 .search .seen-room), s .pre .1 .1 .0 .stamp-a-hop))
+    let s = c .before .before .before .before .before .before .before .before .before .before .before .before .before .before .before .before .before .before in (s .pre .0 .tickable, (omega (arith, s .pre .1 .1 .0 .search .seen-capacity), s .pre .1 .1 .0 .stamp-a-hop))
 
 first-unticked-requires : tie.Need-first-unticked-requires
 first-unticked-requires c κs =

@@ -9,10 +9,10 @@ put-ends-requires : tie.Need-put-ends-requires
 put-ends-requires c κs = let st = c .before .before .before in (st .pre .0 .ready, (st .pre .1 .1 .0, st .pre .1 .1 .1))
 
 close-requires : tie.Need-close-requires
-close-requires c κs = let st = c .before .before .before .before .before .before in (st .pre .0 .ready, (st .pre .0 .lined, st .pre .1 .0 .room))
+close-requires c κs = let st = c .before .before .before .before .before .before in (st .pre .0 .ready, (st .pre .0 .lined, st .pre .1 .0 .capacity))
 
 follow-requires : tie.Need-follow-requires
-follow-requires c κs = let st = c .before .before .before .before .before .before .before .before .before in (st .pre .0 .ready, (st .pre .0 .lined, st .pre .1 .0 .room))
+follow-requires c κs = let st = c .before .before .before .before .before .before .before .before .before in (st .pre .0 .ready, (st .pre .0 .lined, st .pre .1 .0 .capacity))
 
 put-labels-requires : tie.Need-put-labels-requires
 put-labels-requires c κs = let st = c .before .before .before .before .before .before .before .before .before .before .before in (st .pre .0 .admitted, (st .pre .1 .1 .0, st .pre .1 .1 .1))
@@ -21,7 +21,7 @@ put-answers-requires : tie.Need-put-answers-requires
 put-answers-requires c κs = let st = c .before .before .before .before .before .before .before .before .before .before .before .before .before .before .before in st .pre .0 .admitted
 
 lead-requires : tie.Need-lead-requires
-lead-requires c κs = let st = c .before .before .before .before .before .before .before .before .before .before .before .before .before .before .before .before .before .before in (st .pre .0 .ready, (st .pre .0 .lined, st .pre .1 .0 .room))
+lead-requires c κs = let st = c .before .before .before .before .before .before .before .before .before .before .before .before .before .before .before .before .before .before in (st .pre .0 .ready, (st .pre .0 .lined, st .pre .1 .0 .capacity))
 
 touch-requires : tie.Need-touch-requires
 touch-requires c κs = search needs
@@ -30,7 +30,7 @@ put-froms-requires : tie.Need-put-froms-requires
 put-froms-requires c κs = let st = c .before .before .before .before .before .before .before .before .before .before .before .before .before .before .before .before .before .before .before .before .before .before .before .before in (st .pre .0 .ready, (st .pre .1 .1 .0, st .pre .1 .1 .1))
 
 judge-requires : tie.Need-judge-requires
-judge-requires c κs = let st = c .before .before .before .before .before .before .before .before .before .before .before .before .before .before .before .before .before .before .before .before .before .before .before .before .before .before .before .before in (st .pre .0 .ready, st .pre .1 .0 .room)
+judge-requires c κs = let st = c .before .before .before .before .before .before .before .before .before .before .before .before .before .before .before .before .before .before .before .before .before .before .before .before .before .before .before .before in (st .pre .0 .ready, st .pre .1 .0 .capacity)
 
 same-length : tie.Need-same-length
 same-length c = search needs

@@ -18,7 +18,7 @@ abbrev μ-loop : tie.MeasureT-loop
 μ-loop shape hops line n sense marks₀ was₀ touched₀ due₀ down₀ lost₀ all₀ marks was touched due down lost all = markCount hops marks + lost
 
 due-after-requires : tie.Need-due-after-requires Inv-loop μ-loop
-due-after-requires c κs = let st = c .before .before .before .before .before in (st .pre .0 .ready, st .pre .1 .room)
+due-after-requires c κs = let st = c .before .before .before .before .before in (st .pre .0 .ready, st .pre .1 .capacity)
 
 loop-holds : tie.Need-loop-holds Inv-loop μ-loop
 loop-holds c = (refl, swept-none (c .before .before .before .before .before .before .pre .1) tt)

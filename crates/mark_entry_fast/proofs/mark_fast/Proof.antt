@@ -2,7 +2,7 @@
 use borrow.Author.Needs.{needs}
 use Rattle.graph_check.proofs.Checked.{check-admitted}
 use Rattle.graph_successors.proofs.Firsts.{admitted-ready}
-use Rattle.mark_entry.proofs.Entry.{mark-refused, mark-room, output-same}
+use Rattle.mark_entry.proofs.Entry.{mark-refused, mark-capacity, output-same}
 use Rattle.mark_entry_fast.proofs.First.{first-later, first-marked}
 use Rattle.mark_entry_fast.proofs.Counting.{counted-refused, counted-done}
 use Rattle.mark_entry_fast.proofs.mark_fast.Statement.{statement}
@@ -34,7 +34,7 @@ mark-rounds-requires c κs =
     let e = c .before .before .before .before .before .before .before .before .before .check .ensures in
     let z = c .before .before .before .before .before .before .before .if1 .left in
     let d = first-later _ _ (st .args .marks .now) e z (c .before .before .before .before .later-answer .ensures) in
-    (admitted-ready (check-admitted _ _ (rw e at z)), (c .before .before .before .before .before .before .starts-of .ensures, mark-room _ _ _ _ (rw d at (c .before .before .if2 .left))))
+    (admitted-ready (check-admitted _ _ (rw e at z)), (c .before .before .before .before .before .before .starts-of .ensures, mark-capacity _ _ _ _ (rw d at (c .before .before .if2 .left))))
 
 same-length : tie.Need-same-length
 same-length c = search needs

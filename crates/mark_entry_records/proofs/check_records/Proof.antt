@@ -73,7 +73,7 @@ module _ {M : Type 1} (𝓤 : URA M) (H : Heap 𝓤) (A : Atoms 𝓤) (mem : Mem
   Core = tripleOf 𝓤 H A core.signature (core.spec 𝓤 H A mem run)
 
 module _ {M : Type 1} (𝓤 : URA M) (H : Heap 𝓤) (A : Atoms 𝓤) (W : Given 𝓤 H A) (mem : Memory → SProp 𝓤) (run : Routine → Fun 𝓤)
-    (κ : Lft) (q : Share) (b o : ℕ) (γ : GName) (ys : List Hop) (sh : Shape) (rooms : Room T.the-row (length ys)) (is-sh : Is S.the-row sh (S′.lowered sh ∷ [])) where
+    (κ : Lft) (q : Share) (b o : ℕ) (γ : GName) (ys : List Hop) (sh : Shape) (capacities : Room T.the-row (length ys)) (is-sh : Is S.the-row sh (S′.lowered sh ∷ [])) where
   abbrev n : ℕ
   n = length ys
 
@@ -117,7 +117,7 @@ module _ {M : Type 1} (𝓤 : URA M) (H : Heap 𝓤) (A : Atoms 𝓤) (W : Given
 
   goes-core : (r : List ℕ) (u : Val) → ent 𝓤 (⋆ 𝓤 H A (‵ (Array u16 most-numbers .own r (u ∷ [])) ∷ ‵ ftrue ∷ [])) (Core 𝓤 H A mem run .pre (to-core r u))
   goes-core r u = qed W (‵ (Array u16 most-numbers .own r (u ∷ [])) ∷ ‵ ftrue ∷ []) ∵
-      nothing ! $ owned ! usize (Is usize) (uint-makes 𝓤 H A W w64) n _ (refl, rooms .0) $ fjoin ! $ move ! (1 ∷ 0 ∷ []) $ fjoin ! $ owned ! S.the-row (Is S.the-row) (LL.makes S.the-type S′.the-plain 𝓤 H A) sh _ is-sh $ fjoin ! $ move ! (1 ∷ 0 ∷ []) $ join ! $ frame ! $ done !
+      nothing ! $ owned ! usize (Is usize) (uint-makes 𝓤 H A W w64) n _ (refl, capacities .0) $ fjoin ! $ move ! (1 ∷ 0 ∷ []) $ fjoin ! $ owned ! S.the-row (Is S.the-row) (LL.makes S.the-type S′.the-plain 𝓤 H A) sh _ is-sh $ fjoin ! $ move ! (1 ∷ 0 ∷ []) $ join ! $ frame ! $ done !
 
   said-core : (r : List ℕ) (m : Answer) → ent 𝓤 (ensured 𝓤 H A core.ended (core.clauses 𝓤 H A mem run) tt (sh, (r, (n, tt))) tt m) (fact 𝓤 (Said r m))
   said-core r m = exE 𝓤 _ (λ ws. snd∗ 𝓤 (sem 𝓤 H A (lasts core.ended tt (sh, (r, (n, tt))) ws)) (fact 𝓤 (Said r m)))
@@ -129,8 +129,8 @@ module _ {M : Type 1} (𝓤 : URA M) (H : Heap 𝓤) (A : Atoms 𝓤) (W : Given
     walk : ent 𝓤 (onEntry 𝓤 H A entry.signature (κ, tt) (q, tt) a vals) (WpFn 𝓤 H C Λ code.function (S′.lowered sh ∷ v ∷ []) Post)
     walk =
         qed W ((‵ (flft κ q) ⊛ ‵ ftrue) ∷ ‵ (owns (S.the-row ∷ ShrSlice (named 0) κ T.the-row ∷ []) a vals) ∷ []) ∵ enter ! C Λ code.function (S′.lowered sh ∷ v ∷ []) _ $
-        alloc1 ! (λ l₀. alloc1 ! (λ l₁. alloc1 ! (λ l₂. alloc1 ! (λ l₃. alloc1 ! (λ l₄. alloc0 ! $ params1 ! $ pass1 ! (init ! 6 refl (LL.lawful S.the-type S′.the-laws 𝓤 H A W .typed sh _ is-sh .0)) $ pass1 ! (init ! 4 refl (tt, (tt, (record { fits = rooms .0 }, tt)))) $ pass0 ! $
-        assigns ! (of-opd ! (load ! (from ! (fld ! refl (stop !))) (look-in ! 4 (sub ! 1 refl (whole !))))) (from ! (stop !)) (init ! 2 refl (tt, record { fits = rooms .0 })) $
+        alloc1 ! (λ l₀. alloc1 ! (λ l₁. alloc1 ! (λ l₂. alloc1 ! (λ l₃. alloc1 ! (λ l₄. alloc0 ! $ params1 ! $ pass1 ! (init ! 6 refl (LL.lawful S.the-type S′.the-laws 𝓤 H A W .typed sh _ is-sh .0)) $ pass1 ! (init ! 4 refl (tt, (tt, (record { fits = capacities .0 }, tt)))) $ pass0 ! $
+        assigns ! (of-opd ! (load ! (from ! (fld ! refl (stop !))) (look-in ! 4 (sub ! 1 refl (whole !))))) (from ! (stop !)) (init ! 2 refl (tt, record { fits = capacities .0 })) $
         move ! (11 ∷ []) $ fsplit ! $ move ! (1 ∷ []) $ fsplit ! $ use1 W (‵ Own ⊛ ‵ Own) (shr-slice-copy 𝓤 H A W (named 0) κ T.the-row .twice x (v ∷ [])) $ split ! $
         move ! (14 ∷ []) $ split ! $ nothing ! $ move ! (1 ∷ 0 ∷ []) $ join ! $ move ! (0 ∷ 2 ∷ []) $ use2 W (raw (FlatOf 𝓤 H A mem run .pre to)) (goes-flat-of 𝓤 H A mem run κ q b o γ ys W) $
         calls-at ! fm (FlatOf 𝓤 H A mem run) known-flat-of to (and-then ! (load ! (from ! (stop !)) (look ! 9 refl)) (no-more !)) (λ u.

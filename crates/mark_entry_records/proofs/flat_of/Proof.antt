@@ -115,11 +115,11 @@ none-val = arrayVal (replicate most-numbers (vint w16 0))
 none-length : length none ≡ most-numbers
 none-length = length-replicate {A = ℕ} most-numbers 0
 
-room-for : (l : List ℕ) (m : ℕ) → length l ≡ most-numbers → m ≤ most-hops → m ≤ count l
-room-for l m e h = omega arith
+capacity-for : (l : List ℕ) (m : ℕ) → length l ≡ most-numbers → m ≤ most-hops → m ≤ count l
+capacity-for l m e h = omega arith
 
 module _ {M : Type 1} (𝓤 : URA M) (H : Heap 𝓤) (A : Atoms 𝓤) (W : Given 𝓤 H A) (mem : Memory → SProp 𝓤) (run : Routine → Fun 𝓤)
-    (κ : Lft) (q : Share) (b o : ℕ) (γ : GName) (ys : List Hop) (rooms : Room T.the-row (length ys)) where
+    (κ : Lft) (q : Share) (b o : ℕ) (γ : GName) (ys : List Hop) (capacities : Room T.the-row (length ys)) where
   abbrev n : ℕ
   n = length ys
 
@@ -162,7 +162,7 @@ module _ {M : Type 1} (𝓤 : URA M) (H : Heap 𝓤) (A : Atoms 𝓤) (W : Given
   -- ---- the loop, where there are not too many records
   module _ (few : n ≤ most-hops) where
     enough : n ≤ count none
-    enough = room-for none n none-length few
+    enough = capacity-for none n none-length few
 
     as-long : (i : ℕ) → i ≤ n → length (l i) ≡ most-numbers
     as-long i m = done-length ys none enough i m ∙ none-length
@@ -202,7 +202,7 @@ module _ {M : Type 1} (𝓤 : URA M) (H : Heap 𝓤) (A : Atoms 𝓤) (W : Given
       goes i less is ν δ =
           qed W (‵ (flft (ν ∷ []) fullShare) ∷ ‵ (MutSlice (named 0) (ν ∷ []) u16 .own (z δ (l i)) (s ∷ [])) ∷ []) ∵ says ! (omega (arith, as-long i (omega arith))) $ nothing ! $ move ! (1 ∷ 0 ∷ []) $ join ! $ frame ! $
           nothing ! $ owned ! T.the-row (Is T.the-row) (LL.makes T.the-type T′.the-plain 𝓤 H A) (h i) _ is $ fjoin ! $
-          owned ! usize (Is usize) (uint-makes 𝓤 H A W w64) i _ (refl, omega (arith, rooms .0)) $ fjoin ! $ move ! (1 ∷ 0 ∷ []) $ fjoin ! $ all-done !
+          owned ! usize (Is usize) (uint-makes 𝓤 H A W w64) i _ (refl, omega (arith, capacities .0)) $ fjoin ! $ move ! (1 ∷ 0 ∷ []) $ fjoin ! $ all-done !
 
       -- [_12; …; _11; …; _10; …; _9; …; _8; …; _7; …; _6; …; _5; …; _4; …; _3; …; _2; …; _1; …; _0; …; the records; what shuts them; what hops owns; what the array owns]
       abbrev At : Upto → List (Item 𝓤)
@@ -250,15 +250,15 @@ module _ {M : Type 1} (𝓤 : URA M) (H : Heap 𝓤) (A : Atoms 𝓤) (W : Given
           again ! Nearer At i (i .0 + 1, omega arith, w) (omega arith)))))))))))
         where
           more : i .0 + 1 < 2 ^ 64
-          more = omega (arith, rooms .0)
+          more = omega (arith, capacities .0)
 
           in-bytes : i .0 * record-bytes < 2 ^ 64
-          in-bytes = omega (arith, rooms .1, less)
+          in-bytes = omega (arith, capacities .1, less)
 
       turns : (i : Upto) → Sq W (At i) (runs C Λ En code-mir.turn-1 (anyQ (Turned i)))
       unfolding afterTurn
       turns i =
-          assigns ! (of-opd ! (load ! (from ! (fld ! refl (stop !))) (look-in ! 22 (sub ! 1 refl (whole !))))) (from ! (stop !)) (init ! 12 refl (tt, record { fits = rooms .0 })) $
+          assigns ! (of-opd ! (load ! (from ! (fld ! refl (stop !))) (look-in ! 22 (sub ! 1 refl (whole !))))) (from ! (stop !)) (init ! 12 refl (tt, record { fits = capacities .0 })) $
           assigns ! (bin ! (load ! (from ! (stop !)) (look ! 18 refl)) (load ! (from ! (stop !)) (look ! 12 refl)) tt) (from ! (stop !)) (init ! 10 refl (tt, tt)) $
           first ! $ branches ! (load ! (from ! (stop !)) (look ! 10 refl))
           (λ less. skips ! $ exec ! C Λ En inside (anyQ (Turned i)) $ turn i (ltb→lt (i .0) n less))
@@ -277,11 +277,11 @@ module _ {M : Type 1} (𝓤 : URA M) (H : Heap 𝓤) (A : Atoms 𝓤) (W : Given
   walk 𝓣 known =
       qed W ((‵ (flft κ q) ⊛ ‵ ftrue) ∷ ‵ (owns (ShrSlice (named 0) κ T.the-row ∷ []) (x, tt) (v ∷ [], tt)) ∷ []) ∵ enter ! (𝓣 .C) (𝓣 .Λ) code.function (v ∷ []) _ $
       alloc1 ! (λ l₀. alloc1 ! (λ l₁. alloc1 ! (λ l₂. alloc1 ! (λ l₃. alloc1 ! (λ l₄. alloc1 ! (λ l₅. alloc1 ! (λ l₆. alloc1 ! (λ l₇. alloc1 ! (λ l₈. alloc1 ! (λ l₉. alloc1 ! (λ l₁₀. alloc1 ! (λ l₁₁. alloc1 ! (λ l₁₂. alloc0 ! $ params1 ! $
-      pass1 ! (init ! 22 refl (tt, (tt, (record { fits = rooms .0 }, tt)))) $ pass0 ! $
+      pass1 ! (init ! 22 refl (tt, (tt, (record { fits = capacities .0 }, tt)))) $ pass0 ! $
       use0 W (‵ (Array u16 most-numbers .own none (none-val ∷ []))) (zeros 𝓤 H A W most-numbers) $ peeks ! (Array u16 most-numbers) (Is (Array u16 most-numbers)) (shows 𝓤 H A (Array u16 most-numbers)) none (none-val ∷ []) (λ is₀.
       -- [what the array owns; _12; …; _0; …; the token; what hops owns]
       assigns ! (rep ! most-numbers (lit ! tt)) (from ! (stop !)) (init ! 21 refl (array-lawful 𝓤 H A W u16 (uint-lawful 𝓤 H A W w16) most-numbers .typed none _ is₀ .0)) $
-      assigns ! (of-opd ! (load ! (from ! (fld ! refl (stop !))) (look-in ! 23 (sub ! 1 refl (whole !))))) (from ! (stop !)) (init ! 17 refl (tt, record { fits = rooms .0 })) $
+      assigns ! (of-opd ! (load ! (from ! (fld ! refl (stop !))) (look-in ! 23 (sub ! 1 refl (whole !))))) (from ! (stop !)) (init ! 17 refl (tt, record { fits = capacities .0 })) $
       assigns ! (bin ! (big ! (record { fits = lit< tt })) (load ! (from ! (stop !)) (look ! 17 refl)) tt) (from ! (stop !)) (init ! 15 refl (tt, tt)) $
       first ! $ branches ! (load ! (from ! (stop !)) (look ! 15 refl))
       -- too many: the array is handed back as it is

@@ -74,7 +74,7 @@ module _ {M : Type 1} (𝓤 : URA M) (H : Heap 𝓤) (A : Atoms 𝓤) (mem : Mem
   Core = tripleOf 𝓤 H A core.signature (core.spec 𝓤 H A mem run)
 
 module _ {M : Type 1} (𝓤 : URA M) (H : Heap 𝓤) (A : Atoms 𝓤) (W : Given 𝓤 H A) (mem : Memory → SProp 𝓤) (run : Routine → Fun 𝓤)
-    (κ κ₂ : Lft) (q q₂ : Share) (b o : ℕ) (γ : GName) (ys : List Hop) (sh : Shape) (k b₂ o₂ : ℕ) (γ₂ : GName) (ms : List ℕ) (rooms : Room T.the-row (length ys)) (is-sh : Is S.the-row sh (S′.lowered sh ∷ [])) (is-k : Is u32 k (vint w32 k ∷ [])) (room₂ : Room u8 (length ms)) where
+    (κ κ₂ : Lft) (q q₂ : Share) (b o : ℕ) (γ : GName) (ys : List Hop) (sh : Shape) (k b₂ o₂ : ℕ) (γ₂ : GName) (ms : List ℕ) (capacities : Room T.the-row (length ys)) (is-sh : Is S.the-row sh (S′.lowered sh ∷ [])) (is-k : Is u32 k (vint w32 k ∷ [])) (room₂ : Room u8 (length ms)) where
   abbrev n : ℕ
   n = length ys
 
@@ -127,7 +127,7 @@ module _ {M : Type 1} (𝓤 : URA M) (H : Heap 𝓤) (A : Atoms 𝓤) (W : Given
 
   goes-core : (r : List ℕ) (u : Val) → ent 𝓤 (⋆ 𝓤 H A (‵ (Array u16 most-numbers .own r (u ∷ [])) ∷ (‵ (flft κ₂ q₂) ⊛ ‵ ftrue) ∷ ‵ Own₂ ∷ [])) (Core 𝓤 H A mem run .pre (to-core r u))
   goes-core r u = qed W (‵ (Array u16 most-numbers .own r (u ∷ [])) ∷ (‵ (flft κ₂ q₂) ⊛ ‵ ftrue) ∷ ‵ Own₂ ∷ []) ∵
-      nothing ! $ move ! (3 ∷ 0 ∷ []) $ fjoin ! $ owned ! u32 (Is u32) (uint-makes 𝓤 H A W w32) k _ is-k $ fjoin ! $ owned ! usize (Is usize) (uint-makes 𝓤 H A W w64) n _ (refl, rooms .0) $ fjoin ! $ move ! (1 ∷ 0 ∷ []) $ fjoin ! $ owned ! S.the-row (Is S.the-row) (LL.makes S.the-type S′.the-plain 𝓤 H A) sh _ is-sh $ fjoin ! $ move ! (1 ∷ 0 ∷ []) $ join ! $ frame ! $ done !
+      nothing ! $ move ! (3 ∷ 0 ∷ []) $ fjoin ! $ owned ! u32 (Is u32) (uint-makes 𝓤 H A W w32) k _ is-k $ fjoin ! $ owned ! usize (Is usize) (uint-makes 𝓤 H A W w64) n _ (refl, capacities .0) $ fjoin ! $ move ! (1 ∷ 0 ∷ []) $ fjoin ! $ owned ! S.the-row (Is S.the-row) (LL.makes S.the-type S′.the-plain 𝓤 H A) sh _ is-sh $ fjoin ! $ move ! (1 ∷ 0 ∷ []) $ join ! $ frame ! $ done !
 
   module _ (C : Calls 𝓤 H) (Λ : Loops 𝓤 H) (fm : FmC 𝓤 H (W .laws) C) (known-flat-of : Triple 𝓤 (C #mark_entry_records·flat-of) (FlatOf 𝓤 H A mem run)) (known-core : Triple 𝓤 (C #mark_entry_records·mark-of) (Core 𝓤 H A mem run)) where
     abbrev to : FlatOf 𝓤 H A mem run .Ghost
@@ -136,8 +136,8 @@ module _ {M : Type 1} (𝓤 : URA M) (H : Heap 𝓤) (A : Atoms 𝓤) (W : Given
     walk : ent 𝓤 (onEntry 𝓤 H A entry.signature (κ, (κ₂, tt)) (q, (q₂, tt)) a vals) (WpFn 𝓤 H C Λ code.function (S′.lowered sh ∷ v ∷ vint w32 k ∷ s₂ ∷ []) Post)
     walk =
         qed W ((‵ (flft κ q) ⊛ ‵ (flft κ₂ q₂) ⊛ ‵ ftrue) ∷ ‵ (owns (S.the-row ∷ ShrSlice (named 0) κ T.the-row ∷ u32 ∷ MutSlice (named 1) κ₂ u8 ∷ []) a vals) ∷ []) ∵ enter ! C Λ code.function (S′.lowered sh ∷ v ∷ vint w32 k ∷ s₂ ∷ []) _ $
-        alloc1 ! (λ l₀. alloc1 ! (λ l₁. alloc1 ! (λ l₂. alloc1 ! (λ l₃. alloc1 ! (λ l₄. alloc1 ! (λ l₅. alloc1 ! (λ l₆. alloc1 ! (λ l₇. alloc1 ! (λ l₈. alloc0 ! $ params1 ! $ pass1 ! (init ! 14 refl (LL.lawful S.the-type S′.the-laws 𝓤 H A W .typed sh _ is-sh .0)) $ pass1 ! (init ! 12 refl (tt, (tt, (record { fits = rooms .0 }, tt)))) $ pass1 ! (init ! 10 refl (tt, record { fits = is-k .1 })) $ pass1 ! (init ! 8 refl (tt, (tt, (record { fits = room₂ .0 }, tt)))) $ pass0 ! $
-        assigns ! (of-opd ! (load ! (from ! (fld ! refl (stop !))) (look-in ! 12 (sub ! 1 refl (whole !))))) (from ! (stop !)) (init ! 6 refl (tt, record { fits = rooms .0 })) $
+        alloc1 ! (λ l₀. alloc1 ! (λ l₁. alloc1 ! (λ l₂. alloc1 ! (λ l₃. alloc1 ! (λ l₄. alloc1 ! (λ l₅. alloc1 ! (λ l₆. alloc1 ! (λ l₇. alloc1 ! (λ l₈. alloc0 ! $ params1 ! $ pass1 ! (init ! 14 refl (LL.lawful S.the-type S′.the-laws 𝓤 H A W .typed sh _ is-sh .0)) $ pass1 ! (init ! 12 refl (tt, (tt, (record { fits = capacities .0 }, tt)))) $ pass1 ! (init ! 10 refl (tt, record { fits = is-k .1 })) $ pass1 ! (init ! 8 refl (tt, (tt, (record { fits = room₂ .0 }, tt)))) $ pass0 ! $
+        assigns ! (of-opd ! (load ! (from ! (fld ! refl (stop !))) (look-in ! 12 (sub ! 1 refl (whole !))))) (from ! (stop !)) (init ! 6 refl (tt, record { fits = capacities .0 })) $
         move ! (19 ∷ []) $ fsplit ! $ move ! (1 ∷ []) $ fsplit ! $ use1 W (‵ Own ⊛ ‵ Own) (shr-slice-copy 𝓤 H A W (named 0) κ T.the-row .twice x (v ∷ [])) $ split ! $ move ! (2 ∷ []) $ fsplit ! $ move ! (1 ∷ []) $ fsplit ! $
         move ! (24 ∷ []) $ split ! $ nothing ! $ move ! (1 ∷ 0 ∷ []) $ join ! $ move ! (0 ∷ 5 ∷ []) $ use2 W (raw (FlatOf 𝓤 H A mem run .pre to)) (goes-flat-of 𝓤 H A mem run κ q b o γ ys W) $
         calls-at ! fm (FlatOf 𝓤 H A mem run) known-flat-of to (and-then ! (load ! (from ! (stop !)) (look ! 19 refl)) (no-more !)) (λ u.

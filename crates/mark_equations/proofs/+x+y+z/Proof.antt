@@ -181,7 +181,7 @@ x-y-requires t c κs =
         omega (arith, past-within _ (r .ready .ascending) (from (s .args .hops .now) (s .args .i))),
         (
           omega arith,
-          record { ready = r .ready; label-in = r .label-in; table = r .table; room = omega arith; right = c .before .before .loop .inv .3 },
+          record { ready = r .ready; label-in = r .label-in; table = r .table; capacity = omega arith; right = c .before .before .loop .inv .3 },
         ),
       ),
     )
@@ -275,7 +275,7 @@ y-z-requires t c κs =
     let s = c .before .before .before .before .before .before .before .before .before .before in
     let r = s .pre .1 .1 .1 in
     let l : to (s .args .hops .now) (s .args .i) < most-states = r .ready .to-in (s .args .i) (s .pre .1 .0) in
-    (omega arith, (omega arith, record { ready = r .ready; label-in = r .label-in; table = r .table; room = omega arith; right = c .before .before .before .loop .inv .2 }))
+    (omega arith, (omega arith, record { ready = r .ready; label-in = r .label-in; table = r .table; capacity = omega arith; right = c .before .before .before .loop .inv .2 }))
 
 y-same-length : (t : ℕ) → y-lts.Need-same-length (y-calls t) (y-at t) y.Post y-Inv-loop y-μ-loop
 y-same-length t c = omega arith
@@ -307,7 +307,7 @@ y-z-requires-2 t c κs =
     let s = c .before .before .before .before .before .before .before .before .before .before .before in
     let r = s .pre .1 .1 .1 in
     let l : to (s .args .hops .now) (s .args .i) < most-states = r .ready .to-in (s .args .i) (s .pre .1 .0) in
-    (omega arith, (omega arith, record { ready = r .ready; label-in = r .label-in; table = r .table; room = omega arith; right = c .before .before .before .before .loop .inv .2 }))
+    (omega arith, (omega arith, record { ready = r .ready; label-in = r .label-in; table = r .table; capacity = omega arith; right = c .before .before .before .before .loop .inv .2 }))
 
 y-same-length-2 : (t : ℕ) → y-lts.Need-same-length-2 (y-calls t) (y-at t) y.Post y-Inv-loop y-μ-loop
 y-same-length-2 t c = omega arith
@@ -351,7 +351,7 @@ z-x-requires : (t : ℕ) → z-lts.Need-x-requires (z-calls t) (z-at t) z.Post
 z-x-requires t c κs =
     let r = c .before .before .before .before .before .before .before .before .before .before .before .pre .1 .1 in
     let (l, e) = found-silent _ _ _ (c .before .before .before .before .before .hop-of .ensures) (c .before .before .before .before .find-row .ensures) (c .before .before .found .given .1) in
-    (omega arith, (l, (e, record { ready = r .ready; label-in = r .label-in; table = r .table; room = omega arith; right = r .right })))
+    (omega arith, (l, (e, record { ready = r .ready; label-in = r .label-in; table = r .table; capacity = omega arith; right = r .right })))
 
 z-enum-told : (t : ℕ) → z-lts.Need-enum-told (z-calls t) (z-at t) z.Post
 z-enum-told t c = search needs

@@ -6,7 +6,7 @@ use Rattle.mark_sweeps.proofs.test_at.Statement.{statement}
 use Rattle.mark_sweeps.proofs.test_at.Tie as tie
 
 slice-read-if1 : tie.Need-slice-read-if1
-slice-read-if1 c = omega (arith, c .before .before .before .pre .1 .1 .0 .room)
+slice-read-if1 c = omega (arith, c .before .before .before .pre .1 .1 .0 .capacity)
 
 returns : tie.Need-returns
 returns c = tested-off _ (c .before .before .before .before .pre .1 .1 .0) _ (c .if1 .taken)
@@ -14,7 +14,7 @@ returns c = tested-off _ (c .before .before .before .before .pre .1 .1 .0) _ (c 
 closes-at-requires : tie.Need-closes-at-requires
 closes-at-requires c κs =
     let st = c .before .before .before .before .before in
-    (st .pre .0, (st .pre .1 .0, (st .pre .1 .1 .0 .room, st .pre .1 .1 .1)))
+    (st .pre .0, (st .pre .1 .0, (st .pre .1 .1 .0 .capacity, st .pre .1 .1 .1)))
 
 same-length : tie.Need-same-length
 same-length c = search needs
@@ -23,7 +23,7 @@ returns-2 : tie.Need-returns-2
 returns-2 c = tested-closes _ (c .before .before .before .before .before .before .before .pre .1 .1 .0) _ (c .before .closes-at .ensures) (c .if2 .taken)
 
 slice-write-marks : tie.Need-slice-write-marks
-slice-write-marks c = omega (arith, c .before .before .before .before .before .before .before .pre .1 .1 .0 .room)
+slice-write-marks c = omega (arith, c .before .before .before .before .before .before .before .pre .1 .1 .0 .capacity)
 
 same-length-2 : tie.Need-same-length-2
 same-length-2 c = search needs

@@ -78,7 +78,7 @@ test-due-requires c κs =
             noted-spared hs a (v .3) g _ (c .before .before .before .before .before .shed-of .ensures),
             (
               g .queue .flags,
-              (a .room, (omega (arith, noted-most hs a (v .3) g, st .pre .0 .hops-most), lists-listed hs (noted-lists hs a (v .3) g))),
+              (a .capacity, (omega (arith, noted-most hs a (v .3) g, st .pre .0 .hops-most), lists-listed hs (noted-lists hs a (v .3) g))),
             ),
           ),
         ),

@@ -1,6 +1,6 @@
 -- `mark_worklist_push::note` meets its contract: nothing comes where the hop is not marked or queued already. Assumes nothing.
 use native.Mathlib.Omega.{arith}
-use Rattle.mark_worklist_push.proofs.Queueing.{flag-yes, flag-no, flag-says, queue-room, noted-none, noted-one}
+use Rattle.mark_worklist_push.proofs.Queueing.{flag-yes, flag-no, flag-says, queue-capacity, noted-none, noted-one}
 use borrow.Author.Needs.{needs}
 use Rattle.mark_worklist_push.proofs.note.Statement.{statement}
 use Rattle.mark_worklist_push.proofs.note.Tie as tie
@@ -30,17 +30,17 @@ cast-queue c = search needs
 mul-queue : tie.Need-mul-queue
 mul-queue c =
     let st = c .before .before .before .before in
-    omega (arith, queue-room (st .args .hops .now) (st .args .marks .now) (st .pre .1 .1 .0) (st .pre .1 .1 .1 .0) (flag-no (st .args .flags .now) (st .args .i) (c .if2 .left)), st .pre .0 .hops-most)
+    omega (arith, queue-capacity (st .args .hops .now) (st .args .marks .now) (st .pre .1 .1 .0) (st .pre .1 .1 .1 .0) (flag-no (st .args .flags .now) (st .args .i) (c .if2 .left)), st .pre .0 .hops-most)
 
 element-write-queue : tie.Need-element-write-queue
 element-write-queue c =
     let st = c .before .before .before .before in
-    omega (arith, queue-room (st .args .hops .now) (st .args .marks .now) (st .pre .1 .1 .0) (st .pre .1 .1 .1 .0) (flag-no (st .args .flags .now) (st .args .i) (c .if2 .left)), st .pre .0 .hops-most)
+    omega (arith, queue-capacity (st .args .hops .now) (st .args .marks .now) (st .pre .1 .1 .0) (st .pre .1 .1 .1 .0) (flag-no (st .args .flags .now) (st .args .i) (c .if2 .left)), st .pre .0 .hops-most)
 
 add-result : tie.Need-add-result
 add-result c =
     let st = c .before .before .before .before in
-    omega (arith, queue-room (st .args .hops .now) (st .args .marks .now) (st .pre .1 .1 .0) (st .pre .1 .1 .1 .0) (flag-no (st .args .flags .now) (st .args .i) (c .if2 .left)), st .pre .0 .hops-most)
+    omega (arith, queue-capacity (st .args .hops .now) (st .args .marks .now) (st .pre .1 .1 .0) (st .pre .1 .1 .1 .0) (flag-no (st .args .flags .now) (st .args .i) (c .if2 .left)), st .pre .0 .hops-most)
 
 returns-3 : tie.Need-returns-3
 returns-3 c =

@@ -1,6 +1,6 @@
 -- `report_rows::put_hop_line` meets its contract. Assumes nothing.
 use mathlib.Core.Path.{sym}
-use Rattle.report_text.proofs.Puts.{put-same, room-same}
+use Rattle.report_text.proofs.Puts.{put-same, capacity-same}
 use Rattle.report_rows.proofs.Parts.{hop-parts}
 use borrow.Author.Needs.{needs}
 use Rattle.report_rows.proofs.put_hop_line.Statement.{statement}
@@ -40,7 +40,7 @@ put-line-requires : tie.Need-put-line-requires
 put-line-requires c κs =
     let s = c .before .before .before .before .before .before .before .before .before .before .before .before in
     let e = hop-parts (s .args .short .now) (s .args .i) (c .before .before .before .before .before .before .before .before .before .new-from-at .ensures) (c .before .before .before .before .before .before .before .label-at .ensures) (c .before .before .before .before .before .new-to-at .ensures) (c .before .before .before .line-at .ensures) in
-    room-same e (s .pre .1)
+    capacity-same e (s .pre .1)
 
 same-length : tie.Need-same-length
 same-length c = search needs

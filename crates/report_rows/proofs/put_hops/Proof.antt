@@ -6,7 +6,7 @@ use lib.ListN.{length}
 use Rattle.graph.specs.Hops.{count}
 use Rattle.report_text.specs.Text.{lines, Put}
 use Rattle.report_rows.specs.Rows.{hopLine}
-use Rattle.report_text.proofs.Puts.{lines-none, lines-room, lines-more, lines-done}
+use Rattle.report_text.proofs.Puts.{lines-none, lines-capacity, lines-more, lines-done}
 use borrow.Author.Needs.{needs}
 use Rattle.report_rows.proofs.put_hops.Statement.{statement}
 use Rattle.report_rows.proofs.put_hops.Tie as tie
@@ -25,7 +25,7 @@ loop-holds : tie.Need-loop-holds Inv-loop μ-loop
 loop-holds c = (c .hop-count .ensures, omega arith, refl, lines-none _)
 
 put-hop-line-requires : tie.Need-put-hop-line-requires Inv-loop μ-loop
-put-hop-line-requires c κs = (omega arith, lines-room _ _ (c .before .before .before .before .before .before .pre) (omega arith) (c .before .before .loop .inv .3))
+put-hop-line-requires c κs = (omega arith, lines-capacity _ _ (c .before .before .before .before .before .before .pre) (omega arith) (c .before .before .loop .inv .3))
 
 add-i : tie.Need-add-i Inv-loop μ-loop
 add-i c = omega arith

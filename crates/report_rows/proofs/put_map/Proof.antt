@@ -5,7 +5,7 @@ use native.Mathlib.Omega.{arith}
 use lib.ListN.{length}
 use Rattle.report_text.specs.Text.{Put}
 use Rattle.report_rows.specs.Rows.{mapLines}
-use Rattle.report_text.proofs.Puts.{put-same, room-same, lines-none, lines-room, lines-more, lines-done}
+use Rattle.report_text.proofs.Puts.{put-same, capacity-same, lines-none, lines-capacity, lines-more, lines-done}
 use Rattle.report_rows.proofs.Parts.{map-parts}
 use borrow.Author.Needs.{needs}
 use Rattle.report_rows.proofs.put_map.Statement.{statement}
@@ -39,7 +39,7 @@ slice-aggregate-put-line-2 c = search needs
 put-line-requires : tie.Need-put-line-requires Inv-loop μ-loop
 put-line-requires c κs =
     let s = c .before .before .before .before .before .before .before .before .before in
-    room-same (map-parts _ _ (c .before .before .before .before .map-at .ensures)) (lines-room _ _ (s .pre .1 .1) (omega arith) (c .before .before .before .before .before .before .loop .inv .2))
+    capacity-same (map-parts _ _ (c .before .before .before .before .map-at .ensures)) (lines-capacity _ _ (s .pre .1 .1) (omega arith) (c .before .before .before .before .before .before .loop .inv .2))
 
 add-s : tie.Need-add-s Inv-loop μ-loop
 add-s c = omega arith

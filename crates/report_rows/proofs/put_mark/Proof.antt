@@ -1,6 +1,6 @@
 -- `report_rows::put_mark` meets its contract. Assumes nothing.
 use mathlib.Core.Path.{sym}
-use Rattle.report_text.proofs.Puts.{put-none, put-same, room-same}
+use Rattle.report_text.proofs.Puts.{put-none, put-same, capacity-same}
 use Rattle.report_rows.specs.Rows.{byPlace}
 use Rattle.report_rows.proofs.Parts.{mark-yes, mark-no}
 use borrow.Author.Needs.{needs}
@@ -32,7 +32,7 @@ put-line-requires : tie.Need-put-line-requires
 put-line-requires c κs =
     let s = c .before .before .before .before .before .before .before .before .before .before .before .before in
     let e = mark-yes (s .args .hops .now) (byPlace (s .args .marks .now)) (s .args .i) (c .before .before .before .before .before .before .before .if1 .taken) (c .before .before .before .before .before .before .from-at .ensures) (c .before .before .before .before .to-at .ensures) in
-    room-same e (s .pre .1 .1)
+    capacity-same e (s .pre .1 .1)
 
 same-length : tie.Need-same-length
 same-length c = search needs

@@ -6,7 +6,7 @@ use lib.ListN.{length}
 use Rattle.graph.specs.Hops.{count}
 use Rattle.report_text.specs.Text.{lines, Put}
 use Rattle.report_rows.specs.Rows.{byPlace, markedLine}
-use Rattle.report_text.proofs.Puts.{lines-none, lines-room, lines-more, lines-done}
+use Rattle.report_text.proofs.Puts.{lines-none, lines-capacity, lines-more, lines-done}
 use borrow.Author.Needs.{needs}
 use Rattle.report_rows.proofs.put_marks.Statement.{statement}
 use Rattle.report_rows.proofs.put_marks.Tie as tie
@@ -26,7 +26,7 @@ loop-holds c = (c .hop-count .ensures, omega arith, refl, lines-none _)
 
 put-mark-requires : tie.Need-put-mark-requires Inv-loop μ-loop
 put-mark-requires c κs =
-    (omega arith, (omega arith, lines-room _ _ (c .before .before .before .before .before .before .before .pre .1) (omega arith) (c .before .before .loop .inv .3)))
+    (omega arith, (omega arith, lines-capacity _ _ (c .before .before .before .before .before .before .before .pre .1) (omega arith) (c .before .before .loop .inv .3)))
 
 add-i : tie.Need-add-i Inv-loop μ-loop
 add-i c = omega arith

@@ -1,7 +1,7 @@
 -- `report_rows::put_report` meets its contract: the five parts stand one behind the other. Assumes nothing.
 use mathlib.Core.Path.{refl}
 use Rattle.graph.specs.Hops.{count}
-use Rattle.report_rows.proofs.Parts.{room-in, room-marks, room-map, room-out, room-hops, report-put}
+use Rattle.report_rows.proofs.Parts.{capacity-in, capacity-marks, capacity-map, capacity-out, capacity-hops, report-put}
 use borrow.Author.Needs.{needs}
 use Rattle.report_rows.proofs.put_report.Statement.{statement}
 use Rattle.report_rows.proofs.put_report.Tie as tie
@@ -23,21 +23,21 @@ put-line-requires c κs =
     let s = c .before .before .before .before .before .before .before .before .before .before in
     let a = s .args in
     let h = c .before .before .before .hop-count in
-    room-in (a .shape) (a .hops .now) (a .marks .now) (a .map .now) (a .new) (a .short .now) (a .out .now) (h .result) (count (a .short .now)) (h .ensures) refl (s .pre .1 .1 .1)
+    capacity-in (a .shape) (a .hops .now) (a .marks .now) (a .map .now) (a .new) (a .short .now) (a .out .now) (h .result) (count (a .short .now)) (h .ensures) refl (s .pre .1 .1 .1)
 
 put-marks-requires : tie.Need-put-marks-requires
 put-marks-requires c κs =
     let s = c .before .before .before .before .before .before .before .before .before .before .before .before .before .before in
     let a = s .args in
     let h = c .before .before .before .before .before .before .before .hop-count in
-    (s .pre .0, room-marks (a .shape) (a .hops .now) (a .marks .now) (a .map .now) (a .new) (a .short .now) (a .out .now) (h .result) (count (a .short .now)) (h .ensures) refl (s .pre .1 .1 .1) (c .before .before .before .put-line .ensures))
+    (s .pre .0, capacity-marks (a .shape) (a .hops .now) (a .marks .now) (a .map .now) (a .new) (a .short .now) (a .out .now) (h .result) (count (a .short .now)) (h .ensures) refl (s .pre .1 .1 .1) (c .before .before .before .put-line .ensures))
 
 put-map-requires : tie.Need-put-map-requires
 put-map-requires c κs =
     let s = c .before .before .before .before .before .before .before .before .before .before .before .before .before .before .before .before .before .before in
     let a = s .args in
     let h = c .before .before .before .before .before .before .before .before .before .before .before .hop-count in
-    (s .pre .1 .0, (s .pre .1 .1 .0, room-map (a .shape) (a .hops .now) (a .marks .now) (a .map .now) (a .new) (a .short .now) (a .out .now) (h .result) (count (a .short .now)) (h .ensures) refl (s .pre .1 .1 .1) (c .before .before .before .before .before .before .before .put-line .ensures) (c .before .before .before .put-marks .ensures)))
+    (s .pre .1 .0, (s .pre .1 .1 .0, capacity-map (a .shape) (a .hops .now) (a .marks .now) (a .map .now) (a .new) (a .short .now) (a .out .now) (h .result) (count (a .short .now)) (h .ensures) refl (s .pre .1 .1 .1) (c .before .before .before .before .before .before .before .put-line .ensures) (c .before .before .before .put-marks .ensures)))
 
 cast-new-states : tie.Need-cast-new-states
 cast-new-states c = search needs
@@ -60,7 +60,7 @@ put-line-requires-2 c κs =
     let a = s .args in
     let h = c .before .before .before .before .before .before .before .before .before .before .before .before .before .before .before .before .before .before .before .before .hop-count in
     let h2 = c .before .before .before .before .hop-count2 in
-    room-out (a .shape) (a .hops .now) (a .marks .now) (a .map .now) (a .new) (a .short .now) (a .out .now) (h .result) (h2 .result) (h .ensures) (h2 .ensures) (s .pre .1 .1 .1)
+    capacity-out (a .shape) (a .hops .now) (a .marks .now) (a .map .now) (a .new) (a .short .now) (a .out .now) (h .result) (h2 .result) (h .ensures) (h2 .ensures) (s .pre .1 .1 .1)
     (c .before .before .before .before .before .before .before .before .before .before .before .before .before .before .before .before .put-line .ensures) (c .before .before .before .before .before .before .before .before .before .before .before .before .put-marks .ensures) (c .before .before .before .before .before .before .before .before .put-map .ensures)
 
 put-hops-requires : tie.Need-put-hops-requires
@@ -69,7 +69,7 @@ put-hops-requires c κs =
     let a = s .args in
     let h = c .before .before .before .before .before .before .before .before .before .before .before .before .before .before .before .before .before .before .before .before .before .before .before .before .hop-count in
     let h2 = c .before .before .before .before .before .before .before .before .hop-count2 in
-    room-hops (a .shape) (a .hops .now) (a .marks .now) (a .map .now) (a .new) (a .short .now) (a .out .now) (h .result) (h2 .result) (h .ensures) (h2 .ensures) (s .pre .1 .1 .1)
+    capacity-hops (a .shape) (a .hops .now) (a .marks .now) (a .map .now) (a .new) (a .short .now) (a .out .now) (h .result) (h2 .result) (h .ensures) (h2 .ensures) (s .pre .1 .1 .1)
     (c .before .before .before .before .before .before .before .before .before .before .before .before .before .before .before .before .before .before .before .before .put-line .ensures) (c .before .before .before .before .before .before .before .before .before .before .before .before .before .before .before .before .put-marks .ensures) (c .before .before .before .before .before .before .before .before .before .before .before .before .put-map .ensures) (c .before .before .before .put-line2 .ensures)
 
 same-length : tie.Need-same-length

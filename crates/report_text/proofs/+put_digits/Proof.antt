@@ -5,7 +5,7 @@ use native.Mathlib.Omega.{arith}
 use borrow.Fn.Kinds.{In}
 use borrow.Fn.PlainCycle.{Measures, is, falls, and}
 use borrow.Author.Needs.{needs}
-use Rattle.report_text.proofs.Puts.{put-none, put-same, put-then, room-same, room-first, room-rest, digits-none, digits-one, digits-more}
+use Rattle.report_text.proofs.Puts.{put-none, put-same, put-then, capacity-same, capacity-first, capacity-rest, digits-none, digits-one, digits-more}
 use Rattle.report_text.proofs.put_digits.Reads as put-digits
 use Rattle.report_text.proofs.put_digits.Kinds as put-digits-kinds
 use Rattle.report_text.proofs.+put_digits.Lts-put_digits as put-digits-lts
@@ -38,7 +38,7 @@ add-put-byte t c = search needs
 put-byte-requires : (t : ℕ) → put-digits-lts.Need-put-byte-requires (calls t) (put-digits-at t) put-digits.Post
 put-byte-requires t c κs =
     let s = c .before .before .before .before in
-    room-same (digits-one _ _ (c .before .before .if1 .left) (c .before .if2 .taken)) (s .pre .1)
+    capacity-same (digits-one _ _ (c .before .before .if1 .left) (c .before .if2 .taken)) (s .pre .1)
 
 same-length : (t : ℕ) → put-digits-lts.Need-same-length (calls t) (put-digits-at t) put-digits.Post
 same-length t c = search needs
@@ -54,7 +54,7 @@ put-digits-requires : (t : ℕ) → put-digits-lts.Need-put-digits-requires (cal
 put-digits-requires t c κs =
     let s = c .before .before .before .before in
     let e = digits-more _ _ (c .before .before .if1 .left) (c .before .if2 .left) in
-    (omega arith, room-first _ _ (room-same e (s .pre .1)))
+    (omega arith, capacity-first _ _ (capacity-same e (s .pre .1)))
 
 cast-put-byte-2 : (t : ℕ) → put-digits-lts.Need-cast-put-byte-2 (calls t) (put-digits-at t) put-digits.Post
 cast-put-byte-2 t c = search needs
@@ -66,7 +66,7 @@ put-byte-requires-2 : (t : ℕ) → put-digits-lts.Need-put-byte-requires-2 (cal
 put-byte-requires-2 t c κs =
     let b = c .before .before .before .before .before in
     let e = digits-more _ _ (b .before .if1 .left) (b .if2 .left) in
-    room-rest _ _ (room-same e (b .before .before .before .pre .1)) (c .before .before .before .put-digits .ensures)
+    capacity-rest _ _ (capacity-same e (b .before .before .before .pre .1)) (c .before .before .before .put-digits .ensures)
 
 same-length-2 : (t : ℕ) → put-digits-lts.Need-same-length-2 (calls t) (put-digits-at t) put-digits.Post
 same-length-2 t c = search needs
@@ -75,7 +75,7 @@ returns-3 : (t : ℕ) → put-digits-lts.Need-returns-3 (calls t) (put-digits-at
 returns-3 t c =
     let b = c .before .before .before .before .before .before .before .before in
     let e = digits-more _ _ (b .before .if1 .left) (b .if2 .left) in
-    put-same (sym e) (put-then _ _ (room-same e (b .before .before .before .pre .1)) (c .before .before .before .before .before .before .put-digits .ensures) (c .before .before .put-byte2 .ensures))
+    put-same (sym e) (put-then _ _ (capacity-same e (b .before .before .before .pre .1)) (c .before .before .before .before .before .before .put-digits .ensures) (c .before .before .put-byte2 .ensures))
 
 pub +put-digits-spec : {M : Type 1} → statement M
 +put-digits-spec =

@@ -2,23 +2,23 @@
 use mathlib.Core.Path.{sym}
 use mathlib.Core.List.{[], _∷_, _++_}
 use Rattle.report_text.specs.Text.{numbered}
-use Rattle.report_text.proofs.Puts.{put-same, put-then, room-same, room-first, room-rest, line-parts}
+use Rattle.report_text.proofs.Puts.{put-same, put-then, capacity-same, capacity-first, capacity-rest, line-parts}
 use borrow.Author.Needs.{needs}
 use Rattle.report_text.proofs.put_line.Statement.{statement}
 use Rattle.report_text.proofs.put_line.Tie as tie
 
 put-word-requires : tie.Need-put-word-requires
-put-word-requires c κs = room-first _ _ (room-same (line-parts _ _) (c .before .before .before .before .pre))
+put-word-requires c κs = capacity-first _ _ (capacity-same (line-parts _ _) (c .before .before .before .before .pre))
 
 put-numbers-requires : tie.Need-put-numbers-requires
 put-numbers-requires c κs =
     let s = c .before .before .before .before .before .before .before .before in
-    room-first _ _ (room-rest _ _ (room-same (line-parts _ _) (s .pre)) (c .before .before .before .put-word .ensures))
+    capacity-first _ _ (capacity-rest _ _ (capacity-same (line-parts _ _) (s .pre)) (c .before .before .before .put-word .ensures))
 
 put-byte-requires : tie.Need-put-byte-requires
 put-byte-requires c κs =
     let s = c .before .before .before .before .before .before .before .before .before .before .before .before in
-    room-rest _ _ (room-rest _ _ (room-same (line-parts _ _) (s .pre)) (c .before .before .before .before .before .before .before .put-word .ensures))
+    capacity-rest _ _ (capacity-rest _ _ (capacity-same (line-parts _ _) (s .pre)) (c .before .before .before .before .before .before .before .put-word .ensures))
     (c .before .before .before .put-numbers .ensures)
 
 same-length : tie.Need-same-length
@@ -30,8 +30,8 @@ returns c =
     let word = s .args .word .now in
     let ns = s .args .numbers .now in
     let w = c .before .before .before .before .before .before .before .before .before .before .put-word .ensures in
-    let r0 = room-same (line-parts word ns) (s .pre) in
-    let r1 = room-rest word (numbered ns ++ (10 ∷ [])) r0 w in
+    let r0 = capacity-same (line-parts word ns) (s .pre) in
+    let r1 = capacity-rest word (numbered ns ++ (10 ∷ [])) r0 w in
     put-same (sym (line-parts word ns))
     (put-then word (numbered ns ++ (10 ∷ [])) r0 w
     (put-then (numbered ns) (10 ∷ []) r1 (c .before .before .before .before .before .before .put-numbers .ensures) (c .before .before .put-byte .ensures)))

@@ -4,7 +4,7 @@ use mathlib.Core.Path.{_≡_, refl, sym}
 use native.Mathlib.Omega.{arith}
 use lib.ListN.{length}
 use Rattle.report_text.specs.Text.{lines, Put}
-use Rattle.report_text.proofs.Puts.{put-same, room-same, spacedAt, numbered-lines, lines-none, lines-room, lines-more, lines-done}
+use Rattle.report_text.proofs.Puts.{put-same, capacity-same, spacedAt, numbered-lines, lines-none, lines-capacity, lines-more, lines-done}
 use borrow.Author.Needs.{needs}
 use Rattle.report_text.proofs.put_numbers.Statement.{statement}
 use Rattle.report_text.proofs.put_numbers.Tie as tie
@@ -29,7 +29,7 @@ put-spaced-requires : tie.Need-put-spaced-requires Inv-loop μ-loop
 put-spaced-requires c κs =
     let s = c .before .before .before .before .before .before in
     let ns = s .args .numbers .now in
-    lines-room (spacedAt ns) (length ns) (room-same (numbered-lines ns) (s .pre)) (omega arith) (c .before .before .before .loop .inv .2)
+    lines-capacity (spacedAt ns) (length ns) (capacity-same (numbered-lines ns) (s .pre)) (omega arith) (c .before .before .before .loop .inv .2)
 
 add-i : tie.Need-add-i Inv-loop μ-loop
 add-i c = omega arith
@@ -42,7 +42,7 @@ loop-again c =
     let s = c .before .before .before .before .before .before .before .before .before in
     let ns = s .args .numbers .now in
     let v = c .before .before .before .before .before .before .loop .inv in
-    (omega arith, omega arith, lines-more (spacedAt ns) (length ns) (room-same (numbered-lines ns) (s .pre)) (omega arith) (v .2) (c .before .before .put-spaced .ensures))
+    (omega arith, omega arith, lines-more (spacedAt ns) (length ns) (capacity-same (numbered-lines ns) (s .pre)) (omega arith) (v .2) (c .before .before .put-spaced .ensures))
 
 same-length : tie.Need-same-length Inv-loop μ-loop
 same-length c = omega arith

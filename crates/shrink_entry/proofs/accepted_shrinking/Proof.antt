@@ -2,7 +2,7 @@
 use mathlib.Core.Path.{sym, _∙_}
 use native.Mathlib.Omega.{arith}
 use lib.Seq.{length-take-le}
-use Rattle.shrink_entry.proofs.Accepting.{front-hops, returned, mapped, shortened, room}
+use Rattle.shrink_entry.proofs.Accepting.{front-hops, returned, mapped, shortened, capacity}
 use borrow.Author.Needs.{needs}
 use Rattle.shrink_entry.proofs.accepted_shrinking.Statement.{statement}
 use Rattle.shrink_entry.proofs.accepted_shrinking.Tie as tie
@@ -48,7 +48,7 @@ put-numbers-requires-2 c κs =
     let st = c .before .before .before .before .before .before .before .before .before .before .before .before .before .before .before .before .before .before in
     let e = front-hops (st .pre .0 .admitted) _ (c .before .before .before .before .before .before .before .before .before .before .before .before .before .hop-count .ensures) (c .before .before .before .before .before .before .before .before .before .before .before .put-numbers .ensures) in
     let w = c .before .before .before .before .before .before .before .repeat .ensures in
-    room (st .args .sense) (st .args .shape) (c .before .before .before .before .before .before .before .repeat .result) _ _ e (w .0) (w .1) (c .part .ensures .0) (st .pre .0) (st .pre .1 .1)
+    capacity (st .args .sense) (st .args .shape) (c .before .before .before .before .before .before .before .repeat .result) _ _ e (w .0) (w .1) (c .part .ensures .0) (st .pre .0) (st .pre .1 .1)
 
 accept-requires : tie.Need-accept-requires
 accept-requires c κs = search needs

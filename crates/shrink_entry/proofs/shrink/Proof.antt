@@ -1,6 +1,6 @@
 -- `shrink_entry::shrink` meets its contract: a refusal writes nothing, and acceptance gives what the repetition needs. Assumes nothing.
 use mathlib.Core.Path.{_∙_}
-use Rattle.reduce_entry.proofs.Answering.{reduce-reducible, reduce-map-room, reduce-short-room}
+use Rattle.reduce_entry.proofs.Answering.{reduce-reducible, reduce-map-capacity, reduce-short-capacity}
 use Rattle.shrink_entry.proofs.Answering.{refused-returns, refused-map, refused-short, accepts, accepted-returns, accepted-map, accepted-short}
 use borrow.Author.Needs.{needs}
 use Rattle.shrink_entry.proofs.shrink.Statement.{statement}
@@ -25,7 +25,7 @@ accepted-shrinking-requires : tie.Need-accepted-shrinking-requires
 accepted-shrinking-requires c κs =
     let st = c .before .before .before .before .before .before .before .before .args in
     let z = accepts _ _ _ (st .map .now) (st .short .now) (c .before .before .before .before .reduce-answer .ensures) (c .before .before .if1 .left) in
-    (reduce-reducible _ _ _ _ _ z, (reduce-map-room _ _ _ _ _ z, reduce-short-room _ _ _ _ _ z))
+    (reduce-reducible _ _ _ _ _ z, (reduce-map-capacity _ _ _ _ _ z, reduce-short-capacity _ _ _ _ _ z))
 
 same-length : tie.Need-same-length
 same-length c = search needs

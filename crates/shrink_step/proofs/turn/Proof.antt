@@ -7,7 +7,7 @@ use lib.Seq.{length-take-le}
 use Rattle.reduce_representatives.proofs.Marked.{held-settles}
 use Rattle.reduce_entry.proofs.Marked.{left-marks}
 use Rattle.shrink_step.proofs.Looking.{seen-reducible, seen-some, more-is}
-use Rattle.shrink_step.proofs.Turning.{hops-within, hops-fewer, short-room, turned}
+use Rattle.shrink_step.proofs.Turning.{hops-within, hops-fewer, short-capacity, turned}
 use borrow.Author.Needs.{needs}
 use Rattle.shrink_step.proofs.turn.Statement.{statement}
 use Rattle.shrink_step.proofs.turn.Tie as tie
@@ -88,7 +88,7 @@ put-numbers-requires c κs =
     let q = c .before .before .before .before .before .before .before .before .before .before .before .before .before .before .before .before .before .before .before .before .part .ensures .0 in
     let e = c .before .before .before .before .before .before .before .before .before .before .before .before .before .before .before .before .before .before .look .ensures .1 in
     let made = c .before .before .before .before .before .before .before .before .before .before .before .before .reduce-marked in
-    short-room (st .args .sense) (st .args .at) (st .args .hops .now) (st .args .map .now) q _ _ e (made .ensures .0) _ (made .ensures .1 .1) (c .part2 .ensures .0) (st .pre .1 .0)
+    short-capacity (st .args .sense) (st .args .at) (st .args .hops .now) (st .args .map .now) q _ _ e (made .ensures .0) _ (made .ensures .1 .1) (c .part2 .ensures .0) (st .pre .1 .0)
 
 add-t37 : tie.Need-add-t37
 add-t37 c =

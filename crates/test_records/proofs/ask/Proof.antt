@@ -79,8 +79,8 @@ abbrev list-ty : Ty
 list-ty = tyArray (lone (T.the-row .mir)) 4097
 
 -- at most 4,097 records have room
-room-for : (n : ℕ) → n ≤ 4097 → Room T.the-row n
-room-for n few = (omega arith, bytes) where
+capacity-for : (n : ℕ) → n ≤ 4097 → Room T.the-row n
+capacity-for n few = (omega arith, bytes) where
   bytes : n * (2 * numbers-a-hop) < 2 ^ 63
   bytes = omega arith
 
@@ -97,7 +97,7 @@ module _ {M : Type 1} (𝓤 : URA M) (H : Heap 𝓤) (A : Atoms 𝓤) (mem : Mem
 
 module _ {M : Type 1} (𝓤 : URA M) (H : Heap 𝓤) (A : Atoms 𝓤) (W : Given 𝓤 H A) (mem : Memory → SProp 𝓤) (run : Routine → Fun 𝓤)
     (κ : Lft) (q : Share) (sh : Shape) (ys : List Hop) (list-val : Val) (n k b o : ℕ) (γ : GName) (ms : List ℕ)
-    (is-sh : Is S.the-row sh (S′.lowered sh ∷ [])) (is-list : Is (Array T.the-row 4097) ys (list-val ∷ [])) (is-k : Is u32 k (vint w32 k ∷ [])) (room-ms : Room u8 (length ms)) (few : n ≤ 4097) where
+    (is-sh : Is S.the-row sh (S′.lowered sh ∷ [])) (is-list : Is (Array T.the-row 4097) ys (list-val ∷ [])) (is-k : Is u32 k (vint w32 k ∷ [])) (capacity-ms : Room u8 (length ms)) (few : n ≤ 4097) where
   abbrev marks : RefT (List ℕ)
   marks = record { ptr = (b, o); name = γ; now = ms }
 
@@ -113,8 +113,8 @@ module _ {M : Type 1} (𝓤 : URA M) (H : Heap 𝓤) (A : Atoms 𝓤) (W : Given
   abbrev Post : Val → SProp 𝓤
   Post = walkOf 𝓤 H A asks.ended stayed (asks.clauses 𝓤 H A mem run) .post (((κ, tt), (q, tt), tt, a, vals), tt)
 
-  room-n : Room T.the-row n
-  room-n = room-for n few
+  capacity-n : Room T.the-row n
+  capacity-n = capacity-for n few
 
   long : length ys ≡ 4097
   long = is-list .1 .0 .1
@@ -179,13 +179,13 @@ module _ {M : Type 1} (𝓤 : URA M) (H : Heap 𝓤) (A : Atoms 𝓤) (W : Given
     walk : ent 𝓤 (onEntry 𝓤 H A asks.signature (κ, tt) (q, tt) a vals) (WpFn 𝓤 H C Λ code.function (S′.lowered sh ∷ list-val ∷ vint w64 n ∷ vint w32 k ∷ marks-val ∷ []) Post)
     walk =
         qed W ((‵ (flft κ q) ⊛ ‵ ftrue) ∷ ‵ (owns (S.the-row ∷ Array T.the-row 4097 ∷ usize ∷ u32 ∷ MutSlice (named 0) κ u8 ∷ []) a vals) ∷ []) ∵ enter ! C Λ code.function (S′.lowered sh ∷ list-val ∷ vint w64 n ∷ vint w32 k ∷ marks-val ∷ []) _ $
-        alloc1 ! (λ l₀. alloc1 ! (λ l₁. alloc1 ! (λ l₂. alloc1 ! (λ l₃. alloc1 ! (λ l₄. alloc1 ! (λ l₅. alloc1 ! (λ l₆. alloc1 ! (λ l₇. alloc1 ! (λ l₈. alloc1 ! (λ l₉. alloc1 ! (λ l₁₀. alloc1 ! (λ l₁₁. alloc1 ! (λ l₁₂. alloc1 ! (λ l₁₃. alloc0 ! $ params1 ! $ pass1 ! (init ! 24 refl (LL.lawful S.the-type S′.the-laws 𝓤 H A W .typed sh _ is-sh .0)) $ pass1 ! (init ! 22 refl list-typed) $ pass1 ! (init ! 20 refl (tt, record { fits = room-n .0 })) $ pass1 ! (init ! 18 refl (tt, record { fits = is-k .1 })) $ pass1 ! (init ! 16 refl (tt, (tt, (record { fits = room-ms .0 }, tt)))) $ pass0 ! $
+        alloc1 ! (λ l₀. alloc1 ! (λ l₁. alloc1 ! (λ l₂. alloc1 ! (λ l₃. alloc1 ! (λ l₄. alloc1 ! (λ l₅. alloc1 ! (λ l₆. alloc1 ! (λ l₇. alloc1 ! (λ l₈. alloc1 ! (λ l₉. alloc1 ! (λ l₁₀. alloc1 ! (λ l₁₁. alloc1 ! (λ l₁₂. alloc1 ! (λ l₁₃. alloc0 ! $ params1 ! $ pass1 ! (init ! 24 refl (LL.lawful S.the-type S′.the-laws 𝓤 H A W .typed sh _ is-sh .0)) $ pass1 ! (init ! 22 refl list-typed) $ pass1 ! (init ! 20 refl (tt, record { fits = capacity-n .0 })) $ pass1 ! (init ! 18 refl (tt, record { fits = is-k .1 })) $ pass1 ! (init ! 16 refl (tt, (tt, (record { fits = capacity-ms .0 }, tt)))) $ pass0 ! $
         assigns ! (of-opd ! (load ! (from ! (stop !)) (look ! 22 refl))) (from ! (stop !)) (init ! 14 refl list-typed) $
         assigns ! (addr ! (from ! (stop !))) (from ! (stop !)) (init ! 10 refl (tt, tt)) $
-        assigns ! (agg ! (and-then ! (load ! (from ! (stop !)) (look ! 10 refl)) (and-then ! (load ! (from ! (stop !)) (look ! 20 refl)) (no-more !)))) (from ! (stop !)) (init ! 12 refl (tt, (tt, (record { fits = room-n .0 }, tt)))) $
+        assigns ! (agg ! (and-then ! (load ! (from ! (stop !)) (look ! 10 refl)) (and-then ! (load ! (from ! (stop !)) (look ! 20 refl)) (no-more !)))) (from ! (stop !)) (init ! 12 refl (tt, (tt, (record { fits = capacity-n .0 }, tt)))) $
         -- the front of the array is lent, for a lifetime ν of the two calls
         lft-new ! tt (λ ν. move ! (30 ∷ []) $ fsplit ! $ move ! (1 ∷ []) $ fsplit ! $ move ! (1 ∷ []) $ fsplit ! $ move ! (1 ∷ []) $ fsplit ! $ move ! (1 ∷ []) $ fsplit ! $ move ! (21 ∷ 4 ∷ []) $
-        use2 W (later (some (λ (δ : GName). ‵ (Front T.the-row l₆ ys n (named 0) (ν ∷ []) δ) ⊛ ‵ (Kept T.the-row l₆ ys n (ν ∷ []))))) (lends-front 𝓤 H A W T.the-row tt 4097 l₆ ys n (named 0) (ν ∷ []) list-val as-many room-n) $ await ! tt $ pick ! (λ δ.
+        use2 W (later (some (λ (δ : GName). ‵ (Front T.the-row l₆ ys n (named 0) (ν ∷ []) δ) ⊛ ‵ (Kept T.the-row l₆ ys n (ν ∷ []))))) (lends-front 𝓤 H A W T.the-row tt 4097 l₆ ys n (named 0) (ν ∷ []) list-val as-many capacity-n) $ await ! tt $ pick ! (λ δ.
         split ! $ use1 W (‵ (Front T.the-row l₆ ys n (named 0) (ν ∷ []) δ) ⊛ ‵ (Front T.the-row l₆ ys n (named 0) (ν ∷ []) δ)) (shr-slice-copy 𝓤 H A W (named 0) (ν ∷ []) T.the-row .twice (front T.the-row l₆ ys n δ) (lent-val l₆ ∷ [])) $ split ! $
         nothing ! $ move ! (9 ∷ 0 ∷ []) $ join ! $ use2 W (raw (Check 𝓤 H A mem run .pre (to-check l₆ ν δ))) (goes-check l₆ ν δ) $
         calls-at ! fm (Check 𝓤 H A mem run) known-check (to-check l₆ ν δ) (and-then ! (load ! (from ! (stop !)) (look ! 31 refl)) (and-then ! (load ! (from ! (stop !)) (look ! 20 refl)) (no-more !))) (λ w₁.
@@ -193,7 +193,7 @@ module _ {M : Type 1} (𝓤 : URA M) (H : Heap 𝓤) (A : Atoms 𝓤) (W : Given
         split ! $ split ! $ move ! (1 ∷ []) $ peeks ! R.the-row (Is R.the-row) (shows 𝓤 H A R.the-row) m₁ (w₁ ∷ []) (λ is₁.
         land ! (from ! (stop !)) (init ! 16 refl (LL.lawful R.the-type R′.the-laws 𝓤 H A W .typed m₁ _ is₁ .0)) $
         assigns ! (addr ! (from ! (fld ! refl (hop ! (look-in ! 25 (sub ! 0 refl (whole !))) (stop !))))) (from ! (stop !)) (init ! 12 refl (tt, tt)) $
-        assigns ! (agg ! (and-then ! (load ! (from ! (stop !)) (look ! 12 refl)) (and-then ! (load ! (from ! (fld ! refl (stop !))) (look-in ! 25 (sub ! 1 refl (whole !)))) (no-more !)))) (from ! (stop !)) (init ! 10 refl (tt, (tt, (record { fits = room-ms .0 }, tt)))) $
+        assigns ! (agg ! (and-then ! (load ! (from ! (stop !)) (look ! 12 refl)) (and-then ! (load ! (from ! (fld ! refl (stop !))) (look-in ! 25 (sub ! 1 refl (whole !)))) (no-more !)))) (from ! (stop !)) (init ! 10 refl (tt, (tt, (record { fits = capacity-ms .0 }, tt)))) $
         move ! (1 ∷ []) $ split ! $ move ! (0 ∷ 38 ∷ []) $ join ! $ move ! (0 ∷ 4 ∷ 6 ∷ []) $ use3 W (raw (Mark 𝓤 H A mem run .pre (to-mark l₆ ν δ))) (goes-mark l₆ ν δ) $
         calls-at ! fm (Mark 𝓤 H A mem run) known-mark (to-mark l₆ ν δ) (and-then ! (load ! (from ! (stop !)) (look ! 32 refl)) (and-then ! (load ! (from ! (stop !)) (look ! 21 refl)) (and-then ! (load ! (from ! (stop !)) (look ! 26 refl)) (and-then ! (load ! (from ! (stop !)) (look ! 9 refl)) (no-more !))))) (λ w₂.
         use1 W (later (some (λ (m : Answer). ((‵ (flft (ν ∷ []) fullShare) ⊛ ‵ (flft κ q) ⊛ ‵ ftrue) ⊛ ‵ (R.the-row .own m (w₂ ∷ []))) ⊛ raw (ensured 𝓤 H A mark.ended (mark.clauses 𝓤 H A mem run) (ν ∷ [], (κ, tt)) (sh, (front T.the-row l₆ ys n δ, (k, (marks, tt)))) tt m)))) (id⊢ 𝓤 _) $ await ! tt $ pick ! (λ m₂.

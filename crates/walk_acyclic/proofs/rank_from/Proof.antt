@@ -21,7 +21,7 @@ abbrev μ-loop : tie.MeasureT-loop
 is-fresh-requires : tie.Need-is-fresh-requires Inv-loop μ-loop
 is-fresh-requires c κs =
     let s = c .before .before .before .before in
-    (s .pre .0 .admitted .states-most, (s .pre .1 .1 .room, s .pre .1 .0))
+    (s .pre .0 .admitted .states-most, (s .pre .1 .1 .capacity, s .pre .1 .0))
 
 same-length : tie.Need-same-length Inv-loop μ-loop
 same-length c = refl
@@ -59,7 +59,7 @@ ranks a = ranks-later (start a .pre .1 .1) (a .loop .inv .1) (a .loop .inv .2)
 climb-requires : tie.Need-climb-requires Inv-loop μ-loop
 climb-requires c κs =
     let a = c .before .before .before .before in
-    (start a .pre .0, (ranks a .room, a .loop .inv .0))
+    (start a .pre .0, (ranks a .capacity, a .loop .inv .0))
 
 rank-one-requires : tie.Need-rank-one-requires Inv-loop μ-loop
 rank-one-requires c κs =

@@ -13,7 +13,7 @@ use Rattle.walk_acyclic.proofs.rank_one.Tie as tie
 
 -- v has a byte
 within : (s : tie.Start) → s .args .v .0 < length (s .args .ranked .now)
-within s = lt-of-lt-of-le (s .pre .1 .0) (s .pre .1 .1 .room)
+within s = lt-of-lt-of-le (s .pre .1 .0) (s .pre .1 .1 .capacity)
 
 cast-at : tie.Need-cast-at
 cast-at c = search needs
@@ -27,7 +27,7 @@ returns c = ranked-none _ (c .before .before .before .before .before .pre .1 .1 
 ends-ranked-requires : tie.Need-ends-ranked-requires
 ends-ranked-requires c κs =
     let s = c .before .before .before .before .before .before in
-    (s .pre .0, (s .pre .1 .1 .room, s .pre .1 .0))
+    (s .pre .0, (s .pre .1 .1 .capacity, s .pre .1 .0))
 
 same-length : tie.Need-same-length
 same-length c = refl
@@ -44,7 +44,7 @@ same-length-2 c = simp length-set
 returns-3 : tie.Need-returns-3
 returns-3 c =
     let s = c .before .before .before .before .before .before .before .before in
-    ranked-one (s .pre .0 .admitted .range) (s .args .ranked .now) (s .args .v .0) (s .pre .1 .1 .unringed) (s .pre .1 .1 .room) (s .pre .1 .0) (noted-no _ _ (c .before .before .before .if1 .left))
+    ranked-one (s .pre .0 .admitted .range) (s .args .ranked .now) (s .args .v .0) (s .pre .1 .1 .unringed) (s .pre .1 .1 .capacity) (s .pre .1 .0) (noted-no _ _ (c .before .before .before .if1 .left))
     (sym {b = endsNoted (s .args .hops .now) (s .args .ranked .now) (s .args .v .0)} (c .before .ends-ranked .ensures) ∙ not-false _ (c .if2 .left))
 
 pub rank-one-spec : {M : Type 1} → statement M

@@ -13,8 +13,8 @@ use Rattle.walk_reach.proofs.note.Tie as tie
 new : (c : tie.Else1) → noted (c .before .before .before .args .seen .now) (c .before .before .before .args .t .0) ≡ false
 new c = noted-no _ _ (c .if1 .left)
 
-room : (c : tie.Else1) → c .before .before .before .args .tail < length (c .before .before .before .args .queue .now)
-room c = c .before .before .before .pre .1 (new c)
+capacity : (c : tie.Else1) → c .before .before .before .args .tail < length (c .before .before .before .args .queue .now)
+capacity c = c .before .before .before .pre .1 (new c)
 
 cast-at : tie.Need-cast-at
 cast-at c = search needs
@@ -32,13 +32,13 @@ slice-write-seen : tie.Need-slice-write-seen
 slice-write-seen c = search needs
 
 mul-queue : tie.Need-mul-queue
-mul-queue c = omega (arith, room c)
+mul-queue c = omega (arith, capacity c)
 
 slice-write-queue : tie.Need-slice-write-queue
-slice-write-queue c = room c
+slice-write-queue c = capacity c
 
 add-result : tie.Need-add-result
-add-result c = omega (arith, room c)
+add-result c = omega (arith, capacity c)
 
 same-length : tie.Need-same-length
 same-length c = search needs

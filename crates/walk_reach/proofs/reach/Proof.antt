@@ -21,12 +21,12 @@ cast-clear : tie.Need-cast-clear Inv-loop μ-loop
 cast-clear c = search needs
 
 clear-requires : tie.Need-clear-requires Inv-loop μ-loop
-clear-requires c κs = c .before .before .before .before .before .before .pre .1 .1 .seen-room
+clear-requires c κs = c .before .before .before .before .before .before .pre .1 .1 .seen-capacity
 
 note-requires : tie.Need-note-requires Inv-loop μ-loop
 note-requires c κs =
     let p = c .before .before .before .before .before .before .before .before .before .before .before .pre in
-    (omega (arith, p .1 .0, p .1 .1 .seen-room, c .before .before .before .before .clear .kept .0), λ e. omega (arith, p .1 .0, p .1 .1 .queue-room))
+    (omega (arith, p .1 .0, p .1 .1 .seen-capacity, c .before .before .before .before .clear .kept .0), λ e. omega (arith, p .1 .0, p .1 .1 .queue-capacity))
 
 loop-holds : tie.Need-loop-holds Inv-loop μ-loop
 loop-holds c = λ s e q a. a
@@ -41,14 +41,14 @@ module _ (c : tie.At-loop Inv-loop μ-loop) where
   search-at =
       let n = c .before .before .before .before .before .note .ensures in
       c .loop .inv (start .args .s .0) (start .args .seen .now) (start .args .queue .now)
-      (search-starts (start .args .shape .states) (start .args .seen .now) (start .args .queue .now) (start .pre .1 .1 .seen-room) (start .pre .1 .1 .queue-room)
+      (search-starts (start .args .shape .states) (start .args .seen .now) (start .args .queue .now) (start .pre .1 .1 .seen-capacity) (start .pre .1 .1 .queue-capacity)
       (start .args .hops .now) (chosenIn (start .args .chosen .now)) (start .args .s .0) (start .pre .1 .0) (c .before .before .before .before .before .before .before .before .before .before .clear .ensures) (n .0) (n .1 .0) (n .1 .1))
 
 mul-t20 : tie.Need-mul-t20 Inv-loop μ-loop
 mul-t20 c = let a = search-at (c .before) in omega (arith, search-tail a, c .loop-test .taken, start (c .before) .pre .0 .tabled .admitted .states-most)
 
 slice-read-t22 : tie.Need-slice-read-t22 Inv-loop μ-loop
-slice-read-t22 c = let a = search-at (c .before .before) in omega (arith, search-tail a, a .front .queue-room, c .before .loop-test .taken)
+slice-read-t22 c = let a = search-at (c .before .before) in omega (arith, search-tail a, a .front .queue-capacity, c .before .loop-test .taken)
 
 spread-requires : tie.Need-spread-requires Inv-loop μ-loop
 spread-requires c κs =

@@ -9,7 +9,7 @@ use Rattle.graph.specs.declared.Shape.{Shape}
 use Rattle.walk_reach.specs.Reaching.{chosenIn}
 use Rattle.graph_successors.proofs.Firsts.{start-is}
 use Rattle.walk_reach.specs.Front.{Front}
-use Rattle.walk_reach.proofs.Front.{front-room}
+use Rattle.walk_reach.proofs.Front.{front-capacity}
 use Rattle.walk_reach.proofs.Spreading.{chosen-yes, chosen-no, Range, Passed, place-within, end-within, passed-none, passed-more, passed-over, passed-all}
 use Rattle.walk_reach.proofs.spread.Statement.{statement}
 use Rattle.walk_reach.proofs.spread.Tie as tie
@@ -77,8 +77,8 @@ note-requires c κs =
     let a = c .before .before .before .before .before .before in
     let within : c .to-at .result .0 < start a .args .shape .states =
     rw (c .to-at .ensures) (end-within (range a) _ (c .before .before .before .before .before .loop-test .taken)) in (
-      omega (arith, passed a .grown .front .seen-room),
-      λ e. omega (arith, passed a .grown .front .queue-room, front-room (passed a .grown .front) _ within e .0),
+      omega (arith, passed a .grown .front .seen-capacity),
+      λ e. omega (arith, passed a .grown .front .queue-capacity, front-capacity (passed a .grown .front) _ within e .0),
     )
 
 add-i : tie.Need-add-i Inv-loop μ-loop

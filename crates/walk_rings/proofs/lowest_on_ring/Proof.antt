@@ -16,7 +16,7 @@ rank-all-requires : tie.Need-rank-all-requires
 rank-all-requires c κs =
     let s = c .before .before .before in
     let adm = s .pre .admitted in
-    (s .pre, record { room = adm .states-most; unringed = unringed-none (s .args .hops .now) (s .args .shape .states) most-states (adm .states-most) })
+    (s .pre, record { capacity = adm .states-most; unringed = unringed-none (s .args .hops .now) (s .args .shape .states) most-states (adm .states-most) })
 
 returns : tie.Need-returns
 returns c =
@@ -30,7 +30,7 @@ lowest-unranked-requires : tie.Need-lowest-unranked-requires
 lowest-unranked-requires c κs =
     let s = c .before .before .before .before .before .before .before in
     let r = c .before .before .before .rank-all in
-    (s .pre, record { room = omega (arith, s .pre .admitted .states-most, r .kept .1 .1 .1 .0); unringed = r .ensures .unringed })
+    (s .pre, record { capacity = omega (arith, s .pre .admitted .states-most, r .kept .1 .1 .1 .0); unringed = r .ensures .unringed })
 
 returns-2 : tie.Need-returns-2
 returns-2 c = search needs

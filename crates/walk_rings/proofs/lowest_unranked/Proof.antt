@@ -53,7 +53,7 @@ is-on-ring-requires c κs =
     let p = start l .pre in
     let i = l .before .loop .inv in (
       record { chosen = record { tabled = p .0; byte-a-hop = omega (arith, slice-aggregate-is-on-ring (c .before .before), p .0 .admitted .hops-most) }; silent = l .before .before .before .silent-bytes .ensures },
-      (below l, (p .1, record { seen-room = omega (arith, i .2, p .0 .admitted .states-most); queue-room = omega (arith, i .3, p .0 .admitted .states-most) })),
+      (below l, (p .1, record { seen-capacity = omega (arith, i .2, p .0 .admitted .states-most); queue-capacity = omega (arith, i .3, p .0 .admitted .states-most) })),
     )
 
 returns : tie.Need-returns Inv-loop μ-loop

@@ -60,7 +60,7 @@ module _ (c : tie.Else2) where
 put-row-requires : tie.Need-put-row-requires
 put-row-requires c κs =
     let s = start (c .before) in
-    (s .pre .0, (s .pre .1 .0, (row-fits (s .pre .1 .1) (s .args .v .0) (s .pre .1 .0) (off (c .before)), s .pre .1 .1 .room)))
+    (s .pre .0, (s .pre .1 .0, (row-fits (s .pre .1 .1) (s .args .v .0) (s .pre .1 .0) (off (c .before)), s .pre .1 .1 .capacity)))
 
 add-t18 : tie.Need-add-t18
 add-t18 c =

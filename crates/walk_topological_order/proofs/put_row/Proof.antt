@@ -11,7 +11,7 @@ use Rattle.graph.proofs.Lookup.{first-within, range-only}
 use Rattle.graph.proofs.Places.{labelled-yes}
 use Rattle.graph_successors.proofs.Firsts.{start-is}
 use Rattle.walk_topological_order.specs.Lined.{Put}
-use Rattle.walk_topological_order.proofs.Rows.{Putting, putting-none, putting-room, putting-more, putting-done, row-told, put-told}
+use Rattle.walk_topological_order.proofs.Rows.{Putting, putting-none, putting-capacity, putting-more, putting-done, row-told, put-told}
 use Rattle.walk_topological_order.proofs.put_row.Statement.{statement}
 use Rattle.walk_topological_order.proofs.put_row.Tie as tie
 
@@ -90,23 +90,23 @@ module _ (c : tie.Else1 Inv-loop μ-loop) where
       (omega (arith, hi-is (first turn), turn .loop-test .taken)))
       (sym (c .before .before .label-at .ensures) ∙ c .if1 .left)
 
-  room : turn .before .loop .at < count (start (first turn) .args .hops .now)
-  room = omega (arith, putting-room (turn .before .loop .inv) (here turn) own, row-told (start (first turn) .args .hops .now) (first turn .before .before .wide .ensures), start (first turn) .pre .1 .1 .0)
+  capacity : turn .before .loop .at < count (start (first turn) .args .hops .now)
+  capacity = omega (arith, putting-capacity (turn .before .loop .inv) (here turn) own, row-told (start (first turn) .args .hops .now) (first turn .before .before .wide .ensures), start (first turn) .pre .1 .1 .0)
 
-  low-room : turn .before .loop .at < most-hops
-  low-room = omega (arith, room, start (first turn) .pre .0 .admitted .hops-most)
+  low-capacity : turn .before .loop .at < most-hops
+  low-capacity = omega (arith, capacity, start (first turn) .pre .0 .admitted .hops-most)
 
 cast-line : tie.Need-cast-line Inv-loop μ-loop
 cast-line c = omega (arith, here (turn c), start (first (turn c)) .pre .0 .admitted .hops-most)
 
 mul-line : tie.Need-mul-line Inv-loop μ-loop
-mul-line c = omega (arith, low-room c)
+mul-line c = omega (arith, low-capacity c)
 
 element-write-line : tie.Need-element-write-line Inv-loop μ-loop
-element-write-line c = low-room c
+element-write-line c = low-capacity c
 
 add-at : tie.Need-add-at Inv-loop μ-loop
-add-at c = omega (arith, low-room c)
+add-at c = omega (arith, low-capacity c)
 
 add-i : tie.Need-add-i Inv-loop μ-loop
 add-i c = omega (arith, here (turn c), start (first (turn c)) .pre .0 .admitted .hops-most)
@@ -115,7 +115,7 @@ loop-less : tie.Need-loop-less Inv-loop μ-loop
 loop-less c = omega (arith, turn c .loop-test .taken)
 
 loop-again : tie.Need-loop-again Inv-loop μ-loop
-loop-again c = putting-more (turn c .before .loop .inv) (here (turn c)) (own c) (omega (arith, room c, start (first (turn c)) .pre .1 .1 .1))
+loop-again c = putting-more (turn c .before .loop .inv) (here (turn c)) (own c) (omega (arith, capacity c, start (first (turn c)) .pre .1 .1 .1))
 
 returns-2 : tie.Need-returns-2 Inv-loop μ-loop
 returns-2 c = done (c .before) (λ l e. omega (arith, c .loop-test .left))

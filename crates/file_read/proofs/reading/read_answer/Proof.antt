@@ -4,7 +4,7 @@ use native.Mathlib.Omega.{arith}
 use Rattle.graph.specs.Hops.{numberPlace}
 use Rattle.graph.specs.declared.Answer.{Answer}
 use Rattle.file_format.proofs.Sound.{format-sound}
-use Rattle.file_read.proofs.Entry.{graph-few, format-speaks, graph-speaks, room-speaks, none-speaks}
+use Rattle.file_read.proofs.Entry.{graph-few, format-speaks, graph-speaks, capacity-speaks, none-speaks}
 use borrow.Author.Needs.{needs}
 use Rattle.file_read.proofs.reading.read_answer.Statement.{statement}
 use Rattle.file_read.proofs.reading.read_answer.Tie as tie
@@ -38,7 +38,7 @@ refuse-requires c κs = search needs
 returns-3 : tie.Need-returns-3
 returns-3 c =
     c .refuse .ensures ∙
-    room-speaks _ _ (c .before .before .before .before .before .before .before .before .before .format-answer .ensures) (c .before .before .before .before .before .before .before .if1 .left) (c .before .before .before .before .before .before .hops-answer .ensures) (c .before .before .before .before .if2 .left) (c .before .before .number-place .ensures ∙ ap numberPlace (c .before .before .before .hops-in .ensures)) (c .before .if3 .taken)
+    capacity-speaks _ _ (c .before .before .before .before .before .before .before .before .before .format-answer .ensures) (c .before .before .before .before .before .before .before .if1 .left) (c .before .before .before .before .before .before .hops-answer .ensures) (c .before .before .before .before .if2 .left) (c .before .before .number-place .ensures ∙ ap numberPlace (c .before .before .before .hops-in .ensures)) (c .before .if3 .taken)
 
 accept-requires : tie.Need-accept-requires
 accept-requires c κs = search needs

@@ -2,7 +2,7 @@
 use mathlib.Core.Path.{_∙_}
 use native.Mathlib.Omega.{arith}
 use Rattle.file_read.proofs.Entry.{row-refuses}
-use Rattle.file_round_trip.proofs.Both.{put-accepted, back-refused, back-graph, back-room, back-unwritten, written-room, back-gives}
+use Rattle.file_round_trip.proofs.Both.{put-accepted, back-refused, back-graph, back-capacity, back-unwritten, written-capacity, back-gives}
 use borrow.Author.Needs.{needs}
 use Rattle.file_round_trip.proofs.round_trip.graph_back.Statement.{statement}
 use Rattle.file_round_trip.proofs.round_trip.graph_back.Tie as tie
@@ -24,7 +24,7 @@ refusal-requires-2 : tie.Need-refusal-requires-2
 refusal-requires-2 c κs = search needs
 
 returns-2 : tie.Need-returns-2
-returns-2 c = let g = back-refused (c .before .before .before .before .before .before .before .before .before .before .args .shape) (c .before .before .before .before .before .before .before .before .before .before .args .hops .now) (c .before .before .before .before .before .before .before .before .before .before .args .names .now) (c .before .before .before .before .before .before .before .before .before .before .args .file .now) (c .before .before .before .before .before .before .before .before .before .before .args .again .now) (c .before .refuse .ensures ∙ back-room (c .before .before .before .before .before .before .before .before .before .before .args .shape) (c .before .before .before .before .before .before .before .before .before .before .args .hops .now) (c .before .before .before .before .before .before .before .before .before .before .args .names .now) (c .before .before .before .before .before .before .before .before .before .before .args .file .now) (c .before .before .before .before .before .before .before .before .before .before .args .again .now) (c .before .before .before .before .before .given-answer .ensures) (c .before .before .before .if1 .left) (c .before .before .if2 .taken)) (row-refuses (c .before .refuse .ensures) (omega arith)) in
+returns-2 c = let g = back-refused (c .before .before .before .before .before .before .before .before .before .before .args .shape) (c .before .before .before .before .before .before .before .before .before .before .args .hops .now) (c .before .before .before .before .before .before .before .before .before .before .args .names .now) (c .before .before .before .before .before .before .before .before .before .before .args .file .now) (c .before .before .before .before .before .before .before .before .before .before .args .again .now) (c .before .refuse .ensures ∙ back-capacity (c .before .before .before .before .before .before .before .before .before .before .args .shape) (c .before .before .before .before .before .before .before .before .before .before .args .hops .now) (c .before .before .before .before .before .before .before .before .before .before .args .names .now) (c .before .before .before .before .before .before .before .before .before .before .args .file .now) (c .before .before .before .before .before .before .before .before .before .before .args .again .now) (c .before .before .before .before .before .given-answer .ensures) (c .before .before .before .if1 .left) (c .before .before .if2 .taken)) (row-refuses (c .before .refuse .ensures) (omega arith)) in
     (c .refusal2 .ensures ∙ g .0, g .1)
 
 write-requires : tie.Need-write-requires
@@ -49,7 +49,7 @@ part-read-start c = search needs
 
 part-read-end : tie.Need-part-read-end
 part-read-end c = let (y, n) = put-accepted (c .before .before .before .before .before .before .before .before .before .before .before .before .before .before .before .before .args .shape) (c .before .before .before .before .before .before .before .before .before .before .before .before .before .before .before .before .args .hops .now) (c .before .before .before .before .before .before .before .before .before .before .before .before .before .before .before .before .args .names .now) _ (c .before .before .before .before .before .before .write .ensures .0) (c .before .if3 .left) in
-    omega (arith, written-room (c .before .before .before .before .before .before .before .before .before .before .before .before .before .before .before .before .args .shape) (c .before .before .before .before .before .before .before .before .before .before .before .before .before .before .before .before .args .hops .now) (c .before .before .before .before .before .before .before .before .before .before .before .before .before .before .before .before .args .names .now) (c .before .before .before .before .before .before .before .before .before .before .before .before .before .before .before .before .args .file .now) (c .before .before .before .before .before .before .before .before .before .before .before .before .before .before .before .before .args .again .now) (c .before .before .before .before .before .before .before .before .before .before .before .given-answer .ensures) (c .before .before .before .before .before .before .before .before .before .if1 .left) (c .before .before .before .before .before .before .before .before .if2 .left) y)
+    omega (arith, written-capacity (c .before .before .before .before .before .before .before .before .before .before .before .before .before .before .before .before .args .shape) (c .before .before .before .before .before .before .before .before .before .before .before .before .before .before .before .before .args .hops .now) (c .before .before .before .before .before .before .before .before .before .before .before .before .before .before .before .before .args .names .now) (c .before .before .before .before .before .before .before .before .before .before .before .before .before .before .before .before .args .file .now) (c .before .before .before .before .before .before .before .before .before .before .before .before .before .before .before .before .args .again .now) (c .before .before .before .before .before .before .before .before .before .before .before .given-answer .ensures) (c .before .before .before .before .before .before .before .before .before .if1 .left) (c .before .before .before .before .before .before .before .before .if2 .left) y)
 
 read-requires : tie.Need-read-requires
 read-requires c κs = search needs

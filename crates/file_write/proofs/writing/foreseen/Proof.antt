@@ -3,7 +3,7 @@ use borrow.Author.Needs.{needs}
 use native.Mathlib.Omega.{arith}
 use mathlib.Core.Path.{ap, _∙_}
 use Rattle.graph.specs.declared.Answer.{Answer}
-use Rattle.file_write.proofs.Given.{given-speaks, given-few, room-speaks, none-speaks, refused-gives, accepted-gives}
+use Rattle.file_write.proofs.Given.{given-speaks, given-few, capacity-speaks, none-speaks, refused-gives, accepted-gives}
 use Rattle.file_write.proofs.writing.foreseen.Statement.{statement}
 use Rattle.file_write.proofs.writing.foreseen.Tie as tie
 
@@ -31,7 +31,7 @@ returns-2 : tie.Need-returns-2
 returns-2 c =
     let r = c .before .refuse .ensures in
     c .unwritten2 .ensures ∙
-    refused-gives _ _ _ _ (r ∙ room-speaks _ _ _ _ (c .before .before .before .before .before .before .given-answer .ensures) (c .before .before .before .before .if1 .left) (c .before .before .before .encoded-length .ensures) (c .before .before .if2 .taken))
+    refused-gives _ _ _ _ (r ∙ capacity-speaks _ _ _ _ (c .before .before .before .before .before .before .given-answer .ensures) (c .before .before .before .before .if1 .left) (c .before .before .before .encoded-length .ensures) (c .before .before .if2 .taken))
     (λ z. omega (arith, ap (λ (x : Answer). x .number) r))
 
 accept-requires : tie.Need-accept-requires

@@ -2,7 +2,7 @@
 use borrow.Author.Needs.{needs}
 use Rattle.graph_check.proofs.Checked.{check-admitted}
 use Rattle.graph_successors.proofs.Firsts.{admitted-ready}
-use Rattle.mark_entry.proofs.Entry.{mark-refused, mark-sensed, mark-later, mark-ringless, mark-room, output-marked, output-same}
+use Rattle.mark_entry.proofs.Entry.{mark-refused, mark-sensed, mark-later, mark-ringless, mark-capacity, output-marked, output-same}
 use Rattle.mark_entry.proofs.mark.mark.Statement.{statement}
 use Rattle.mark_entry.proofs.mark.mark.Tie as tie
 
@@ -35,7 +35,7 @@ mark-in-requires c κs =
     let z = c .before .before .before .before .before .before .before .before .before .before .if1 .left in
     let d = mark-later _ _ _ (st .args .marks .now) e z (c .before .before .before .before .before .before .before .before .before .sense-answer .ensures) (c .before .before .before .before .before .before .before .if2 .left) (c .before .before .before .before .later-answer .ensures) in
     let y = rw d at (c .before .before .if3 .taken) in
-    (record { admitted = check-admitted _ _ (rw e at z); table = c .before .before .before .before .before .before .starts-of .ensures }, (mark-ringless _ _ _ _ y, mark-room _ _ _ _ y))
+    (record { admitted = check-admitted _ _ (rw e at z); table = c .before .before .before .before .before .before .starts-of .ensures }, (mark-ringless _ _ _ _ y, mark-capacity _ _ _ _ y))
 
 same-length : tie.Need-same-length
 same-length c = search needs

@@ -27,7 +27,7 @@ x-requires c κs =
           ready = admitted-ready ok;
           label-in = λ i l. omega (arith, ok .range .label-in i l, ok .labels-most);
           table = c .before .before .starts-of .ensures;
-          room = omega (arith, length-replicate {A = ℕ} ((most-rounds + 1) * most-hops) 0);
+          capacity = omega (arith, length-replicate {A = ℕ} ((most-rounds + 1) * most-hops) 0);
           right = nothing-said _ ((most-rounds + 1) * most-hops);
         },
       ),

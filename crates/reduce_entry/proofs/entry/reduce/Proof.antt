@@ -2,7 +2,7 @@
 use mathlib.Core.Path.{_∙_}
 use Rattle.graph_check.proofs.Checked.{check-admitted}
 use Rattle.graph_successors.proofs.Firsts.{admitted-ready}
-use Rattle.reduce_entry.proofs.Answering.{answer-checked, answer-later, reduce-reducible, reduce-map-room, reduce-short-room, refused-returns, refused-map, refused-short, accepted-returns, accepted-map, accepted-short}
+use Rattle.reduce_entry.proofs.Answering.{answer-checked, answer-later, reduce-reducible, reduce-map-capacity, reduce-short-capacity, refused-returns, refused-map, refused-short, accepted-returns, accepted-map, accepted-short}
 use borrow.Author.Needs.{needs}
 use Rattle.reduce_entry.proofs.entry.reduce.Statement.{statement}
 use Rattle.reduce_entry.proofs.entry.reduce.Tie as tie
@@ -45,7 +45,7 @@ accepted-reduction-requires : tie.Need-accepted-reduction-requires
 accepted-reduction-requires c κs =
     let d = answer-later _ _ _ _ _ (c .before .before .before .before .before .before .before .before .before .before .check .ensures) (c .before .before .before .before .before .before .before .before .if1 .left) (c .before .before .before .before .before .later-answer .ensures) in
     let e = rw d at (c .before .before .before .if2 .left) in
-    (reduce-reducible _ _ _ _ _ e, (c .before .before .before .before .before .before .before .starts-of .ensures, (reduce-map-room _ _ _ _ _ e, reduce-short-room _ _ _ _ _ e)))
+    (reduce-reducible _ _ _ _ _ e, (c .before .before .before .before .before .before .before .starts-of .ensures, (reduce-map-capacity _ _ _ _ _ e, reduce-short-capacity _ _ _ _ _ e)))
 
 same-length : tie.Need-same-length
 same-length c = search needs

@@ -37,7 +37,7 @@ enter-requires : tie.Need-enter-requires Inv-loop μ-loop
 unfolding FromIn
 enter-requires c κs =
     let st = c .before .before .before .before .before .before .before in
-    (omega arith, (omega (arith, st .pre .0 .room), st .pre .1 _ (omega arith)))
+    (omega arith, (omega (arith, st .pre .0 .capacity), st .pre .1 _ (omega arith)))
 
 loop-less : tie.Need-loop-less Inv-loop μ-loop
 loop-less c = omega arith

@@ -5,7 +5,7 @@ use lib.ListN.{length, replicate, length-replicate}
 use Rattle.graph.specs.Answers.{most-numbers}
 use Rattle.report_text.proofs.Puts.{put-same}
 use Rattle.report_entry.proofs.Lengths.{refusal-most}
-use Rattle.report_entry.proofs.Shown.{file-refused, file-most, file-admitted, file-printed, text-room}
+use Rattle.report_entry.proofs.Shown.{file-refused, file-most, file-admitted, file-printed, text-capacity}
 use borrow.Author.Needs.{needs}
 use Rattle.report_entry.proofs.print.print_contents.Statement.{statement}
 use Rattle.report_entry.proofs.print.print_contents.Tie as tie
@@ -20,7 +20,7 @@ read-requires : tie.Need-read-requires
 read-requires c κs = search needs
 
 put-refusal-requires : tie.Need-put-refusal-requires
-put-refusal-requires c κs = text-room (refusal-most _) (c .before .before .before .before .before .before .before .before .before .pre)
+put-refusal-requires c κs = text-capacity (refusal-most _) (c .before .before .before .before .before .before .before .before .before .pre)
 
 same-length : tie.Need-same-length
 same-length c = search needs

@@ -2,7 +2,7 @@
 use Rattle.graph_successors.proofs.Firsts.{admitted-ready}
 use Rattle.report_text.proofs.Puts.{put-same}
 use Rattle.report_entry.proofs.Lengths.{refusal-most}
-use Rattle.report_entry.proofs.Shown.{graph-refused, graph-reducible, graph-accepted, text-room}
+use Rattle.report_entry.proofs.Shown.{graph-refused, graph-reducible, graph-accepted, text-capacity}
 use borrow.Author.Needs.{needs}
 use Rattle.report_entry.proofs.print.print_graph.Statement.{statement}
 use Rattle.report_entry.proofs.print.print_graph.Tie as tie
@@ -14,7 +14,7 @@ ring-answer-requires : tie.Need-ring-answer-requires
 ring-answer-requires c κs = let st = c .before .before .before .before in record { admitted = st .pre .0; table = c .before .starts-of .ensures }
 
 put-refusal-requires : tie.Need-put-refusal-requires
-put-refusal-requires c κs = text-room (refusal-most _) (c .before .before .before .before .before .before .before .before .pre .1)
+put-refusal-requires c κs = text-capacity (refusal-most _) (c .before .before .before .before .before .before .before .before .pre .1)
 
 same-length : tie.Need-same-length
 same-length c = search needs

@@ -3,7 +3,7 @@ use mathlib.Core.Path.{_∙_, ap}
 use Rattle.report_text.proofs.Puts.{put-same}
 use Rattle.report_rows.specs.Rows.{refusalOf}
 use Rattle.report_entry.proofs.Lengths.{refusal-most}
-use Rattle.report_entry.proofs.Shown.{input-refused, input-taken, text-room}
+use Rattle.report_entry.proofs.Shown.{input-refused, input-taken, text-capacity}
 use borrow.Author.Needs.{needs}
 use Rattle.report_entry.proofs.print.print_input.Statement.{statement}
 use Rattle.report_entry.proofs.print.print_input.Tie as tie
@@ -12,7 +12,7 @@ refuse-requires : tie.Need-refuse-requires
 refuse-requires c κs = search needs
 
 put-refusal-requires : tie.Need-put-refusal-requires
-put-refusal-requires c κs = text-room (refusal-most _) (c .before .before .before .before .before .pre)
+put-refusal-requires c κs = text-capacity (refusal-most _) (c .before .before .before .before .before .pre)
 
 same-length : tie.Need-same-length
 same-length c = search needs

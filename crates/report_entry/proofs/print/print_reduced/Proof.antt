@@ -6,9 +6,9 @@ use Rattle.graph.specs.Answers.{most-states, most-hops, most-numbers}
 use Rattle.graph_successors.proofs.Firsts.{admitted-ready}
 use Rattle.reduce_representatives.proofs.Marked.{held-settles}
 use Rattle.reduce_entry.proofs.Marked.{left-marks}
-use Rattle.report_text.proofs.Puts.{put-same, room-same}
+use Rattle.report_text.proofs.Puts.{put-same, capacity-same}
 use Rattle.report_entry.proofs.Lengths.{report-most}
-use Rattle.report_entry.proofs.Shown.{reduced-marks, reduced-shape, reduced-most, reduced-short, reduced-map, reduced-lines, text-room}
+use Rattle.report_entry.proofs.Shown.{reduced-marks, reduced-shape, reduced-most, reduced-short, reduced-map, reduced-lines, text-capacity}
 use borrow.Author.Needs.{needs}
 use Rattle.report_entry.proofs.print.print_reduced.Statement.{statement}
 use Rattle.report_entry.proofs.print.print_reduced.Tie as tie
@@ -61,7 +61,7 @@ put-report-requires c κs =
     let red = st .pre .0 in
     let e = c .before .before .before .before .before .before .before .before .before .before .before .before .before .mark-rounds .ensures .1 in
     let r = c .before .before .before .before .before .before .before .before .reduce-marked .ensures in
-    (omega (arith, red .admitted .hops-most), (omega (arith, red .admitted .states-most), (red .admitted .states-most, room-same (sym (reduced-lines red (reduced-marks red (replicate most-hops 0) e) (reduced-map red (replicate most-hops 0) e (replicate most-states 0) (r .1 .0)) (reduced-shape red (replicate most-hops 0) e (r .0)) (reduced-short red (replicate most-hops 0) e (r .0) (replicate most-numbers 0) (r .1 .1) (c .before .part .ensures .0)))) (text-room (report-most red (λ i. omega (arith, c .before .before .before .before .before .before .before .before .before .before .before .before .before .before .before .before .shared-slice-known .given i))) (st .pre .1 .1)))))
+    (omega (arith, red .admitted .hops-most), (omega (arith, red .admitted .states-most), (red .admitted .states-most, capacity-same (sym (reduced-lines red (reduced-marks red (replicate most-hops 0) e) (reduced-map red (replicate most-hops 0) e (replicate most-states 0) (r .1 .0)) (reduced-shape red (replicate most-hops 0) e (r .0)) (reduced-short red (replicate most-hops 0) e (r .0) (replicate most-numbers 0) (r .1 .1) (c .before .part .ensures .0)))) (text-capacity (report-most red (λ i. omega (arith, c .before .before .before .before .before .before .before .before .before .before .before .before .before .before .before .before .shared-slice-known .given i))) (st .pre .1 .1)))))
 
 same-length : tie.Need-same-length
 same-length c = search needs
