@@ -10,14 +10,14 @@ use native.Mathlib.Omega.{arith}
 use borrow.Author.Tests.{eq-eqb, ne-eqb, eqb-true, eqb-false, lt-ltb, le-ltb, ltb-true, ltb-false, not-false}
 use lib.ListN.{length}
 use lib.Dec.{eqb, ltb}
-use Rattle.base_bounded.specs.Tests.{least}
+use Rattle.base_bounded.specs.Quantifiers.{least}
 use Rattle.graph.specs.Answers.{accepted, refused, inTable, andThen}
 use Rattle.graph.specs.Map.{mapped}
 use Rattle.graph.specs.declared.Shape.{Shape}
 use Rattle.graph.specs.declared.Answer.{Answer}
 use Rattle.graph_check.specs.Check.{checkOf, Admitted}
 use Rattle.base_bounded.proofs.Bools.{not-yes}
-use Rattle.base_bounded.proofs.Tests.{least-is, least-before}
+use Rattle.base_bounded.proofs.Quantifiers.{least-is, least-before}
 use Rattle.graph_check.proofs.Checked.{check-admitted, admitted-check}
 use Rattle.audit_admitted.specs.Fitting.{AdmittedMap, firstHigh, mapFits, auditAnswer}
 

@@ -8,15 +8,15 @@ use mathlib.Core.Logic.{_⊎_, inl, inr, ⊎-elim, _↔_}
 use native.Mathlib.Omega.{arith}
 use borrow.Author.Tests.{eq-eqb, eqb-true, not-false}
 use lib.Dec.{eqb}
-use Rattle.base_bounded.specs.Tests.{tally}
+use Rattle.base_bounded.specs.Quantifiers.{tally}
 use Rattle.graph.specs.Hops.{count, from, label, to}
 use Rattle.graph_check.specs.Check.{InRange, Admitted}
 use Rattle.graph.specs.declared.Shape.{Shape}
 use Rattle.base_bounded.proofs.Bools.{decided, not-yes, and-yes, and-left, and-right, and-no-left, and-no-right, or-left, or-right, or-yes}
-use Rattle.base_bounded.proofs.Tests.{any-found, any-at, tally-zero, tally-each, total-zero, total-each}
+use Rattle.base_bounded.proofs.Quantifiers.{any-found, any-at, tally-zero, tally-each, total-zero, total-each}
 use Rattle.graph.proofs.Places.{has-at, has-place, place-has}
 use Rattle.lts.specs.Star.{stay}
-use Rattle.lts.specs.Reduction.{Back, Reduces}
+use Rattle.lts.specs.Reduction.{MatchedBack, Reduces}
 use Rattle.walk_silent.specs.Silent.{HopOf, Leads, leads}
 use Rattle.walk_silent.proofs.Leads.{leads-iff}
 use Rattle.graph.specs.Map.{mapped}
@@ -55,7 +55,7 @@ module _ (h1 h2 m : List ℕ) where
 
 module _ (sh1 sh2 : Shape) (h1 h2 m : List ℕ) (ranged : InRange sh1 h1) where
   -- a test of the third sum: the state that s leads to, and its hop
-  backed-says : (s a q : ℕ) → backed sh1 h1 m s (mapped m s) a q ≡ true → Back (HopOf h1) (mapped m) s a q
+  backed-says : (s a q : ℕ) → backed sh1 h1 m s (mapped m s) a q ≡ true → MatchedBack (HopOf h1) (mapped m) s a q
   unfolding backed offers
   backed-says s a q e =
       let (u, l, d) = any-at (λ (u : ℕ). leads h1 (sh1 .states) s u && offers h1 m (mapped m s) a q u) (sh1 .states) e in
@@ -76,7 +76,7 @@ module _ (sh1 sh2 : Shape) (h1 h2 m : List ℕ) (ranged : InRange sh1 h1) where
         eqb-true _ _ (and-right (eqb (label h1 i) a) _ g),
       )
 
-  says-backed : (s a q : ℕ) → Back (HopOf h1) (mapped m) s a q → backed sh1 h1 m s (mapped m s) a q ≡ true
+  says-backed : (s a q : ℕ) → MatchedBack (HopOf h1) (mapped m) s a q → backed sh1 h1 m s (mapped m s) a q ≡ true
   unfolding backed offers
   says-backed s a q (u, t, su, c, h, e) =
       let p = has-place h1 u a t h in
@@ -87,13 +87,13 @@ module _ (sh1 sh2 : Shape) (h1 h2 m : List ℕ) (ranged : InRange sh1 h1) where
 
   module _ (j s : ℕ) (e : mapped m s ≡ from h2 j) where
     matched-says : matched sh1 h1 h2 m j s ≡ true →
-        ((label h2 j ≡ 0) × (mapped m s ≡ to h2 j)) ⊎ Back (HopOf h1) (mapped m) s (label h2 j) (to h2 j)
+        ((label h2 j ≡ 0) × (mapped m s ≡ to h2 j)) ⊎ MatchedBack (HopOf h1) (mapped m) s (label h2 j) (to h2 j)
     unfolding matched
     matched-says d =
         ⊎-elim (λ f. inl (eqb-true _ _ (and-left (eqb (label h2 j) 0) _ f), e ∙ eqb-true _ _ (and-right (eqb (label h2 j) 0) _ f)))
         (λ f. inr (backed-says s _ _ (rw e f))) (or-yes (eqb (label h2 j) 0 && eqb (from h2 j) (to h2 j)) _ d)
 
-    says-matched : ((label h2 j ≡ 0) × (mapped m s ≡ to h2 j)) ⊎ Back (HopOf h1) (mapped m) s (label h2 j) (to h2 j) →
+    says-matched : ((label h2 j ≡ 0) × (mapped m s ≡ to h2 j)) ⊎ MatchedBack (HopOf h1) (mapped m) s (label h2 j) (to h2 j) →
         matched sh1 h1 h2 m j s ≡ true
     unfolding matched
     says-matched (inl (a, b)) = or-left _ (and-yes (eq-eqb _ _ a) (eq-eqb _ _ (sym e ∙ b)))
@@ -136,7 +136,7 @@ module _ (sh1 sh2 : Shape) (h1 h2 m : List ℕ) (ranged : InRange sh1 h1) where
           (kept-says h1 h2 m (p .at) (not-false _ (tally-each (λ (i : ℕ). not (kept h1 h2 m i)) (count h1) second (p .within))))
 
       behind : (s a q : ℕ) → s < sh1 .states → HopOf h2 (mapped m s) a q →
-          ((a ≡ 0) × (mapped m s ≡ q)) ⊎ Back (HopOf h1) (mapped m) s a q
+          ((a ≡ 0) × (mapped m s ≡ q)) ⊎ MatchedBack (HopOf h1) (mapped m) s a q
       behind s a q l h =
           let p = has-place h2 (mapped m s) a q h in
           rw (p .label-is, p .to-is) at
@@ -170,7 +170,7 @@ module _ (sh1 sh2 : Shape) (h1 h2 m : List ℕ) (ranged : InRange sh1 h1) where
       there s r (l, e) a t h (inl (z, d)) = inl (z, (hop-to ranged s a t h, sym d ∙ e))
       there s r (l, e) a t h (inr k) = inr (r, mapped m t, stay, rw e at k, (l, e), (hop-to ranged s a t h, refl))
 
-      again : (s r : ℕ) → MapRelation sh1 m s r → (a q : ℕ) → ((a ≡ 0) × (mapped m s ≡ q)) ⊎ Back (HopOf h1) (mapped m) s a q →
+      again : (s r : ℕ) → MapRelation sh1 m s r → (a q : ℕ) → ((a ≡ 0) × (mapped m s ≡ q)) ⊎ MatchedBack (HopOf h1) (mapped m) s a q →
           ((a ≡ 0) × MapRelation sh1 m s q) ⊎ ((u : ℕ) × (t : ℕ) × Leads h1 s u × HopOf h1 u a t × MapRelation sh1 m u r × MapRelation sh1 m t q)
       again s r (l, e) a q (inl (z, d)) = inl (z, (l, d))
       again s r (l, e) a q (inr (u, t, su, d, h, x)) = inr (u, t, su, h, (hop-from ranged u a t h, d ∙ e), (hop-to ranged u a t h, x))
@@ -194,7 +194,7 @@ module _ (sh1 sh2 : Shape) (h1 h2 m : List ℕ) (ranged : InRange sh1 h1) where
       behind : (s a q : ℕ) →
           ((a ≡ 0) × MapRelation sh1 m s q) ⊎
           ((u : ℕ) × (t : ℕ) × Leads h1 s u × HopOf h1 u a t × MapRelation sh1 m u (mapped m s) × MapRelation sh1 m t q) →
-          ((a ≡ 0) × (mapped m s ≡ q)) ⊎ Back (HopOf h1) (mapped m) s a q
+          ((a ≡ 0) × (mapped m s ≡ q)) ⊎ MatchedBack (HopOf h1) (mapped m) s a q
       behind s a q (inl (z, (l, e))) = inl (z, e)
       behind s a q (inr (u, t, su, h, (k, d), (l, e))) = inr (u, t, su, d, h, e)
 
@@ -221,8 +221,8 @@ reduces-zero sh1 sh2 h1 h2 m ranged {f} F same joins =
           ((a ≡ 0) × (mapped m s ≡ mapped m t)) ⊎ HopOf h2 (mapped m s) a (mapped m t)
       ahead s a t h x = rw (from-same s a t h, to-same s a t h) x
 
-      behind : (s a q : ℕ) → s < sh1 .states → HopOf h2 (mapped m s) a q → ((a ≡ 0) × (mapped m s ≡ q)) ⊎ Back (HopOf h1) (mapped m) s a q
+      behind : (s a q : ℕ) → s < sh1 .states → HopOf h2 (mapped m s) a q → ((a ≡ 0) × (mapped m s ≡ q)) ⊎ MatchedBack (HopOf h1) (mapped m) s a q
       behind s a q l h = go (F .back s a q l (rw (same s l) at h)) where
-        go : ((a ≡ 0) × (f s ≡ q)) ⊎ Back (HopOf h1) f s a q → ((a ≡ 0) × (mapped m s ≡ q)) ⊎ Back (HopOf h1) (mapped m) s a q
+        go : ((a ≡ 0) × (f s ≡ q)) ⊎ MatchedBack (HopOf h1) f s a q → ((a ≡ 0) × (mapped m s ≡ q)) ⊎ MatchedBack (HopOf h1) (mapped m) s a q
         go (inl (z, d)) = inl (z, same s l ∙ d)
         go (inr (u, t, su, d, k, e)) = inr (u, t, su, from-same u a t k ∙ d ∙ sym (same s l), k, to-same u a t k ∙ e)

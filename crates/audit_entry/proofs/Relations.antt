@@ -5,7 +5,7 @@ use mathlib.Core.Path.{_≡_}
 use mathlib.Core.List.{List}
 use mathlib.Core.Logic.{_⊎_, inl, inr, _↔_}
 use Rattle.graph.specs.declared.Shape.{Shape}
-use Rattle.lts.specs.Branching.{Answers, Branching}
+use Rattle.lts.specs.Branching.{MatchedBy, Branching}
 use Rattle.walk_silent.specs.Silent.{HopOf, Leads}
 use Rattle.audit_entry.specs.Bisimulation.{StatePairs, BranchingBisimulation}
 
@@ -14,11 +14,11 @@ module _ (hs : List ℕ) (R : ℕ → ℕ → Type 0) (s n a t : ℕ) where
   abbrev Step : Type 0
   Step = ((a ≡ 0) × R t n) ⊎ ((u : ℕ) × (q : ℕ) × Leads hs n u × HopOf hs u a q × R s u × R t q)
 
-  step-answers : Step → Answers (HopOf hs) R s n a t
+  step-answers : Step → MatchedBy (HopOf hs) R s n a t
   step-answers (inl x) = inl x
   step-answers (inr (u, q, nu, h, x, y)) = inr (u, q, nu, x, h, y)
 
-  answers-step : Answers (HopOf hs) R s n a t → Step
+  answers-step : MatchedBy (HopOf hs) R s n a t → Step
   answers-step (inl x) = inl x
   answers-step (inr (u, q, nu, x, h, y)) = inr (u, q, nu, h, x, y)
 

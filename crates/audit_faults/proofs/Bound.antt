@@ -6,12 +6,12 @@ use mathlib.Core.List.{List}
 use native.Mathlib.Nat.{mul-le-mul}
 use native.Mathlib.Omega.{arith}
 use lib.Dec.{eqb}
-use Rattle.base_bounded.specs.Tests.{tally}
+use Rattle.base_bounded.specs.Quantifiers.{tally}
 use Rattle.graph.specs.Hops.{count}
 use Rattle.graph.specs.Answers.{most-states, most-hops}
 use Rattle.graph_check.specs.Check.{Admitted}
 use Rattle.graph.specs.declared.Shape.{Shape}
-use Rattle.base_bounded.proofs.Tests.{tally-within, total-most}
+use Rattle.base_bounded.proofs.Quantifiers.{tally-within, total-most}
 use Rattle.graph.specs.Map.{mapped}
 use Rattle.audit_faults.specs.Faults.{initialFault, kept, lostFaults, madeUp, madeUpFaults, faultsOf}
 

@@ -7,9 +7,9 @@ use mathlib.Core.Logic.{_⊎_, inl, inr, ⊎-elim}
 use native.Mathlib.Omega.{arith}
 use borrow.Author.Tests.{eq-eqb, ne-eqb, not-true, not-false, lt-ltb, le-ltb}
 use lib.Dec.{eqb, ltb}
-use Rattle.base_bounded.specs.Tests.{any, least, tally}
+use Rattle.base_bounded.specs.Quantifiers.{any, least, tally}
 use Rattle.base_bounded.proofs.Bools.{clash, lt-or-le, eq-or-not, not-no, or-no, and-no-left, and-no-right}
-use Rattle.base_bounded.proofs.Tests.{any-at, any-found, any-never, least-passes, least-before, tally-each, tally-zero, total-each, total-zero}
+use Rattle.base_bounded.proofs.Quantifiers.{any-at, any-found, any-never, least-passes, least-before, tally-each, tally-zero, total-each, total-zero}
 use Rattle.base_bounded.proofs.Least.{least-some, least-all, zero-least}
 use Rattle.graph.specs.Hops.{count}
 use Rattle.graph.specs.Map.{mapped}

@@ -5,7 +5,7 @@ use Prim.Native.Nat.{ℕ, _+_}
 use mathlib.Core.Bool.{Bool, cond, not, _&&_, _||_}
 use mathlib.Core.List.{List}
 use lib.Dec.{eqb}
-use Rattle.base_bounded.specs.Tests.{any, tally, total}
+use Rattle.base_bounded.specs.Quantifiers.{any, tally, total}
 use Rattle.graph.specs.Hops.{count, from, label, to, has}
 use Rattle.graph.specs.Map.{mapped}
 use Rattle.graph.specs.declared.Shape.{Shape}

@@ -6,7 +6,7 @@ use mathlib.Core.Bool.{Bool, true, false, cond, not, _&&_, _||_}
 use mathlib.Core.List.{List}
 use mathlib.Core.Logic.{_⊎_, _↔_}
 use lib.Dec.{eqb, ltb}
-use Rattle.base_bounded.specs.Tests.{any, least}
+use Rattle.base_bounded.specs.Quantifiers.{any, least}
 use Rattle.graph.specs.Hops.{count}
 use Rattle.graph.specs.Map.{mapped}
 use Rattle.graph.specs.declared.Shape.{Shape}

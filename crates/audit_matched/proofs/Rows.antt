@@ -8,14 +8,14 @@ use native.Mathlib.Nat.{le-refl}
 use native.Mathlib.Omega.{arith}
 use lib.ListN.{length, getD, set}
 use lib.Dec.{eqb}
-use Rattle.base_bounded.specs.Tests.{any}
+use Rattle.base_bounded.specs.Quantifiers.{any}
 use Rattle.graph.specs.Hops.{count, from}
 use Rattle.graph.specs.Order.{Ascending}
 use Rattle.graph.specs.Search.{firstOf, pastOf}
 use Rattle.graph_check.specs.Check.{InRange}
 use Rattle.graph.specs.declared.Shape.{Shape}
 use Rattle.base_bounded.proofs.Bools.{clash, lt-or-le, same-test, and-no-left}
-use Rattle.base_bounded.proofs.Tests.{any-found, any-at}
+use Rattle.base_bounded.proofs.Quantifiers.{any-found, any-at}
 use Rattle.graph.proofs.Lookup.{first-within, range-only}
 use Rattle.graph_successors.proofs.Firsts.{first-is, first-next}
 use Rattle.graph_successors.specs.Starts.{Ready}

@@ -9,14 +9,14 @@ use native.Mathlib.Omega.{arith}
 use borrow.Author.Tests.{eqb-true}
 use lib.ListN.{length, getD, set}
 use lib.Seq.{getD-set-same, getD-set-other}
-use Rattle.base_bounded.specs.Tests.{any}
+use Rattle.base_bounded.specs.Quantifiers.{any}
 use Rattle.graph.specs.Hops.{count, from, label, to, is, has}
 use Rattle.graph.specs.Search.{placed}
 use Rattle.graph.specs.declared.Hop.{Hop}
 use Rattle.graph.specs.declared.Found.{Found}
 use Rattle.graph.specs.declared.Found.the-variants.{At, Gap}
 use Rattle.base_bounded.proofs.Bools.{eq-or-not, no-test, and-right}
-use Rattle.base_bounded.proofs.Tests.{any-never}
+use Rattle.base_bounded.proofs.Quantifiers.{any-never}
 use Rattle.graph.proofs.Places.{is-alike}
 use Rattle.graph.proofs.Ordered.{alike-back, alike-then, ascending-place}
 use Rattle.graph.proofs.Lookup.{at-place, gap-has}

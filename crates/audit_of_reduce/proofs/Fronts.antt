@@ -12,7 +12,7 @@ use Rattle.graph.specs.Hops.{count, flat, between}
 use Rattle.graph.specs.Answers.{accepted}
 use Rattle.graph.specs.declared.Shape.{Shape}
 use Rattle.graph.specs.declared.Answer.{Answer}
-use Rattle.base_bounded.proofs.Tests.{length-listed}
+use Rattle.base_bounded.proofs.Quantifiers.{length-tabulate}
 use Rattle.graph.proofs.Fronts.{flat-front}
 use Rattle.reduce_short_graph.specs.Short.{mapList}
 use Rattle.mark_senses.specs.Senses.{senseOf}
@@ -47,7 +47,7 @@ module _ (sh : Shape) (hs : List ℕ) (k : ℕ) (map short : List ℕ) where
 
     front-map : take (sh .states) (mapOutput sh hs k map short) ≡ markedMap sh hs k
     unfolding mapList
-    front-map = rw (← accepted-map sh hs k map short refl zero refl) (take-at (markedMap sh hs k) _ (sh .states) (length-listed (markedTo sh hs k) (sh .states)))
+    front-map = rw (← accepted-map sh hs k map short refl zero refl) (take-at (markedMap sh hs k) _ (sh .states) (length-tabulate (markedTo sh hs k) (sh .states)))
 
     front-short : between (shortOutput sh hs k map short) 0 (length (markedHops sh hs k)) ≡ flat (markedHops sh hs k)
     front-short = rw (← accepted-short sh hs k map short refl zero refl) (flat-front (markedHops sh hs k) _ refl)

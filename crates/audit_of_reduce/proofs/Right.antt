@@ -5,7 +5,7 @@ use mathlib.Core.Path.{_≡_, refl}
 use mathlib.Core.List.{List}
 use Rattle.graph.specs.Hops.{flat}
 use Rattle.graph.specs.declared.Shape.{Shape}
-use Rattle.base_bounded.proofs.Tests.{length-listed, getD-listed}
+use Rattle.base_bounded.proofs.Quantifiers.{length-tabulate, getD-tabulate}
 use Rattle.reduce_representatives.specs.Tables.{Reducible}
 use Rattle.lts.specs.Closes.{Sense}
 use Rattle.base_fixpoint.specs.Pairs.{Pairs}
@@ -27,7 +27,7 @@ module _ {sh : Shape} {hs : List ℕ} (red : Reducible sh hs) (sense : Sense) wh
 
   list-maps : (s : ℕ) → s < sh .states → mapped (mapList sh hs u) s ≡ mapOf sh hs u s
   unfolding mapList
-  list-maps s l = getD-listed (mapOf sh hs u) (sh .states) l
+  list-maps s l = getD-tabulate (mapOf sh hs u) (sh .states) l
 
   reduced-audited : Audited sh (shortShape sh hs u) hs (flat (shortHops sh hs u)) (mapList sh hs u)
   unfolding mapList shortShape
@@ -35,7 +35,7 @@ module _ {sh : Shape} {hs : List ℕ} (red : Reducible sh hs) (sense : Sense) wh
     first = red .admitted;
     second = short-admitted red sense;
     labels = refl;
-    map = record { one-a-state = length-listed (mapOf sh hs u) (sh .states); entries-in = λ s l. rw (list-maps s l) (map-inside red sense s l) };
+    map = record { one-a-state = length-tabulate (mapOf sh hs u) (sh .states); entries-in = λ s l. rw (list-maps s l) (map-inside red sense s l) };
   }
 
   -- the audit's count of what `reduce` makes is 0

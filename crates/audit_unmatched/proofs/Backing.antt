@@ -9,13 +9,13 @@ use native.Mathlib.Omega.{arith}
 use borrow.Author.Tests.{eq-eqb, ne-eqb, eqb-true}
 use lib.ListN.{getD, replicate, getD-replicate}
 use lib.Dec.{eqb}
-use Rattle.base_bounded.specs.Tests.{any, least, tally, total}
+use Rattle.base_bounded.specs.Quantifiers.{any, least, tally, total}
 use Rattle.graph.specs.Hops.{count, from, label, to}
 use Rattle.graph.specs.Answers.{most-states, most-hops}
 use Rattle.graph_check.specs.Check.{InRange}
 use Rattle.graph.specs.declared.Shape.{Shape}
 use Rattle.base_bounded.proofs.Bools.{decided, same-test, and-yes, and-left, and-right}
-use Rattle.base_bounded.proofs.Tests.{any-found, any-at, tally-same, tally-within, total-most, total-exchange}
+use Rattle.base_bounded.proofs.Quantifiers.{any-found, any-at, tally-same, tally-within, total-most, total-exchange}
 use Rattle.base_bounded.proofs.Least.{least-same}
 use Rattle.graph.proofs.Places.{is-yes, is-label, is-to}
 use Rattle.walk_silent.specs.Silent.{silentAt, leads}

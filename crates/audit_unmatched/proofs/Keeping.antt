@@ -5,7 +5,7 @@ use mathlib.Core.Path.{_≡_, refl, sym, _∙_}
 use mathlib.Core.Bool.{Bool, true, false, cond}
 use mathlib.Core.List.{List}
 use lib.Dec.{ltb}
-use Rattle.base_bounded.specs.Tests.{least}
+use Rattle.base_bounded.specs.Quantifiers.{least}
 use Rattle.base_bounded.proofs.Least.{leastFirst, leastSecond, first-none, second-none, first-sooner, second-sooner, first-later, second-later}
 use Rattle.graph.specs.Hops.{count}
 use Rattle.graph.specs.declared.Shape.{Shape}

@@ -7,12 +7,12 @@ use mathlib.Core.Logic.{⊎-elim}
 use native.Mathlib.Nat.{eq-or-lt-of-le, le-refl}
 use native.Mathlib.Omega.{arith}
 use borrow.Author.Tests.{ne-eqb, ltb-false, le-ltb}
-use Rattle.base_bounded.specs.Tests.{least, tally}
+use Rattle.base_bounded.specs.Quantifiers.{least, tally}
 use Rattle.graph.specs.Hops.{count, from}
 use Rattle.graph.specs.Order.{Ascending}
 use Rattle.graph.specs.Search.{firstOf}
 use Rattle.base_bounded.proofs.Bools.{lt-or-le, and-no-left}
-use Rattle.base_bounded.proofs.Tests.{least-before, least-is}
+use Rattle.base_bounded.proofs.Quantifiers.{least-before, least-is}
 use Rattle.graph.proofs.Lookup.{first-law}
 use Rattle.graph_successors.proofs.Firsts.{first-below}
 use Rattle.audit_unmatched.specs.States.{unticked}

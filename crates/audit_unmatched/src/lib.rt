@@ -32,7 +32,7 @@ ghost use mathlib.Core.Bool.{cond};
 ghost use Prim.Native.Nat.{_+_, _<_, _≤_};
 ghost use lib.ListN.{length};
 ghost use lib.Dec.{ltb};
-ghost use Rattle.base_bounded.specs.Tests.{least, tally};
+ghost use Rattle.base_bounded.specs.Quantifiers.{least, tally};
 ghost use Rattle.graph.specs.Hops.{count};
 ghost use Rattle.graph.specs.Answers.{most-states};
 ghost use Rattle.graph_successors.specs.Starts.{Table, Ready};

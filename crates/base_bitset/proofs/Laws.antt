@@ -14,10 +14,10 @@ use lib.Pow.{pow-lt, pow-mono, pow-add, shl-shr, shr-le, shr-lt, shr-shr}
 use lib.ListN.{length, getD, set, replicate, length-replicate, getD-replicate, List·getD-eq-default}
 use lib.Seq.{getD-set-same, getD-set-other}
 use lib.Dec.{eqb}
-use Rattle.base_bounded.specs.Tests.{all}
+use Rattle.base_bounded.specs.Quantifiers.{all}
 use Rattle.base_bounded.proofs.Bools.{clash, eq-or-not, lt-or-le, same-test}
-use Rattle.base_bounded.proofs.Tests.{all-yes, all-at}
-use Rattle.base_bitset.specs.Bits.{bitAt, inTable}
+use Rattle.base_bounded.proofs.Quantifiers.{all-yes, all-at}
+use Rattle.base_bitset.specs.Bits.{bitAt, bitIn}
 
 -- one digit
 or-digit : (x y : ℕ) → x < 2 → y < 2 → eqb (bitOr x y) 1 ≡ (eqb x 1 || eqb y 1)
@@ -137,12 +137,12 @@ cut-holds k w o h l = same-test _ _ there back where
       (λ b m. bit-and w o b ∙ has-cut (bitAt w b) (bitAt o b) (all-at (λ (b : ℕ). not (bitAt o b) || bitAt w b) k e m)))
 
 -- tables: none of the words has a bit, a place past the end has none
-pub table-out : (ws : List ℕ) (s b : ℕ) → length ws ≤ s → inTable ws s b ≡ false
-unfolding inTable
+pub table-out : (ws : List ℕ) (s b : ℕ) → length ws ≤ s → bitIn ws s b ≡ false
+unfolding bitIn
 table-out ws s b h = rw (List·getD-eq-default ws 0 h) (bit-none b)
 
-pub table-none : (n s b : ℕ) → inTable (replicate n 0) s b ≡ false
-unfolding inTable
+pub table-none : (n s b : ℕ) → bitIn (replicate n 0) s b ≡ false
+unfolding bitIn
 table-none n s b = go (lt-or-le s n) where
   go : (s < n) ⊎ (n ≤ s) → bitAt (getD (replicate n 0) s 0) b ≡ false
   go (inl l) = rw (getD-replicate {A = ℕ} n s 0 0 l) (bit-none b)
@@ -150,17 +150,17 @@ table-none n s b = go (lt-or-le s n) where
 
 -- one word written: its place has the word's bits, the others have what they had
 module _ (ws : List ℕ) (s w : ℕ) where
-  pub table-same : (b : ℕ) → s < length ws → inTable (set ws s w) s b ≡ bitAt w b
-  unfolding inTable
+  pub table-same : (b : ℕ) → s < length ws → bitIn (set ws s w) s b ≡ bitAt w b
+  unfolding bitIn
   table-same b l = rw (getD-set-same ws s w 0 l)
 
-  pub table-other : (t b : ℕ) → (t ≡ s → ⊥) → inTable (set ws s w) t b ≡ inTable ws t b
-  unfolding inTable
+  pub table-other : (t b : ℕ) → (t ≡ s → ⊥) → bitIn (set ws s w) t b ≡ bitIn ws t b
+  unfolding bitIn
   table-other t b n = rw (getD-set-other ws s t w 0 n)
 
-  pub table-set : (t b : ℕ) → s < length ws → inTable (set ws s w) t b ≡ cond (eqb t s) (bitAt w b) (inTable ws t b)
+  pub table-set : (t b : ℕ) → s < length ws → bitIn (set ws s w) t b ≡ cond (eqb t s) (bitAt w b) (bitIn ws t b)
   table-set t b l = go (eq-or-not t s) where
-    go : (t ≡ s) ⊎ (t ≡ s → ⊥) → inTable (set ws s w) t b ≡ cond (eqb t s) (bitAt w b) (inTable ws t b)
+    go : (t ≡ s) ⊎ (t ≡ s → ⊥) → bitIn (set ws s w) t b ≡ cond (eqb t s) (bitAt w b) (bitIn ws t b)
     go (inl e) = rw (e, eq-eqb s s refl) (table-same b l)
     go (inr n) = rw (ne-eqb t s n) (table-other t b n)
 
@@ -169,13 +169,13 @@ pub or-nothing : (x : Bool) → (x || false) ≡ x
 or-nothing true = refl
 or-nothing false = refl
 
-pub word-of : (ws : List ℕ) (s b : ℕ) → bitAt (getD ws s 0) b ≡ inTable ws s b
-unfolding inTable
+pub word-of : (ws : List ℕ) (s b : ℕ) → bitAt (getD ws s 0) b ≡ bitIn ws s b
+unfolding bitIn
 word-of ws s b = refl
 
 -- a word's bits joined to those at one place
-pub table-or : (ws : List ℕ) (s w t b : ℕ) → s < length ws → inTable (set ws s (bitOr (getD ws s 0) w)) t b ≡ (inTable ws t b || (eqb t s && bitAt w b))
+pub table-or : (ws : List ℕ) (s w t b : ℕ) → s < length ws → bitIn (set ws s (bitOr (getD ws s 0) w)) t b ≡ (bitIn ws t b || (eqb t s && bitAt w b))
 table-or ws s w t b l = go (eq-or-not t s) where
-  go : (t ≡ s) ⊎ (t ≡ s → ⊥) → inTable (set ws s (bitOr (getD ws s 0) w)) t b ≡ (inTable ws t b || (eqb t s && bitAt w b))
+  go : (t ≡ s) ⊎ (t ≡ s → ⊥) → bitIn (set ws s (bitOr (getD ws s 0) w)) t b ≡ (bitIn ws t b || (eqb t s && bitAt w b))
   go (inl e) = rw (e, eq-eqb s s refl) (table-same ws s (bitOr (getD ws s 0) w) b l ∙ bit-or (getD ws s 0) w b ∙ ap (λ (x : Bool). x || bitAt w b) (word-of ws s b))
-  go (inr n) = rw (ne-eqb t s n) (table-other ws s (bitOr (getD ws s 0) w) t b n ∙ sym (or-nothing (inTable ws t b)))
+  go (inr n) = rw (ne-eqb t s n) (table-other ws s (bitOr (getD ws s 0) w) t b n ∙ sym (or-nothing (bitIn ws t b)))

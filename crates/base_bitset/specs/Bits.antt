@@ -11,8 +11,8 @@ unfoldable pub bitAt : ℕ → ℕ → Bool
 bitAt w b = eqb (w / 2 ^ b % 2) 1
 
 -- bit b of the word at place s of a table is 1
-unfoldable pub inTable : List ℕ → ℕ → ℕ → Bool
-inTable ws s b = bitAt (getD ws s 0) b
+unfoldable pub bitIn : List ℕ → ℕ → ℕ → Bool
+bitIn ws s b = bitAt (getD ws s 0) b
 
 -- how many bits a word has
 abbrev pub word-bits : ℕ

@@ -5,9 +5,9 @@ use mathlib.Core.Path.{_≡_, refl, sym, _∙_}
 use mathlib.Core.Bool.{Bool, true, false}
 use mathlib.Core.Logic.{_⊎_, inl, inr}
 use native.Mathlib.Omega.{arith}
-use Rattle.base_bounded.specs.Tests.{all, tally}
+use Rattle.base_bounded.specs.Quantifiers.{all, tally}
 use Rattle.base_bounded.proofs.Bools.{clash, decided}
-use Rattle.base_bounded.proofs.Tests.{tally-less, tally-within, all-at, all-counter}
+use Rattle.base_bounded.proofs.Quantifiers.{tally-less, tally-within, all-at, all-counter}
 
 -- at each number below n, a test of `chain (suc k)` is one of `chain k`
 abbrev pub Falling : ℕ → (ℕ → ℕ → Bool) → Type 0

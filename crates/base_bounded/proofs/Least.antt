@@ -9,9 +9,9 @@ use native.Mathlib.Numerals.{add-one}
 use native.Mathlib.Omega.{arith}
 use borrow.Author.Tests.{ltb-true, lt-ltb, le-ltb}
 use lib.Dec.{ltb}
-use Rattle.base_bounded.specs.Tests.{any, least, tally}
+use Rattle.base_bounded.specs.Quantifiers.{any, least, tally}
 use Rattle.base_bounded.proofs.Bools.{clash, lt-or-le, or-right}
-use Rattle.base_bounded.proofs.Tests.{any-at, any-never, least-within, least-passes, least-before, least-is, tally-zero}
+use Rattle.base_bounded.proofs.Quantifiers.{any-at, any-never, least-within, least-passes, least-before, least-is, tally-zero}
 
 module _ (p : ℕ → Bool) (n : ℕ) where
   -- nothing that comes before it counts

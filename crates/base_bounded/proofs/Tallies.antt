@@ -8,9 +8,9 @@ use native.Mathlib.Nat.{eq-or-lt-of-le, le-of-suc-le-suc, not-suc-le-zero, le-re
 use native.Mathlib.Omega.{arith}
 use borrow.Author.Tests.{lt-ltb, le-ltb, eq-eqb, ne-eqb}
 use lib.Dec.{ltb, eqb}
-use Rattle.base_bounded.specs.Tests.{tally}
+use Rattle.base_bounded.specs.Quantifiers.{tally}
 use Rattle.base_bounded.proofs.Bools.{clash, lt-or-le, eq-or-not}
-use Rattle.base_bounded.proofs.Tests.{tally-more, tally-same}
+use Rattle.base_bounded.proofs.Quantifiers.{tally-more, tally-same}
 
 module _ (p : ℕ → Bool) where
   tally-up : (n : ℕ) {i : ℕ} → i ≤ n → tally i p ≤ tally n p

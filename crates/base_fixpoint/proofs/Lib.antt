@@ -1,1 +1,1 @@
-pub mod Rounds  -- rounds shrink, come to rest, and leave the greatest set that the condition keeps
+pub mod Approximants  -- rounds shrink, come to rest, and leave the greatest set that the condition keeps

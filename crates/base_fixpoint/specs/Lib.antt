@@ -1,2 +1,2 @@
 pub mod Pairs  -- sets of pairs of states
-pub mod Rounds  -- what a number of rounds leaves of a set
+pub mod Approximants  -- what a number of rounds leaves of a set

@@ -6,8 +6,8 @@ use native.Mathlib.Numerals.{add-one}
 use native.Mathlib.Omega.{arith}
 use lib.ListN.{length, take, drop, set, getD, length-append, take-append-drop}
 use lib.Seq.{length-take-le, take-suc, take-all, set-at, drop-cons, take-at, take-append-seam, drop-append-add, drop-drop, ext-getD, getD-append-add, getD-drop, drop-length}
-use Rattle.base_bounded.specs.Tests.{listed}
-use Rattle.base_bounded.proofs.Tests.{length-listed, getD-listed}
+use Rattle.base_bounded.specs.Quantifiers.{tabulate}
+use Rattle.base_bounded.proofs.Quantifiers.{length-tabulate, getD-tabulate}
 use Rattle.base_outputs.specs.Output.{onFront, overAt}
 
 -- one element more
@@ -66,24 +66,24 @@ front-all new old e = rw (e, drop-length old, append-nil)
 
 -- the numbers of a list, one after the other
 module _ (f : ℕ → ℕ) (old : List ℕ) where
-  pub listed-none : old ≡ onFront (listed 0 f) old
-  unfolding listed
-  listed-none = refl
+  pub tabulate-none : old ≡ onFront (tabulate 0 f) old
+  unfolding tabulate
+  tabulate-none = refl
 
-  pub listed-more : {out : List ℕ} {i v : ℕ} → out ≡ onFront (listed i f) old → v ≡ f i → i < length old → set out i v ≡ onFront (listed (i + 1) f) old
-  unfolding listed
-  listed-more {i = i} e d l =
+  pub tabulate-more : {out : List ℕ} {i v : ℕ} → out ≡ onFront (tabulate i f) old → v ≡ f i → i < length old → set out i v ≡ onFront (tabulate (i + 1) f) old
+  unfolding tabulate
+  tabulate-more {i = i} e d l =
       rw (e, d, add-one)
-      (ap (λ (k : ℕ). set (onFront (listed i f) old) k (f i)) (sym (length-listed f i)) ∙ front-more (listed i f) old (f i) (rw (length-listed f i) l))
+      (ap (λ (k : ℕ). set (onFront (tabulate i f) old) k (f i)) (sym (length-tabulate f i)) ∙ front-more (tabulate i f) old (f i) (rw (length-tabulate f i) l))
 
-  pub listed-done : {out : List ℕ} {i n : ℕ} → out ≡ onFront (listed i f) old → i ≤ n → n ≤ i → out ≡ onFront (listed n f) old
-  listed-done {i = i} {n = n} e l m = let q : n ≡ i = omega arith in rw q e
+  pub tabulate-done : {out : List ℕ} {i n : ℕ} → out ≡ onFront (tabulate i f) old → i ≤ n → n ≤ i → out ≡ onFront (tabulate n f) old
+  tabulate-done {i = i} {n = n} e l m = let q : n ≡ i = omega arith in rw q e
 
 -- a list is its own numbers, one after the other
-pub listed-self : (xs : List ℕ) → listed (length xs) (λ (i : ℕ). getD xs i 0) ≡ xs
-listed-self xs =
-    ext-getD 0 _ xs (length-listed (λ (i : ℕ). getD xs i 0) (length xs))
-    (λ i l. getD-listed (λ (j : ℕ). getD xs j 0) (length xs) (rw (length-listed (λ (j : ℕ). getD xs j 0) (length xs)) at l))
+pub tabulate-self : (xs : List ℕ) → tabulate (length xs) (λ (i : ℕ). getD xs i 0) ≡ xs
+tabulate-self xs =
+    ext-getD 0 _ xs (length-tabulate (λ (i : ℕ). getD xs i 0) (length xs))
+    (λ i l. getD-tabulate (λ (j : ℕ). getD xs j 0) (length xs) (rw (length-tabulate (λ (j : ℕ). getD xs j 0) (length xs)) at l))
 
 -- the elements of a list put at a place, one after the other
 module _ (at : ℕ) (old hs : List ℕ) where

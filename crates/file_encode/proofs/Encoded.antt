@@ -12,7 +12,7 @@ use lib.Dec.{eqb, ltb}
 use Rattle.graph.specs.Hops.{count}
 use Rattle.graph.specs.declared.Shape.{Shape}
 use Rattle.base_bounded.proofs.Bools.{decided, eq-or-not}
-use Rattle.base_bounded.proofs.Tests.{any-at}
+use Rattle.base_bounded.proofs.Quantifiers.{any-at}
 use Rattle.base_outputs.specs.Output.{onFront, overAt}
 use Rattle.file_numbers.specs.Numbers.{number}
 use Rattle.file_lines.specs.LineField.{linesLength, anyLine, lineList}

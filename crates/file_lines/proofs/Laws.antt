@@ -9,9 +9,9 @@ use borrow.Author.Tests.{eq-eqb, eqb-true}
 use lib.ListN.{length, drop}
 use lib.Seq.{drop-drop}
 use lib.Dec.{eqb}
-use Rattle.base_bounded.specs.Tests.{all, any}
+use Rattle.base_bounded.specs.Quantifiers.{all, any}
 use Rattle.base_bounded.proofs.Bools.{clash, not-yes}
-use Rattle.base_bounded.proofs.Tests.{any-never, any-no}
+use Rattle.base_bounded.proofs.Quantifiers.{any-never, any-no}
 use Rattle.graph.specs.Hops.{count, lineAt}
 use Rattle.base_outputs.specs.Output.{overAt}
 use Rattle.file_numbers.specs.Numbers.{numberAt, number}

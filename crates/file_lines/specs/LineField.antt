@@ -7,7 +7,7 @@ use mathlib.Core.Bool.{Bool, true, not, cond}
 use mathlib.Core.List.{List}
 use lib.ListN.{length}
 use lib.Dec.{eqb}
-use Rattle.base_bounded.specs.Tests.{all, any}
+use Rattle.base_bounded.specs.Quantifiers.{all, any}
 use Rattle.graph.specs.Hops.{count, lineAt}
 use Rattle.file_numbers.specs.Numbers.{numberAt, number}
 use Rattle.file_numbers.specs.Parts.{parts}

@@ -7,7 +7,7 @@ use mathlib.Core.Bool.{Bool, true, _&&_}
 use mathlib.Core.List.{List}
 use lib.ListN.{length, getD}
 use lib.Dec.{eqb}
-use Rattle.base_bounded.specs.Tests.{all}
+use Rattle.base_bounded.specs.Quantifiers.{all}
 use Rattle.file_numbers.specs.Numbers.{numberAt}
 use Rattle.file_name_order.specs.declared.Order.{Order}
 use Rattle.file_name_order.specs.declared.Order.the-variants.{Before, Same, After}

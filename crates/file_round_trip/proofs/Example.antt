@@ -4,7 +4,7 @@ use Prim.Native.Nat.{ℕ}
 use mathlib.Core.Path.{_≡_, refl}
 use mathlib.Core.List.{List, [], _∷_}
 use lib.ListN.{length}
-use Rattle.base_bounded.specs.Tests.{all, any, least}
+use Rattle.base_bounded.specs.Quantifiers.{all, any, least}
 use Rattle.graph.specs.Hops.{flat}
 use Rattle.graph.specs.Order.{before}
 use Rattle.graph.specs.Answers.{accepted, refused}

@@ -10,7 +10,7 @@ use native.Mathlib.Omega.{arith}
 use borrow.Author.Tests.{eq-eqb, ne-eqb, eqb-true, lt-ltb}
 use lib.ListN.{length, getD}
 use lib.Dec.{eqb, ltb}
-use Rattle.base_bounded.specs.Tests.{listed}
+use Rattle.base_bounded.specs.Quantifiers.{tabulate}
 use Rattle.graph.specs.Hops.{numberPlace, count, from, label, to, lineAt, linedHop, hopAt, flat}
 use Rattle.graph.specs.Order.{before, Ascending}
 use Rattle.graph.specs.Answers.{most-states, most-labels, most-hops, accepted}
@@ -18,7 +18,7 @@ use Rattle.graph.specs.declared.Hop.{Hop}
 use Rattle.graph_check.specs.Check.{Admitted}
 use Rattle.graph.specs.declared.Shape.{Shape}
 use Rattle.base_bounded.proofs.Bools.{not-no, and-right, or-right, lt-or-le, no-test}
-use Rattle.base_bounded.proofs.Tests.{length-listed, getD-listed, all-at, any-no, any-found, least-is}
+use Rattle.base_bounded.proofs.Quantifiers.{length-tabulate, getD-tabulate, all-at, any-no, any-found, least-is}
 use Rattle.file_lines.specs.LineField.{anyLine}
 use Rattle.file_lines.proofs.Laws.{lined}
 use Rattle.file_hops.specs.Field.{hopsBy}
@@ -96,15 +96,15 @@ nameByte : ℕ → ℕ
 nameByte j = cond (eqb (j % most-name-bytes) 0) longest-name (cond (eqb (j % most-name-bytes) 1) (j / most-name-bytes % 256) (cond (eqb (j % most-name-bytes) 2) (j / most-name-bytes / 256) 0))
 
 pub fullNames : List ℕ
-fullNames = listed (most-name-bytes * most-names) nameByte
+fullNames = tabulate (most-name-bytes * most-names) nameByte
 
 names-long : length fullNames ≡ most-name-bytes * most-names
 unfolding fullNames
-names-long = length-listed nameByte (most-name-bytes * most-names)
+names-long = length-tabulate nameByte (most-name-bytes * most-names)
 
 name-byte : (j : ℕ) → j < most-name-bytes * most-names → getD fullNames j 0 ≡ nameByte j
 unfolding fullNames
-name-byte j l = getD-listed nameByte (most-name-bytes * most-names) l
+name-byte j l = getD-tabulate nameByte (most-name-bytes * most-names) l
 
 module _ (k : ℕ) (l : k < most-names) where
   size-full : getD fullNames (most-name-bytes * k) 0 ≡ longest-name

@@ -9,7 +9,7 @@ use native.Mathlib.Nat.{eq-or-lt-of-le, le-refl}
 use native.Mathlib.Omega.{arith}
 use borrow.Author.Tests.{ltb-true, ltb-false, lt-ltb, le-ltb, not-true, not-false}
 use lib.Dec.{ltb, eqb}
-use Rattle.base_bounded.specs.Tests.{any, all}
+use Rattle.base_bounded.specs.Quantifiers.{any, all}
 use Rattle.graph.specs.Hops.{count, from, hopOf, hopAt, Alike, is, has}
 use Rattle.graph.specs.Order.{before, Ascending}
 use Rattle.graph.specs.Sum.{sumOf, Narrow}
@@ -18,7 +18,7 @@ use Rattle.graph.specs.declared.Hop.{Hop}
 use Rattle.graph.specs.declared.Found.{Found}
 use Rattle.graph.specs.declared.Found.the-variants.{At, Gap}
 use Rattle.base_bounded.proofs.Bools.{clash, decided, not-yes, not-no, no-test, and-left, and-right, same-test, lt-or-le}
-use Rattle.base_bounded.proofs.Tests.{least-is, least-passes, least-before, least-within, any-found, any-no, all-yes}
+use Rattle.base_bounded.proofs.Quantifiers.{least-is, least-passes, least-before, least-within, any-found, any-no, all-yes}
 use Rattle.graph.proofs.Places.{is-alike, alike-is, has-place}
 use Rattle.graph.proofs.Sums.{sum-alike, sums-same}
 use Rattle.graph.proofs.Ordered.{Below, before-below, below-before, before-trans, before-total, before-alike, alike-itself, alike-back, alike-then, alike-not-before, ascending-lt, ascending-place}

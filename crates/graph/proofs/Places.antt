@@ -11,7 +11,7 @@ use lib.Dec.{eqb}
 use Rattle.graph.specs.Hops.{count, from, label, to, linedHop, hopOf, hopAt, noHop, Alike, same, numberPlace, flat, is, labelled, has}
 use Rattle.graph.specs.declared.Hop.{Hop}
 use Rattle.base_bounded.proofs.Bools.{and-yes, and-left, and-right}
-use Rattle.base_bounded.proofs.Tests.{any-found, any-at}
+use Rattle.base_bounded.proofs.Quantifiers.{any-found, any-at}
 
 -- two hops pass the test of being alike exactly when they are
 pub same-alike : (a b : Hop) → same a b ≡ true → Alike a b

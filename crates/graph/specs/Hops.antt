@@ -9,7 +9,7 @@ use mathlib.Core.List.{List, [], _∷_, _++_}
 use lib.ListN.{length, getD, set, take, drop}
 use lib.Dec.{eqb}
 use denote.Ref.{RefT, ptr}
-use Rattle.base_bounded.specs.Tests.{any}
+use Rattle.base_bounded.specs.Quantifiers.{any}
 use Rattle.graph.specs.declared.Hop.{Hop}
 
 -- "four numbers a hop"

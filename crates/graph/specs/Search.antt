@@ -5,7 +5,7 @@ use mathlib.Core.Path.{_≡_}
 use mathlib.Core.Bool.{Bool, true, false, not, _&&_}
 use mathlib.Core.List.{List}
 use lib.Dec.{ltb}
-use Rattle.base_bounded.specs.Tests.{least}
+use Rattle.base_bounded.specs.Quantifiers.{least}
 use Rattle.graph.specs.Hops.{count, hopOf, hopAt, is}
 use Rattle.graph.specs.Order.{before}
 use Rattle.graph.specs.declared.Hop.{Hop}

@@ -11,7 +11,7 @@ use native.Mathlib.Omega.{arith}
 use borrow.Author.Tests.{ltb-true, ltb-false, leb-true, leb-false, eqb-true, lt-ltb, le-ltb, le-leb, lt-leb, eq-eqb, not-true, not-false}
 use lib.ListN.{length}
 use lib.Dec.{eqb, leb, ltb}
-use Rattle.base_bounded.specs.Tests.{least, FirstFailing}
+use Rattle.base_bounded.specs.Quantifiers.{least, FirstFailing}
 use Rattle.graph.specs.Hops.{numbers-a-hop, count, from, label, to, hopAt}
 use Rattle.graph.specs.Order.{before, Ascending}
 use Rattle.graph.specs.Answers.{most-states, most-labels, most-hops, accepted, refused}
@@ -20,7 +20,7 @@ use Rattle.graph.specs.declared.Hop.{Hop}
 use Rattle.graph.specs.declared.Shape.{Shape}
 use Rattle.graph.specs.declared.Answer.{Answer}
 use Rattle.base_bounded.proofs.Bools.{not-yes, and-left, and-right, or-yes, or-right}
-use Rattle.base_bounded.proofs.Tests.{least-is, least-passes, least-before}
+use Rattle.base_bounded.proofs.Quantifiers.{least-is, least-passes, least-before}
 
 -- row 3 of the hop that stands at a place
 pub inside-hop : (sh : Shape) (hs : List ℕ) (i : ℕ) {h : Hop} → h ≡ hopAt hs i →

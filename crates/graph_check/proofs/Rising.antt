@@ -7,12 +7,12 @@ use mathlib.Core.List.{List}
 use native.Mathlib.Omega.{arith}
 use borrow.Author.Tests.{ne-eqb}
 use lib.Dec.{ltb}
-use Rattle.base_bounded.specs.Tests.{least}
+use Rattle.base_bounded.specs.Quantifiers.{least}
 use Rattle.graph.specs.Hops.{count, hopAt}
 use Rattle.graph.specs.Sum.{sumOf, Narrow}
 use Rattle.graph.specs.declared.Hop.{Hop}
 use Rattle.graph_check.specs.Check.{rises, firstFalling}
-use Rattle.base_bounded.proofs.Tests.{least-none, least-more, least-found, least-done}
+use Rattle.base_bounded.proofs.Quantifiers.{least-none, least-more, least-found, least-done}
 use Rattle.graph.proofs.Sums.{sums-before}
 
 module _ (hs : List ℕ) where

@@ -6,7 +6,7 @@ use mathlib.Core.Bool.{Bool, cond, not, _&&_, _||_}
 use mathlib.Core.List.{List}
 use lib.ListN.{length}
 use lib.Dec.{eqb, leb, ltb}
-use Rattle.base_bounded.specs.Tests.{least}
+use Rattle.base_bounded.specs.Quantifiers.{least}
 use Rattle.graph.specs.Hops.{numbers-a-hop, count, whole, from, label, to, hopAt}
 use Rattle.graph.specs.Order.{before, Ascending}
 use Rattle.graph.specs.Answers.{most-states, most-labels, most-hops, accepted, refused}

@@ -12,7 +12,7 @@ use Rattle.graph.specs.Order.{before}
 use Rattle.graph_check.specs.Check.{Admitted}
 use Rattle.graph.specs.declared.Shape.{Shape}
 use Rattle.base_bounded.proofs.Bools.{lt-or-le}
-use Rattle.base_bounded.proofs.Tests.{any-same, tally-same}
+use Rattle.base_bounded.proofs.Quantifiers.{any-same, tally-same}
 use Rattle.graph_find.specs.Finding.{hopsBefore, narrowed}
 
 -- the ways out of `narrow`

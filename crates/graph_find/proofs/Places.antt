@@ -6,12 +6,12 @@ use mathlib.Core.Logic.{⊎-elim}
 use native.Mathlib.Omega.{arith}
 use borrow.Author.Tests.{lt-ltb, le-ltb}
 use lib.Dec.{ltb}
-use Rattle.base_bounded.specs.Tests.{tally}
+use Rattle.base_bounded.specs.Quantifiers.{tally}
 use Rattle.graph.specs.Hops.{count, hopOf}
 use Rattle.graph.specs.Order.{Ascending}
 use Rattle.graph.specs.Search.{lower}
 use Rattle.base_bounded.proofs.Bools.{lt-or-le}
-use Rattle.base_bounded.proofs.Tests.{tally-same}
+use Rattle.base_bounded.proofs.Quantifiers.{tally-same}
 use Rattle.base_bounded.proofs.Tallies.{tally-full}
 use Rattle.graph.proofs.Lookup.{lower-within, lower-law}
 use Rattle.graph_find.specs.Finding.{hopsBefore}

@@ -6,7 +6,7 @@ use mathlib.Core.Bool.{true, false, cond, _&&_}
 use mathlib.Core.List.{List}
 use mathlib.Core.Logic.{_⊎_}
 use lib.Dec.{eqb, ltb}
-use Rattle.base_bounded.specs.Tests.{tally}
+use Rattle.base_bounded.specs.Quantifiers.{tally}
 use Rattle.graph.specs.Hops.{count, hopOf, hopAt, is, has}
 use Rattle.graph.specs.Order.{before}
 use Rattle.graph_check.specs.Check.{checkOf}

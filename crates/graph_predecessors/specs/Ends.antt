@@ -4,17 +4,17 @@ use Prim.Native.Nat.{ℕ, _<_, _≤_}
 use mathlib.Core.Path.{_≡_}
 use mathlib.Core.List.{List}
 use lib.ListN.{getD}
-use Rattle.base_bounded.specs.Slots.{keyed, beginning, slot}
+use Rattle.base_bounded.specs.Slots.{keyCount, keyStart, slot}
 use Rattle.graph.specs.Hops.{count, to}
 use Rattle.graph.specs.Answers.{most-states}
 
 -- a table of how many of the first n hops end in each state
 unfoldable pub Counted : List ℕ → ℕ → List ℕ → Type 0
-Counted hs n es = (s : ℕ) → s ≤ most-states → getD es s 0 ≡ keyed (to hs) n s
+Counted hs n es = (s : ℕ) → s ≤ most-states → getD es s 0 ≡ keyCount (to hs) n s
 
 -- where the hops into s begin in the table: behind all that end in a lower state
 abbrev pub beginOf : List ℕ → ℕ → ℕ
-beginOf hs s = beginning (to hs) (count hs) s
+beginOf hs s = keyStart (to hs) (count hs) s
 
 -- the first table: where the hops into a state begin, for each state that can be, and one past the last
 unfoldable pub Begins : List ℕ → List ℕ → Type 0

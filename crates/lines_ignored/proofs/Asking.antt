@@ -5,7 +5,7 @@ use mathlib.Core.Path.{_≡_}
 use mathlib.Core.Bool.{not, _&&_}
 use mathlib.Core.List.{List}
 use lib.Dec.{eqb}
-use Rattle.base_bounded.specs.Tests.{any, tally, total}
+use Rattle.base_bounded.specs.Quantifiers.{any, tally, total}
 use Rattle.graph.specs.Hops.{hopOf}
 use Rattle.graph.specs.declared.Shape.{Shape}
 use Rattle.graph.proofs.Ordered.{alike-itself, before-alike}

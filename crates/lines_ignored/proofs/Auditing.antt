@@ -4,7 +4,7 @@ use mathlib.Core.Path.{_≡_}
 use mathlib.Core.Bool.{not, _&&_, _||_}
 use mathlib.Core.List.{List}
 use lib.Dec.{eqb}
-use Rattle.base_bounded.specs.Tests.{any, least, tally, total}
+use Rattle.base_bounded.specs.Quantifiers.{any, least, tally, total}
 use Rattle.graph.specs.Map.{mapped}
 use Rattle.graph.specs.declared.Shape.{Shape}
 use Rattle.audit_faults.specs.Faults.{kept, lostFaults, offers, backed, matched, madeUp, madeUpFaults, faultsOf}

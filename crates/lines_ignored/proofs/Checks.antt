@@ -5,7 +5,7 @@ use mathlib.Core.Path.{_≡_}
 use mathlib.Core.Bool.{not, _&&_, _||_}
 use mathlib.Core.List.{List}
 use lib.Dec.{eqb, ltb}
-use Rattle.base_bounded.specs.Tests.{any, least}
+use Rattle.base_bounded.specs.Quantifiers.{any, least}
 use Rattle.graph.specs.Hops.{numbers-a-hop, count, from, label, to, hopOf, same, is, labelled, has}
 use Rattle.graph.specs.declared.Shape.{Shape}
 use Rattle.graph.proofs.Ordered.{before-alike}

@@ -5,11 +5,11 @@ use mathlib.Core.Path.{_≡_, refl}
 use mathlib.Core.Bool.{cond, not, _&&_, _||_}
 use mathlib.Core.List.{List}
 use lib.Dec.{eqb}
-use Rattle.base_bounded.specs.Tests.{all, any, listed}
+use Rattle.base_bounded.specs.Quantifiers.{all, any, tabulate}
 use Rattle.graph.specs.declared.Shape.{Shape}
 use Rattle.lts.specs.Closes.{Reach, nowhere, single, walks, Sense}
 use Rattle.base_fixpoint.specs.Pairs.{Pairs}
-use Rattle.base_fixpoint.specs.Rounds.{leftAfter}
+use Rattle.base_fixpoint.specs.Approximants.{approximant}
 use Rattle.mark_confluence.specs.Rounds.{Trials, closing, answer, hopAnswers, answers, tried, closes, silentHops, survives}
 use Rattle.mark_confluence.specs.Held.{markOf, marksOf}
 use Rattle.mark_senses.specs.Senses.{setAt, comes, takes, meets, takesTo, answersFrom, answeredIn, closesIn, markedIn, markedBy, senseOf}
@@ -38,7 +38,7 @@ module _ {hs hs' : List ℕ} (un : Unlined hs hs') where
   -- the rounds
   pub survives-same : survives hs ≡ survives hs'
   unfolding survives
-  survives-same = λ d. leftAfter (closes-same d) (silent-hops-same d)
+  survives-same = λ d. approximant (closes-same d) (silent-hops-same d)
 
   module _ (n : ℕ) (u : Pairs) where
     set-same : setAt hs u ≡ setAt hs' u
@@ -66,7 +66,7 @@ module _ {hs hs' : List ℕ} (un : Unlined hs hs') where
 
     marked-in-same : (sense : Sense) → markedIn sense sh hs ≡ markedIn sense sh hs'
     unfolding markedIn
-    marked-in-same sense = λ d. leftAfter (closes-in-same sense d) (silent-hops-same d) (count-same un d)
+    marked-in-same sense = λ d. approximant (closes-in-same sense d) (silent-hops-same d) (count-same un d)
 
     module _ (k : ℕ) where
       -- the marked set of each sense
@@ -76,7 +76,7 @@ module _ {hs hs' : List ℕ} (un : Unlined hs hs') where
       -- the marks
       pub marks-same : marksMade sh hs k ≡ marksMade sh hs' k
       unfolding marksOf markOf
-      marks-same = λ d. listed (count-same un d) (λ (i : ℕ). cond (eqb (label-same un i d) 0 && marked-same d (from-same un i d) (to-same un i d)) 1 0)
+      marks-same = λ d. tabulate (count-same un d) (λ (i : ℕ). cond (eqb (label-same un i d) 0 && marked-same d (from-same un i d) (to-same un i d)) 1 0)
 
       -- and what the entry answers and leaves
       module _ (out : List ℕ) where

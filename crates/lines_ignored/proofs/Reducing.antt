@@ -6,7 +6,7 @@ use mathlib.Core.Bool.{cond, not, _&&_}
 use mathlib.Core.List.{List}
 use lib.ListN.{length}
 use lib.Dec.{eqb}
-use Rattle.base_bounded.specs.Tests.{any, least, tally, listed}
+use Rattle.base_bounded.specs.Quantifiers.{any, least, tally, tabulate}
 use Rattle.graph.specs.Hops.{count, Alike, flat}
 use Rattle.graph.specs.declared.Shape.{Shape}
 use Rattle.base_fixpoint.specs.Pairs.{Pairs}
@@ -48,7 +48,7 @@ module _ {hs hs' : List ℕ} (un : Unlined hs hs') {u u' : Pairs} (e : u ≡ u')
 
   list-same : (sh : Shape) → mapList sh hs u ≡ mapList sh hs' u'
   unfolding mapList
-  list-same sh = λ d. listed (sh .states) (map-same sh d)
+  list-same sh = λ d. tabulate (sh .states) (map-same sh d)
 
   shape-same : (sh : Shape) → shortShape sh hs u ≡ shortShape sh hs' u'
   unfolding shortShape

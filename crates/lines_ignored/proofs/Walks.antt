@@ -4,7 +4,7 @@ use mathlib.Core.Path.{_≡_, refl}
 use mathlib.Core.Bool.{Bool, _&&_, _||_}
 use mathlib.Core.List.{List}
 use lib.Dec.{eqb}
-use Rattle.base_bounded.specs.Tests.{any, least}
+use Rattle.base_bounded.specs.Quantifiers.{any, least}
 use Rattle.graph.specs.declared.Shape.{Shape}
 use Rattle.walk_reach.specs.Reaching.{leadsBy}
 use Rattle.walk_silent.specs.Silent.{leads, onRing, lowestOnRing, ringless}

@@ -2,17 +2,17 @@
 -- set of either is one of R8. Assumes nothing.
 use Prim.Native.Nat.{ℕ}
 use Rattle.lts.specs.Star.{Star, stay}
-use Rattle.lts.specs.Closes.{Reach, Via, here, hop, walk, Sense, r1, r2, r3, r8, Closes, SetOf, Greatest, Within, same, more, most, Implies}
-use Rattle.lts.proofs.Star.{one, wider}
+use Rattle.lts.specs.Closes.{Reach, Via, here, hop, walk, Sense, r1, r2, r3, r8, Closes, ConfluentIn, Greatest, ReachLe, same, more, most, Implies}
+use Rattle.lts.proofs.Star.{one, star-mono}
 
 module _ {U W : ℕ → ℕ → Type 0} (f : (s t : ℕ) → U s t → W s t) where
-  pub via-grows : {r : Reach} {s t : ℕ} → Via U r s t → Via W r s t
-  via-grows here = here
-  via-grows (hop {s} {t} u) = hop (f s t u)
-  via-grows (walk p) = walk (wider f p)
+  pub via-mono : {r : Reach} {s t : ℕ} → Via U r s t → Via W r s t
+  via-mono here = here
+  via-mono (hop {s} {t} u) = hop (f s t u)
+  via-mono (walk p) = walk (star-mono f p)
 
-  pub closes-grows : {sense : Sense} {Hop : ℕ → ℕ → ℕ → Type 0} {s1 s2 : ℕ} → Closes sense Hop U s1 s2 → Closes sense Hop W s1 s2
-  closes-grows c a s3 h = let (p, q, s4, x, y, z, w) = c a s3 h in (p, q, s4, via-grows x, y, via-grows z, via-grows w)
+  pub closes-in-mono : {sense : Sense} {Hop : ℕ → ℕ → ℕ → Type 0} {s1 s2 : ℕ} → Closes sense Hop U s1 s2 → Closes sense Hop W s1 s2
+  closes-in-mono c a s3 h = let (p, q, s4, x, y, z, w) = c a s3 h in (p, q, s4, via-mono x, y, via-mono z, via-mono w)
 
 module _ {U : ℕ → ℕ → Type 0} where
   pub via-walk : {r : Reach} {s t : ℕ} → Via U r s t → Star U s t
@@ -20,7 +20,7 @@ module _ {U : ℕ → ℕ → Type 0} where
   via-walk (hop u) = one u
   via-walk (walk p) = p
 
-  via-farther : {r q : Reach} {s t : ℕ} → Within r q → Via U r s t → Via U q s t
+  via-farther : {r q : Reach} {s t : ℕ} → ReachLe r q → Via U r s t → Via U q s t
   via-farther same v = v
   via-farther more here = here
   via-farther most v = walk (via-walk v)
@@ -31,18 +31,18 @@ module _ {U : ℕ → ℕ → Type 0} where
         let (p, q, s4, x, y, z, v) = c a s3 h in
         (p, q, s4, via-farther (k .before) x, y, via-farther (k .after) z, via-farther (k .closing) v)
 
-    pub set-weaker : SetOf sense Hop U → SetOf weaker Hop U
-    set-weaker c = record { silent = c .silent; closed = λ s t u. closes-weaker (c .closed s t u) }
+    pub confluent-weaker : ConfluentIn sense Hop U → ConfluentIn weaker Hop U
+    confluent-weaker c = record { silent = c .silent; closed = λ s t u. closes-weaker (c .closed s t u) }
 
     -- what is marked in a sense is marked in a weaker one
-    pub set-among : {W : ℕ → ℕ → Type 0} → SetOf sense Hop U → Greatest weaker Hop W → (s t : ℕ) → U s t → W s t
-    set-among c greatest = greatest U (set-weaker c)
+    pub confluent-within-greatest : {W : ℕ → ℕ → Type 0} → ConfluentIn sense Hop U → Greatest weaker Hop W → (s t : ℕ) → U s t → W s t
+    confluent-within-greatest c greatest = greatest U (confluent-weaker c)
 
-pub union-set : {sense : Sense} {Hop : ℕ → ℕ → ℕ → Type 0} {I : Type 0} {U : I → ℕ → ℕ → Type 0} →
-    ((i : I) → SetOf sense Hop (U i)) → SetOf sense Hop (λ s t. (i : I) × U i s t)
-union-set c = record {
+pub union-confluent-in : {sense : Sense} {Hop : ℕ → ℕ → ℕ → Type 0} {I : Type 0} {U : I → ℕ → ℕ → Type 0} →
+    ((i : I) → ConfluentIn sense Hop (U i)) → ConfluentIn sense Hop (λ s t. (i : I) × U i s t)
+union-confluent-in c = record {
   silent = λ s t (i, u). c i .silent s t u;
-  closed = λ s t (i, u). closes-grows (λ s t v. (i, v)) (c i .closed s t u);
+  closed = λ s t (i, u). closes-in-mono (λ s t v. (i, v)) (c i .closed s t u);
 }
 
 pub r1→r2 : Implies r1 r2
@@ -52,5 +52,5 @@ pub r1→r3 : Implies r1 r3
 r1→r3 = record { before = most; after = same; closing = same }
 
 -- R2 and R3 imply R8, and so does every sense
-pub weakest : (sense : Sense) → Implies sense r8
-weakest sense = record { before = most; after = most; closing = most }
+pub implies-r8 : (sense : Sense) → Implies sense r8
+implies-r8 sense = record { before = most; after = most; closing = most }

@@ -4,7 +4,7 @@ use mathlib.Core.Path.{_≡_, refl, ap}
 use mathlib.Core.Logic.{_⊎_, inl, inr}
 use Rattle.lts.specs.Star.{Star, stay, go}
 use Rattle.lts.specs.Sense.{Silent}
-use Rattle.lts.specs.Reduction.{Back, Reduces}
+use Rattle.lts.specs.Reduction.{MatchedBack, Reduces}
 use Rattle.lts.proofs.Star.{join}
 
 -- T5. Every hop of graph 1 ends in D1, and f leads from D1 into D2.
@@ -23,7 +23,7 @@ module _
     lift stay s d e = (s, stay, e, d)
     lift {y = y} (go {m = m} h p) s d e = on (lift p) (F .back s 0 m d (rw e h))
       where
-        on : ((s : ℕ) → D1 s → f s ≡ m → Lifted s y) → ((_≡_ {A = ℕ} 0 0) × (f s ≡ m)) ⊎ Back Hop1 f s 0 m → Lifted s y
+        on : ((s : ℕ) → D1 s → f s ≡ m → Lifted s y) → ((_≡_ {A = ℕ} 0 0) × (f s ≡ m)) ⊎ MatchedBack Hop1 f s 0 m → Lifted s y
         on ih (inl (_, e)) = ih s d e
         on ih (inr (v, t, sv, _, k, e)) = let (u, tu, c, b) = ih t (ends v 0 t k) e in (u, join sv (go k tu), c, b)
 
@@ -31,19 +31,19 @@ module _
     fore-on s a t (inl (z, e)) = inl (z, ap g e)
     fore-on s a t (inr h) = G .fore (f s) a (f t) h
 
-    back-on : (s a q : ℕ) → D1 s → ((a ≡ 0) × (g (f s) ≡ q)) ⊎ Back Hop2 g (f s) a q → ((a ≡ 0) × (g (f s) ≡ q)) ⊎ Back Hop1 (λ x. g (f x)) s a q
+    back-on : (s a q : ℕ) → D1 s → ((a ≡ 0) × (g (f s) ≡ q)) ⊎ MatchedBack Hop2 g (f s) a q → ((a ≡ 0) × (g (f s) ≡ q)) ⊎ MatchedBack Hop1 (λ x. g (f x)) s a q
     back-on s a q d (inl x) = inl x
     back-on s a q d (inr (u, t, su, e, h, c)) = on (lift su s d refl)
       where
-        on : Lifted s u → ((a ≡ 0) × (g (f s) ≡ q)) ⊎ Back Hop1 (λ x. g (f x)) s a q
+        on : Lifted s u → ((a ≡ 0) × (g (f s) ≡ q)) ⊎ MatchedBack Hop1 (λ x. g (f x)) s a q
         on (v, sv, i, b) = last (F .back v a t b (rw i h))
           where
-            last : ((a ≡ 0) × (f v ≡ t)) ⊎ Back Hop1 f v a t → ((a ≡ 0) × (g (f s) ≡ q)) ⊎ Back Hop1 (λ x. g (f x)) s a q
+            last : ((a ≡ 0) × (f v ≡ t)) ⊎ MatchedBack Hop1 f v a t → ((a ≡ 0) × (g (f s) ≡ q)) ⊎ MatchedBack Hop1 (λ x. g (f x)) s a q
             last (inl (z, j)) = inl (z, cc)
             last (inr (w, x, vw, j, k, l)) = inr (w, x, join sv vw, cc, k, cc)
 
-    pub composes : Reduces D1 Hop1 Hop3 (λ s. g (f s))
-    composes = record { fore = λ s a t h. fore-on s a t (F .fore s a t h); back = λ s a q d h. back-on s a q d (G .back (f s) a q (into s d) h) }
+    pub reduces-compose : Reduces D1 Hop1 Hop3 (λ s. g (f s))
+    reduces-compose = record { fore = λ s a t h. fore-on s a t (F .fore s a t h); back = λ s a q d h. back-on s a q d (G .back (f s) a q (into s d) h) }
 
 -- a graph is led to itself by each state's own number
 pub Reduces·refl : {D : ℕ → Type 0} {Hop : ℕ → ℕ → ℕ → Type 0} → Reduces D Hop Hop (λ s. s)

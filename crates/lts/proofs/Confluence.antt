@@ -9,12 +9,12 @@ use mathlib.Core.Path.{_≡_, refl, sym, _∙_, subst}
 use mathlib.Core.Logic.{_⊎_, inl, inr, _↔_}
 use Rattle.lts.specs.Star.{Star, stay, go, Joined, same, fore, back}
 use Rattle.lts.specs.Sense.{Normal, Silent}
-use Rattle.lts.specs.Reduction.{Confluent, Rests, Next, Kept}
-use Rattle.lts.proofs.Star.{first, wider, star→joined, Joined·join, Joined·sym}
+use Rattle.lts.specs.Reduction.{Confluent, NormalForms, StepOrNormal, QuotientHop}
+use Rattle.lts.proofs.Star.{first, star-mono, star→joined, Joined·join, Joined·sym}
 
 -- a hop of s labelled a to t is answered by none, or by one of `rep s` that is kept
 abbrev pub Meets : (ℕ → ℕ → ℕ → Type 0) → (ℕ → ℕ) → ℕ → ℕ → ℕ → Type 0
-Meets Hop rep s a t = ((a ≡ 0) × (rep s ≡ rep t)) ⊎ Kept Hop rep (rep s) a (rep t)
+Meets Hop rep s a t = ((a ≡ 0) × (rep s ≡ rep t)) ⊎ QuotientHop Hop rep (rep s) a (rep t)
 
 -- Induction by a rank.
 module _ (rank : ℕ → ℕ) (Q : ℕ → Type 0) (step : (s : ℕ) → ((d : ℕ) → rank d < rank s → Q d) → Q s) where
@@ -31,21 +31,21 @@ still h (go {m = m} u p) = absurd (h m u)
 
 -- T1. The walk from s by the hops that `next` finds, at most k of them.
 module _ (U : ℕ → ℕ → Type 0) where
-  unfoldable pub turn : (ℕ → ℕ) → (s : ℕ) → Next U s → ℕ
-  turn on s (inl (t, _)) = on t
-  turn on s (inr _) = s
+  unfoldable pub stepOrStop : (ℕ → ℕ) → (s : ℕ) → StepOrNormal U s → ℕ
+  stepOrStop on s (inl (t, _)) = on t
+  stepOrStop on s (inr _) = s
 
-module _ {U : ℕ → ℕ → Type 0} (next : (s : ℕ) → Next U s) where
+module _ {U : ℕ → ℕ → Type 0} (next : (s : ℕ) → StepOrNormal U s) where
   unfoldable pub walk : ℕ → ℕ → ℕ
   walk zero s = s
-  walk (suc k) s = turn U (walk k) s (next s)
+  walk (suc k) s = stepOrStop U (walk k) s (next s)
 
   walk-down : (k s : ℕ) → Star U s (walk k s)
-  unfolding walk turn
+  unfolding walk stepOrStop
   walk-down zero s = stay
   walk-down (suc k) s = on (walk-down k) (next s)
     where
-      on : ((t : ℕ) → Star U t (walk k t)) → (x : Next U s) → Star U s (turn U (walk k) s x)
+      on : ((t : ℕ) → Star U t (walk k t)) → (x : StepOrNormal U s) → Star U s (stepOrStop U (walk k) s x)
       on ih (inl (t, u)) = go u (ih t)
       on ih (inr _) = stay
 
@@ -59,25 +59,25 @@ module _ {Hop : ℕ → ℕ → ℕ → Type 0} {U : ℕ → ℕ → Type 0} (co
   sinks stay = omega arith
   sinks (go u p) = omega (arith, sinks p, U-falls u)
 
-  module _ (next : (s : ℕ) → Next U s) where
+  module _ (next : (s : ℕ) → StepOrNormal U s) where
     walk-rest : (k s : ℕ) → rank s ≤ k → Normal U (walk next k s)
-    unfolding walk turn
+    unfolding walk stepOrStop
     walk-rest zero s l = λ t u. absurd (omega (arith, U-falls u))
     walk-rest (suc k) s l = on (walk-rest k) (next s)
       where
-        on : ((t : ℕ) → rank t ≤ k → Normal U (walk next k t)) → (x : Next U s) → Normal U (turn U (walk next k) s x)
+        on : ((t : ℕ) → rank t ≤ k → Normal U (walk next k t)) → (x : StepOrNormal U s) → Normal U (stepOrStop U (walk next k) s x)
         on ih (inl (t, u)) = ih t (omega (arith, U-falls u))
         on ih (inr h) = h
 
     unfoldable pub rep : ℕ → ℕ
     rep s = walk next (rank s) s
 
-    pub rep-rests : Rests U rep
+    pub rep-rests : NormalForms U rep
     unfolding rep
     rep-rests = record { down = λ s. walk-down next (rank s) s; rest = λ s. walk-rest (rank s) s (omega arith) }
 
-  module _ {rep : ℕ → ℕ} (rests : Rests U rep) where
-    open Rests rests using (down, rest)
+  module _ {rep : ℕ → ℕ} (rests : NormalForms U rep) where
+    open NormalForms rests using (down, rest)
 
     pub rep-normal : {n : ℕ} → Normal U n → rep n ≡ n
     rep-normal {n} h = sym (still h (down n))
@@ -214,8 +214,8 @@ module _ {Hop : ℕ → ℕ → ℕ → Type 0} {U : ℕ → ℕ → Type 0} (co
     forward s a t h = sim (λ _. Unit {0}) (λ s _. flat s) (λ _ _ _ _. tt) a (λ _ _ _ _. tt) s tt t h
 
     -- what is left has no silent ring either, by the same rank: it can be reduced again
-    pub kept-falls : (n m : ℕ) → Kept Hop rep n 0 m → rank m < rank n
-    kept-falls n m (t, h, e) = rw (← e) (omega (arith, sinks (down t), falls n t h))
+    pub quotient-rank-falls : (n m : ℕ) → QuotientHop Hop rep n 0 m → rank m < rank n
+    quotient-rank-falls n m (t, h, e) = rw (← e) (omega (arith, sinks (down t), falls n t h))
 
     pub backward : (s a t : ℕ) → Hop (rep s) a t → (u : ℕ) × Star (Silent Hop) s u × (rep u ≡ rep s) × Hop u a t
-    backward s a t h = (rep s, wider silent (down s), rep-normal (rest s), h)
+    backward s a t h = (rep s, star-mono silent (down s), rep-normal (rest s), h)

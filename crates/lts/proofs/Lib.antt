@@ -3,6 +3,6 @@ pub mod Closes  -- the condition grows with the set and with the sense; each sen
 pub mod SenseForms  -- the one condition says what each sense says
 pub mod Confluence  -- one representative a class, and that reducing loses nothing
 pub mod Compose  -- maps that keep branching bisimilarity compose
-pub mod Left  -- what a reduction leaves keeps branching bisimilarity and has no silent ring
+pub mod Renumbered  -- what a reduction leaves keeps branching bisimilarity and has no silent ring
 pub mod Once  -- under R8 what a reduction leaves has no hop in any set of R8
 pub mod Branching  -- such maps and branching bisimulations

@@ -32,6 +32,6 @@ module _ {R : ℕ → ℕ → Type 0} where
   star→joined (go r p) = fore r (star→joined p)
 
 -- a star of one relation is a star of any that contains it
-pub wider : {R Q : ℕ → ℕ → Type 0} → ((s t : ℕ) → R s t → Q s t) → {s t : ℕ} → Star R s t → Star Q s t
-wider f stay = stay
-wider f (go {s} {m} r p) = go (f s m r) (wider f p)
+pub star-mono : {R Q : ℕ → ℕ → Type 0} → ((s t : ℕ) → R s t → Q s t) → {s t : ℕ} → Star R s t → Star Q s t
+star-mono f stay = stay
+star-mono f (go {s} {m} r p) = go (f s m r) (star-mono f p)

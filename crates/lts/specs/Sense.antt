@@ -15,8 +15,8 @@ Silent Hop s t = Hop s 0 t
 
 module _ (Hop : ℕ → ℕ → ℕ → Type 0) (U : ℕ → ℕ → Type 0) where
   -- s answers a hop labelled a by one that leads to t, or, if a is silent, by none
-  abbrev pub Answer : ℕ → ℕ → ℕ → Type 0
-  Answer s a t = Hop s a t ⊎ ((a ≡ 0) × (t ≡ s))
+  abbrev pub HopOrStay : ℕ → ℕ → ℕ → Type 0
+  HopOrStay s a t = Hop s a t ⊎ ((a ≡ 0) × (t ≡ s))
 
   -- at most one hop of U
   abbrev pub Upto : ℕ → ℕ → Type 0
@@ -24,15 +24,15 @@ module _ (Hop : ℕ → ℕ → ℕ → Type 0) (U : ℕ → ℕ → Type 0) whe
 
   -- strong confluence, the sense of document 01
   abbrev pub R1 : Type 0
-  R1 = (s1 s2 : ℕ) → U s1 s2 → (a s3 : ℕ) → Hop s1 a s3 → (s4 : ℕ) × Answer s2 a s4 × Upto s3 s4
+  R1 = (s1 s2 : ℕ) → U s1 s2 → (a s3 : ℕ) → Hop s1 a s3 → (s4 : ℕ) × HopOrStay s2 a s4 × Upto s3 s4
 
   -- after the answering hop, zero or more hops of U
   abbrev pub R2 : Type 0
-  R2 = (s1 s2 : ℕ) → U s1 s2 → (a s3 : ℕ) → Hop s1 a s3 → (s4 : ℕ) × (q : ℕ) × Answer s2 a q × Star U q s4 × Upto s3 s4
+  R2 = (s1 s2 : ℕ) → U s1 s2 → (a s3 : ℕ) → Hop s1 a s3 → (s4 : ℕ) × (q : ℕ) × HopOrStay s2 a q × Star U q s4 × Upto s3 s4
 
   -- zero or more hops of U before the answering hop
   abbrev pub R3 : Type 0
-  R3 = (s1 s2 : ℕ) → U s1 s2 → (a s3 : ℕ) → Hop s1 a s3 → (s4 : ℕ) × (p : ℕ) × Star U s2 p × Answer p a s4 × Upto s3 s4
+  R3 = (s1 s2 : ℕ) → U s1 s2 → (a s3 : ℕ) → Hop s1 a s3 → (s4 : ℕ) × (p : ℕ) × Star U s2 p × HopOrStay p a s4 × Upto s3 s4
 
   -- both, and s3 comes to s4 by zero or more hops of U too: R8
   abbrev pub Weak : Type 0

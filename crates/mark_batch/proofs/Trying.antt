@@ -11,7 +11,7 @@ use lib.ListN.{getD, drop}
 use lib.Dec.{eqb, ltb}
 use borrow.Author.Tests.{eqb-true, eq-eqb, lt-ltb, ltb-true}
 use Rattle.base_bounded.proofs.Bools.{and-yes, and-left, and-right, lt-or-le}
-use Rattle.base_bounded.proofs.Tests.{all-at, all-yes, any-found}
+use Rattle.base_bounded.proofs.Quantifiers.{all-at, all-yes, any-found}
 use Rattle.base_outputs.specs.Output.{onFront}
 use Rattle.graph.specs.Hops.{count, from, label, to, is, has}
 use Rattle.graph.specs.Order.{Ascending}
@@ -28,7 +28,7 @@ use Rattle.mark_senses.proofs.Tests.{closes-says, closes-yes}
 use Rattle.mark_senses.proofs.Marked.{in-kept, in-same}
 use Rattle.mark_sweeps.specs.Sweep.{markCount, Marking, Swept}
 use Rattle.mark_sweeps.proofs.Settling.{settled-marks}
-use Rattle.base_bitset.specs.Bits.{inTable, word-bits}
+use Rattle.base_bitset.specs.Bits.{bitIn, word-bits}
 use Rattle.mark_batch_spread.specs.Spread.{Back, Forth}
 use Rattle.mark_batch_tables.specs.Trials.{Keyed, Answering}
 use Rattle.mark_batch_filter.specs.Judged.{fits, Judged}
@@ -37,17 +37,17 @@ use Rattle.mark_batch.specs.Batch.{Anything, AnsweredAt, TriedIn}
 -- a reach that leads nowhere leaves a table as it is
 pub back-nowhere : (U : ℕ → ℕ → Type 0) (ws : List ℕ) → Back U nowhere ws ws
 back-nowhere U ws s b = ((λ e. (s, here, e)), (λ (t, v, e). same v e)) where
-  same : {t : ℕ} → Via U nowhere s t → inTable ws t b ≡ true → inTable ws s b ≡ true
+  same : {t : ℕ} → Via U nowhere s t → bitIn ws t b ≡ true → bitIn ws s b ≡ true
   same here e = e
 
 -- bit b of a table by a key
 module _ (key : ℕ → ℕ) (base m : ℕ) (table : List ℕ) (k : Keyed key base m table) where
-  keyed-says : (s b : ℕ) → inTable table s b ≡ true → (b < m) × (key (base + b) ≡ s)
+  keyed-says : (s b : ℕ) → bitIn table s b ≡ true → (b < m) × (key (base + b) ≡ s)
   keyed-says s b e =
       let h : (ltb b m && eqb (key (base + b)) s) ≡ true = sym (k s b) ∙ e in
       (ltb-true b m (and-left (ltb b m) (eqb (key (base + b)) s) h), eqb-true (key (base + b)) s (and-right (ltb b m) (eqb (key (base + b)) s) h))
 
-  keyed-yes : (b : ℕ) → b < m → inTable table (key (base + b)) b ≡ true
+  keyed-yes : (b : ℕ) → b < m → bitIn table (key (base + b)) b ≡ true
   keyed-yes b l = k (key (base + b)) b ∙ and-yes (lt-ltb b m l) (eq-eqb (key (base + b)) (key (base + b)) refl)
 
 -- the tables of a batch
@@ -65,7 +65,7 @@ pub record Tables (sense : Sense) (hs : List ℕ) (U : ℕ → ℕ → Type 0) (
   pub answers-are : Back U (sense .before) taken answers
 
 module _ {sense : Sense} {hs : List ℕ} {U : ℕ → ℕ → Type 0} {base m : ℕ} {answers : List ℕ} (t : Tables sense hs U base m answers) where
-  pub answers-say : (p b : ℕ) → inTable answers p b ≡ true → Answered sense (HopOf hs) U p (label hs (base + b)) (to hs (base + b))
+  pub answers-say : (p b : ℕ) → bitIn answers p b ≡ true → Answered sense (HopOf hs) U p (label hs (base + b)) (to hs (base + b))
   answers-say s2 b e =
       let (p, x, h) = t .answers-are s2 b .0 e in
       let (a, q, y, l, k) = t .taken-are p b .0 h in
@@ -75,7 +75,7 @@ module _ {sense : Sense} {hs : List ℕ} {U : ℕ → ℕ → Type 0} {base m : 
       let (_, j) = keyed-says (to hs) base m (t .ends) (t .ends-are) s3 b g in
       rw (i, j) (p, q, s4, x, y, z, w)
 
-  pub answers-yes : (p b : ℕ) → b < m → Answered sense (HopOf hs) U p (label hs (base + b)) (to hs (base + b)) → inTable answers p b ≡ true
+  pub answers-yes : (p b : ℕ) → b < m → Answered sense (HopOf hs) U p (label hs (base + b)) (to hs (base + b)) → bitIn answers p b ≡ true
   answers-yes s2 b l (p, q, s4, x, y, z, w) =
       t .answers-are s2 b .1 (
         p,
@@ -100,17 +100,17 @@ module _ (sense : Sense) (sh : Shape) (hs ms : List ℕ) (k : Marking hs (marked
       let b : ℕ = j - base in
       let l : b < m = omega arith in
       let here : base + b ≡ j = omega arith in
-      let own : inTable froms (from hs i) b ≡ true = rw (← q) (rw here at (keyed-yes (from hs) base m froms f b l)) in
-      let has : inTable answers (to hs i) b ≡ true =
-      or-second own (all-at (λ (b : ℕ). not (inTable froms (from hs i) b) || inTable answers (to hs i) b) word-bits e (omega arith)) in
+      let own : bitIn froms (from hs i) b ≡ true = rw (← q) (rw here at (keyed-yes (from hs) base m froms f b l)) in
+      let has : bitIn answers (to hs i) b ≡ true =
+      or-second own (all-at (λ (b : ℕ). not (bitIn froms (from hs i) b) || bitIn answers (to hs i) b) word-bits e (omega arith)) in
       rw here at (answers-say t (to hs i) b has) where
         or-second : {x y : Bool} → x ≡ true → (not x || y) ≡ true → y ≡ true
         or-second {x} {y} p h = rw p at h
 
   fits-yes : (i : ℕ) → ((j : ℕ) → base ≤ j → j < base + m → from hs j ≡ from hs i → AnsweredAt sense hs ms i j) → fits hs froms answers i ≡ true
   unfolding fits
-  fits-yes i g = all-yes (λ (b : ℕ). not (inTable froms (from hs i) b) || inTable answers (to hs i) b) word-bits (λ b l. by b (inTable froms (from hs i) b) refl) where
-    by : (b : ℕ) (x : Bool) → inTable froms (from hs i) b ≡ x → (not x || inTable answers (to hs i) b) ≡ true
+  fits-yes i g = all-yes (λ (b : ℕ). not (bitIn froms (from hs i) b) || bitIn answers (to hs i) b) word-bits (λ b l. by b (bitIn froms (from hs i) b) refl) where
+    by : (b : ℕ) (x : Bool) → bitIn froms (from hs i) b ≡ x → (not x || bitIn answers (to hs i) b) ≡ true
     by b false e = refl
     by b true e =
         let (l, q) = keyed-says (from hs) base m froms f (from hs i) b e in

@@ -10,9 +10,9 @@ use borrow.Author.Tests.{eq-eqb, ne-eqb}
 use lib.ListN.{length, getD, set, drop, length-set}
 use lib.Dec.{eqb}
 use lib.Seq.{getD-set-same, getD-set-other, drop-set-lt}
-use Rattle.base_bounded.specs.Tests.{tally}
+use Rattle.base_bounded.specs.Quantifiers.{tally}
 use Rattle.base_bounded.proofs.Bools.{clash, eq-or-not, not-yes, not-no, and-yes, and-left, and-no-left, and-no-right}
-use Rattle.base_bounded.proofs.Tests.{tally-less, tally-within}
+use Rattle.base_bounded.proofs.Quantifiers.{tally-less, tally-within}
 use Rattle.graph.specs.Hops.{count}
 use Rattle.mark_confluence.specs.Held.{isMarked}
 use Rattle.mark_batch_filter.specs.Judged.{fits, falls, Judged}

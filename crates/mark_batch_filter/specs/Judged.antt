@@ -5,14 +5,14 @@ use mathlib.Core.Path.{_≡_}
 use mathlib.Core.Bool.{Bool, not, cond, _&&_, _||_}
 use mathlib.Core.List.{List}
 use lib.ListN.{length, getD, drop}
-use Rattle.base_bounded.specs.Tests.{all, tally}
+use Rattle.base_bounded.specs.Quantifiers.{all, tally}
 use Rattle.graph.specs.Hops.{count, from, to}
 use Rattle.mark_confluence.specs.Held.{isMarked}
-use Rattle.base_bitset.specs.Bits.{inTable, word-bits}
+use Rattle.base_bitset.specs.Bits.{bitIn, word-bits}
 
 -- every bit that the state which the hop at place i leaves has in `froms`, the state that it leads to has in `answers`
 unfoldable pub fits : List ℕ → List ℕ → List ℕ → ℕ → Bool
-fits hs froms answers i = all word-bits (λ (b : ℕ). not (inTable froms (from hs i) b) || inTable answers (to hs i) b)
+fits hs froms answers i = all word-bits (λ (b : ℕ). not (bitIn froms (from hs i) b) || bitIn answers (to hs i) b)
 
 -- the hop at place i is marked and does not fit
 abbrev pub falls : List ℕ → List ℕ → List ℕ → List ℕ → ℕ → Bool

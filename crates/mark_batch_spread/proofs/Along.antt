@@ -16,7 +16,7 @@ use Rattle.lts.specs.Closes.{Reach, single, walks}
 use Rattle.mark_confluence.specs.Held.{isMarked, heldBy}
 use Rattle.mark_confluence.proofs.Held.{held-says, held-yes}
 use Rattle.walk_topological_order.specs.Line.{Line}
-use Rattle.base_bitset.specs.Bits.{inTable}
+use Rattle.base_bitset.specs.Bits.{bitIn}
 use Rattle.base_bitset.proofs.Laws.{table-or, word-of}
 use Rattle.mark_batch_spread.specs.Spread.{Back, Forth}
 use Rattle.mark_batch_spread.specs.Given.{given}
@@ -88,7 +88,7 @@ length-given ws g t e = ap length e ∙ simp length-set
 pub given-gave : (ws : List ℕ) (giver taker : ℕ → ℕ) {i p g t : ℕ} {next : List ℕ} → i ≡ p → g ≡ giver i → t ≡ taker i → t < length ws →
     next ≡ given ws g t → Gave (giver p) (taker p) ws next
 given-gave ws giver taker {i} {p} {g} {t} q f h l e z b =
-    rw (← q, ← f, ← h, e) (table-or ws t (getD ws g 0) z b l ∙ ap (λ (x : Bool). inTable ws z b || (eqb z t && x)) (word-of ws g b))
+    rw (← q, ← f, ← h, e) (table-or ws t (getD ws g 0) z b l ∙ ap (λ (x : Bool). bitIn ws z b || (eqb z t && x)) (word-of ws g b))
 
 module _ (hs ms line : List ℕ) where
   -- the line's hop at k, and whether it is marked

@@ -10,9 +10,9 @@ use borrow.Author.Tests.{eqb-true, eq-eqb}
 use Rattle.base_bounded.proofs.Bools.{and-yes, and-left, and-right, or-left, or-right, or-yes}
 use Rattle.lts.specs.Star.{Star, stay, go}
 use Rattle.lts.specs.Closes.{Reach, single, walks, Via, here, hop, walk}
-use Rattle.lts.proofs.Star.{one, join, wider}
-use Rattle.lts.proofs.Closes.{via-grows, via-walk}
-use Rattle.base_bitset.specs.Bits.{inTable}
+use Rattle.lts.proofs.Star.{one, join, star-mono}
+use Rattle.lts.proofs.Closes.{via-mono, via-walk}
+use Rattle.base_bitset.specs.Bits.{bitIn}
 use Rattle.mark_batch_spread.specs.Spread.{Back, Forth}
 
 -- the steps E are D and one more, from g to t
@@ -29,7 +29,7 @@ record Further (D E : ℕ → ℕ → Type 0) (r : Reach) (g t : ℕ) : Type 0 w
 
 -- the table `next` is `now` with what g has given to t as well
 abbrev pub Gave : ℕ → ℕ → List ℕ → List ℕ → Type 0
-Gave g t now next = (z b : ℕ) → inTable next z b ≡ (inTable now z b || (eqb z t && inTable now g b))
+Gave g t now next = (z b : ℕ) → bitIn next z b ≡ (bitIn now z b || (eqb z t && bitIn now g b))
 
 -- along the hops turned round
 module _ {D E : ℕ → ℕ → Type 0} (f : (x y : ℕ) → D x y → E y x) where
@@ -46,8 +46,8 @@ module _ {D E : ℕ → ℕ → Type 0} (f : (x y : ℕ) → D x y → E y x) wh
 module _ {D E : ℕ → ℕ → Type 0} {r : Reach} (old new : List ℕ) where
   pub forth-same : ((x y : ℕ) → D x y → E x y) → ((x y : ℕ) → E x y → D x y) → Forth D r old new → Forth E r old new
   forth-same into back h t b = (
-    λ e. let (s, v, o) = h t b .0 e in (s, via-grows into v, o),
-    λ (s, v, o). h t b .1 (s, via-grows back v, o),
+    λ e. let (s, v, o) = h t b .0 e in (s, via-mono into v, o),
+    λ (s, v, o). h t b .1 (s, via-mono back v, o),
   )
 
   pub forth-back : ((x y : ℕ) → D x y → E y x) → ((x y : ℕ) → E x y → D y x) → Forth D r old new → Back E r old new
@@ -80,8 +80,8 @@ module _ {D E : ℕ → ℕ → Type 0} {g t : ℕ} (m : More D E g t) where
 
     walks-further : Further D E walks g t
     walks-further = record {
-      kept = via-grows (m .kept);
-      new = λ v. walk (join (wider (m .kept) (via-walk v)) (one (m .new)));
+      kept = via-mono (m .kept);
+      new = λ v. walk (join (star-mono (m .kept) (via-walk v)) (one (m .new)));
       only = λ v. ⊎-elim (λ q. inl (walk q)) (λ (q, w). inr (walk q, w)) (split (via-walk v));
     }
 
@@ -96,24 +96,24 @@ module _ {D E : ℕ → ℕ → Type 0} {g t : ℕ} (m : More D E g t) where
     only-hop (hop {s} {t = z} e) = ⊎-elim (λ d. inl (hop d)) (λ (a, w). inr (rw a here, w)) (m .only s z e)
 
     single-further : Further D E single g t
-    single-further = record { kept = via-grows (m .kept); new = new-hop; only = only-hop }
+    single-further = record { kept = via-mono (m .kept); new = new-hop; only = only-hop }
 
 module _ {D E : ℕ → ℕ → Type 0} {r : Reach} {g t : ℕ} (f : Further D E r g t) (old now next : List ℕ) (gave : Gave g t now next) where
   forth-more : Forth D r old now → Forth E r old next
   forth-more h z b = (into, back) where
-    into : inTable next z b ≡ true → (s : ℕ) × Via E r s z × (inTable old s b ≡ true)
+    into : bitIn next z b ≡ true → (s : ℕ) × Via E r s z × (bitIn old s b ≡ true)
     into e =
         ⊎-elim (λ w. let (s, v, o) = h z b .0 w in (s, f .kept v, o))
-        (λ w. taken (eqb-true z t (and-left (eqb z t) (inTable now g b) w)) (and-right (eqb z t) (inTable now g b) w))
-        (or-yes (inTable now z b) (eqb z t && inTable now g b) (sym (gave z b) ∙ e)) where
-          taken : z ≡ t → inTable now g b ≡ true → (s : ℕ) × Via E r s z × (inTable old s b ≡ true)
+        (λ w. taken (eqb-true z t (and-left (eqb z t) (bitIn now g b) w)) (and-right (eqb z t) (bitIn now g b) w))
+        (or-yes (bitIn now z b) (eqb z t && bitIn now g b) (sym (gave z b) ∙ e)) where
+          taken : z ≡ t → bitIn now g b ≡ true → (s : ℕ) × Via E r s z × (bitIn old s b ≡ true)
           taken q e = let (s, v, o) = h g b .0 e in (s, rw q (f .new v), o)
 
-    back : (s : ℕ) × Via E r s z × (inTable old s b ≡ true) → inTable next z b ≡ true
+    back : (s : ℕ) × Via E r s z × (bitIn old s b ≡ true) → bitIn next z b ≡ true
     back (s, v, o) =
         gave z b ∙
-        ⊎-elim (λ w. or-left (eqb z t && inTable now g b) (h z b .1 (s, w, o)))
-        (λ (w, e). or-right (inTable now z b) (and-yes (eq-eqb z t e) (h g b .1 (s, w, o)))) (f .only v)
+        ⊎-elim (λ w. or-left (eqb z t && bitIn now g b) (h z b .1 (s, w, o)))
+        (λ (w, e). or-right (bitIn now z b) (and-yes (eq-eqb z t e) (h g b .1 (s, w, o)))) (f .only v)
 
 module _ {D E : ℕ → ℕ → Type 0} {g t : ℕ} (m : More D E g t) (old now next : List ℕ) (gave : Gave g t now next) where
   pub walks-more : ((y : ℕ) → E t y → ⊥) → Forth D walks old now → Forth E walks old next

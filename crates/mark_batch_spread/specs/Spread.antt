@@ -6,12 +6,12 @@ use mathlib.Core.Bool.{true}
 use mathlib.Core.List.{List}
 use mathlib.Core.Logic.{_↔_}
 use Rattle.lts.specs.Closes.{Reach, Via}
-use Rattle.base_bitset.specs.Bits.{inTable}
+use Rattle.base_bitset.specs.Bits.{bitIn}
 
 -- a state has afterwards what those that it comes to had before
 abbrev pub Back : (ℕ → ℕ → Type 0) → Reach → List ℕ → List ℕ → Type 0
-Back U r old new = (s b : ℕ) → (inTable new s b ≡ true) ↔ ((t : ℕ) × Via U r s t × (inTable old t b ≡ true))
+Back U r old new = (s b : ℕ) → (bitIn new s b ≡ true) ↔ ((t : ℕ) × Via U r s t × (bitIn old t b ≡ true))
 
 -- a state has afterwards what those that come to it had before
 abbrev pub Forth : (ℕ → ℕ → Type 0) → Reach → List ℕ → List ℕ → Type 0
-Forth U r old new = (t b : ℕ) → (inTable new t b ≡ true) ↔ ((s : ℕ) × Via U r s t × (inTable old s b ≡ true))
+Forth U r old new = (t b : ℕ) → (bitIn new t b ≡ true) ↔ ((s : ℕ) × Via U r s t × (bitIn old s b ≡ true))

@@ -11,18 +11,18 @@ use lib.Bits.{bitAnd, bitOr}
 use lib.Dec.{eqb}
 use lib.ListN.{length, getD, set}
 use lib.Seq.{getD-set-same, getD-set-other}
-use Rattle.base_bounded.specs.Tests.{any}
+use Rattle.base_bounded.specs.Quantifiers.{any}
 use Rattle.base_bounded.proofs.Bools.{lt-or-le, eq-or-not, and-yes, and-left, and-right, and-no-left, or-left, or-right, or-yes}
-use Rattle.base_bounded.proofs.Tests.{any-found, any-at}
+use Rattle.base_bounded.proofs.Quantifiers.{any-found, any-at}
 use Rattle.graph.specs.Hops.{count, from, label, to}
 use Rattle.graph.proofs.Places.{has-place, place-has}
 use Rattle.walk_silent.specs.Silent.{HopOf}
-use Rattle.base_bitset.specs.Bits.{inTable, bitAt}
+use Rattle.base_bitset.specs.Bits.{bitIn, bitAt}
 use Rattle.base_bitset.proofs.Laws.{bit-and, table-or, table-out, word-of, or-nothing}
 use Rattle.mark_batch_tables.specs.Trials.{Still, Answering}
 
 -- two words cut, as tables have them
-cut-of : (xs ys : List ℕ) (s t b : ℕ) → bitAt (bitAnd (getD xs s 0) (getD ys t 0)) b ≡ (inTable xs s b && inTable ys t b)
+cut-of : (xs ys : List ℕ) (s t b : ℕ) → bitAt (bitAnd (getD xs s 0) (getD ys t 0)) b ≡ (bitIn xs s b && bitIn ys t b)
 cut-of xs ys s t b = bit-and (getD xs s 0) (getD ys t 0) b ∙ ap₂ _&&_ (word-of xs s b) (word-of ys t b)
 
 -- staying: the first i words are done
@@ -40,22 +40,22 @@ stayed-more {ends} {out} {silent} {i} h l = record { word = λ p k. go p k (eq-o
 
 pub stayed-all : (labels : List ℕ) {ends out : List ℕ} {n : ℕ} → length ends ≡ n → length out ≡ n → Stayed ends (getD labels 0 0) n out → Still labels ends out
 stayed-all labels {ends} {out} {n} d e h p b = go (lt-or-le p n) where
-  go : (p < n) ⊎ (n ≤ p) → inTable out p b ≡ (inTable ends p b && inTable labels 0 b)
+  go : (p < n) ⊎ (n ≤ p) → bitIn out p b ≡ (bitIn ends p b && bitIn labels 0 b)
   go (inl l) = sym (word-of out p b) ∙ ap (λ (w : ℕ). bitAt w b) (h .word p l) ∙ cut-of ends labels p 0 b
-  go (inr l) = table-out out p b (omega arith) ∙ sym (and-no-left (inTable labels 0 b) (table-out ends p b (omega arith)))
+  go (inr l) = table-out out p b (omega arith) ∙ sym (and-no-left (bitIn labels 0 b) (table-out ends p b (omega arith)))
 
 module _ (hs labels ends : List ℕ) where
   -- p answers by the hop at place j
   unfoldable pub by : ℕ → ℕ → ℕ → Bool
-  by p b j = eqb p (from hs j) && (inTable ends (to hs j) b && inTable labels (label hs j) b)
+  by p b j = eqb p (from hs j) && (bitIn ends (to hs j) b && bitIn labels (label hs j) b)
 
   -- staying, or by one of the first i hops
   pub record Answered (i : ℕ) (out : List ℕ) : Type 0 where
-    pub bit : (p b : ℕ) → inTable out p b ≡ ((inTable ends p b && inTable labels 0 b) || any i (by p b))
+    pub bit : (p b : ℕ) → bitIn out p b ≡ ((bitIn ends p b && bitIn labels 0 b) || any i (by p b))
 
   pub answered-none : (out : List ℕ) → Still labels ends out → Answered 0 out
   unfolding any
-  answered-none out h = record { bit = λ p b. h p b ∙ sym (or-nothing (inTable ends p b && inTable labels 0 b)) }
+  answered-none out h = record { bit = λ p b. h p b ∙ sym (or-nothing (bitIn ends p b && bitIn labels 0 b)) }
 
   shuffle : (x y z : Bool) → ((x || y) || z) ≡ (x || (z || y))
   shuffle true y z = refl
@@ -67,18 +67,18 @@ module _ (hs labels ends : List ℕ) where
       Answered (i + 1) (set out f (bitOr (getD out f 0) (bitAnd (getD ends t 0) (getD labels a 0))))
   unfolding any by
   answered-more {i} {out} h {f} {t} {a} ef et ea l = record { bit = turn } where
-    turn : (p b : ℕ) → inTable (set out f (bitOr (getD out f 0) (bitAnd (getD ends t 0) (getD labels a 0)))) p b ≡
-        ((inTable ends p b && inTable labels 0 b) || any (i + 1) (by p b))
+    turn : (p b : ℕ) → bitIn (set out f (bitOr (getD out f 0) (bitAnd (getD ends t 0) (getD labels a 0)))) p b ≡
+        ((bitIn ends p b && bitIn labels 0 b) || any (i + 1) (by p b))
     turn p b =
         table-or out f (bitAnd (getD ends t 0) (getD labels a 0)) p b l
         ∙ ap₂ _||_ (h .bit p b) (ap (λ (x : Bool). eqb p f && x) (cut-of ends labels t a b))
-        ∙ shuffle (inTable ends p b && inTable labels 0 b) (any i (by p b)) (eqb p f && (inTable ends t b && inTable labels a b))
+        ∙ shuffle (bitIn ends p b && bitIn labels 0 b) (any i (by p b)) (eqb p f && (bitIn ends t b && bitIn labels a b))
         ∙ rw (add-one, ef, et, ea)
 
   -- what it says of one state and bit, in the words of the definition
   module _ (p b : ℕ) where
     abbrev Some : Type 0
-    Some = (a : ℕ) × (q : ℕ) × (HopOf hs p a q ⊎ ((a ≡ 0) × (q ≡ p))) × (inTable labels a b ≡ true) × (inTable ends q b ≡ true)
+    Some = (a : ℕ) × (q : ℕ) × (HopOf hs p a q ⊎ ((a ≡ 0) × (q ≡ p))) × (bitIn labels a b ≡ true) × (bitIn ends q b ≡ true)
 
     by-some : (j : ℕ) → j < count hs → by p b j ≡ true → Some
     unfolding by
@@ -87,21 +87,21 @@ module _ (hs labels ends : List ℕ) where
           label hs j,
           to hs j,
           inl (place-has hs p (label hs j) (to hs j) (record { at = j; within = l; from-is = sym (eqb-true _ _ (and-left (eqb p (from hs j)) _ e)); label-is = refl; to-is = refl })),
-          and-right (inTable ends (to hs j) b) _ rest,
-          and-left (inTable ends (to hs j) b) _ rest,
+          and-right (bitIn ends (to hs j) b) _ rest,
+          and-left (bitIn ends (to hs j) b) _ rest,
         )
 
-    some-there : ((inTable ends p b && inTable labels 0 b) ≡ true) ⊎ (any (count hs) (by p b) ≡ true) → Some
-    some-there (inl e) = (0, p, inr (refl, refl), and-right (inTable ends p b) _ e, and-left (inTable ends p b) _ e)
+    some-there : ((bitIn ends p b && bitIn labels 0 b) ≡ true) ⊎ (any (count hs) (by p b) ≡ true) → Some
+    some-there (inl e) = (0, p, inr (refl, refl), and-right (bitIn ends p b) _ e, and-left (bitIn ends p b) _ e)
     some-there (inr e) = let (j, l, h) = any-at (by p b) (count hs) e in by-some j l h
 
-    some-back : Some → ((inTable ends p b && inTable labels 0 b) || any (count hs) (by p b)) ≡ true
+    some-back : Some → ((bitIn ends p b && bitIn labels 0 b) || any (count hs) (by p b)) ≡ true
     unfolding by
     some-back (a, q, inl h, la, en) =
         let w = has-place hs p a q h in
-        let e : inTable ends (to hs (w .at)) b ≡ true = rw (w .to-is) en in
-        let o : inTable labels (label hs (w .at)) b ≡ true = rw (w .label-is) la in
-        or-right (inTable ends p b && inTable labels 0 b)
+        let e : bitIn ends (to hs (w .at)) b ≡ true = rw (w .to-is) en in
+        let o : bitIn labels (label hs (w .at)) b ≡ true = rw (w .label-is) la in
+        or-right (bitIn ends p b && bitIn labels 0 b)
         (any-found (by p b) (count hs) (w .within) (and-yes (eq-eqb _ _ (sym (w .from-is))) (and-yes e o)))
     some-back (a, q, inr (z, e), la, en) = or-left _ (and-yes (rw e at en) (rw z at la))
 

@@ -10,7 +10,7 @@ use lib.Bits.{bitOr}
 use lib.Dec.{eqb, ltb}
 use lib.ListN.{length, getD, set, replicate, length-set}
 use Rattle.base_bounded.proofs.Bools.{lt-or-le, eq-or-not}
-use Rattle.base_bitset.specs.Bits.{inTable}
+use Rattle.base_bitset.specs.Bits.{bitIn}
 use Rattle.base_bitset.proofs.Laws.{bit-one, table-none, table-or, or-nothing}
 use Rattle.mark_batch_tables.specs.Trials.{Keyed}
 
@@ -39,10 +39,10 @@ module _ (key : ℕ → ℕ) (base : ℕ) where
   -- one bit more
   module _ (m : ℕ) (ws new : List ℕ) (at : ℕ) (k : Keyed key base m ws) (here : at ≡ key (base + m)) (l : at < length ws)
       (e : new ≡ set ws at (bitOr (getD ws at 0) (2 ^ m))) where
-    turn : (s b : ℕ) → inTable new s b ≡ ((ltb b m && eqb (key (base + b)) s) || (eqb s at && eqb b m))
+    turn : (s b : ℕ) → bitIn new s b ≡ ((ltb b m && eqb (key (base + b)) s) || (eqb s at && eqb b m))
     turn s b =
-        ap (λ (l : List ℕ). inTable l s b) e ∙ table-or ws at (2 ^ m) s b l ∙
-        ap (λ (x : Bool). inTable ws s b || (eqb s at && x)) (bit-one m b) ∙ ap (λ (x : Bool). x || (eqb s at && eqb b m)) (k s b)
+        ap (λ (l : List ℕ). bitIn l s b) e ∙ table-or ws at (2 ^ m) s b l ∙
+        ap (λ (x : Bool). bitIn ws s b || (eqb s at && x)) (bit-one m b) ∙ ap (λ (x : Bool). x || (eqb s at && eqb b m)) (k s b)
 
     pub keyed-more : Keyed key base (m + 1) new
     keyed-more s b = turn s b ∙ go (lt-or-le b m) (eq-or-not b m) where

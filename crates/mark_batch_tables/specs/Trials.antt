@@ -7,18 +7,18 @@ use mathlib.Core.List.{List}
 use mathlib.Core.Logic.{_⊎_, _↔_}
 use lib.Dec.{eqb, ltb}
 use Rattle.walk_silent.specs.Silent.{HopOf}
-use Rattle.base_bitset.specs.Bits.{inTable}
+use Rattle.base_bitset.specs.Bits.{bitIn}
 
 -- the table has bit b where the number `key` of the hop at place base + b says, and nowhere else; `key` is from, label or to
 abbrev pub Keyed : (ℕ → ℕ) → ℕ → ℕ → List ℕ → Type 0
-Keyed key base m table = (s b : ℕ) → inTable table s b ≡ (ltb b m && eqb (key (base + b)) s)
+Keyed key base m table = (s b : ℕ) → bitIn table s b ≡ (ltb b m && eqb (key (base + b)) s)
 
 -- who answers by staying: p has bit b exactly when the silent label and p itself have it
 abbrev pub Still : List ℕ → List ℕ → List ℕ → Type 0
-Still labels ends out = (p b : ℕ) → inTable out p b ≡ (inTable ends p b && inTable labels 0 b)
+Still labels ends out = (p b : ℕ) → bitIn out p b ≡ (bitIn ends p b && bitIn labels 0 b)
 
 -- p has bit b exactly when it has a hop, labelled by a label with bit b, to a state with bit b, or when the silent label and p itself have it
 abbrev pub Answering : List ℕ → List ℕ → List ℕ → List ℕ → Type 0
 Answering hs labels ends out =
-    (p b : ℕ) → (inTable out p b ≡ true) ↔
-    ((a : ℕ) × (q : ℕ) × (HopOf hs p a q ⊎ ((a ≡ 0) × (q ≡ p))) × (inTable labels a b ≡ true) × (inTable ends q b ≡ true))
+    (p b : ℕ) → (bitIn out p b ≡ true) ↔
+    ((a : ℕ) × (q : ℕ) × (HopOf hs p a q ⊎ ((a ≡ 0) × (q ≡ p))) × (bitIn labels a b ≡ true) × (bitIn ends q b ≡ true))

@@ -7,12 +7,12 @@ use mathlib.Core.List.{List}
 use mathlib.Core.Logic.{_⊎_, inl, inr, ⊎-elim}
 use lib.Dec.{eqb}
 use borrow.Author.Tests.{eq-eqb, ne-eqb, eqb-true}
-use Rattle.base_bounded.specs.Tests.{any}
+use Rattle.base_bounded.specs.Quantifiers.{any}
 use Rattle.graph.specs.Hops.{count, from, label, to, labelled, has}
 use Rattle.base_bounded.proofs.Bools.{clash, and-yes, and-left, and-right, or-left, or-right, or-yes, no-test, eq-or-not}
 use Rattle.graph.proofs.Places.{labelled-yes, labelled-parts, has-at, has-place, place-has}
 use Rattle.graph.proofs.Lookup.{any-range}
-use Rattle.base_bounded.proofs.Tests.{all-at, all-yes, any-at, any-found}
+use Rattle.base_bounded.proofs.Quantifiers.{all-at, all-yes, any-at, any-found}
 use Rattle.base_fixpoint.specs.Pairs.{Pairs, In}
 use Rattle.mark_confluence.specs.Rounds.{FirstPoint, closing, answer, hopAnswers, answers, answered, tried, closes}
 

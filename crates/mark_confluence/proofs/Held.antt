@@ -10,7 +10,7 @@ use Rattle.graph.specs.declared.Hop.{Hop}
 use Rattle.graph.specs.declared.Found.{Found}
 use Rattle.graph.specs.declared.Found.the-variants.{At, Gap}
 use Rattle.base_bounded.proofs.Bools.{clash, and-yes, and-left, and-right, same-test, no-test}
-use Rattle.base_bounded.proofs.Tests.{any-at, any-found}
+use Rattle.base_bounded.proofs.Quantifiers.{any-at, any-found}
 use Rattle.graph.proofs.Lookup.{one-place, at-place, gap-has}
 use Rattle.mark_confluence.specs.Held.{isMarked, heldAt, heldBy}
 

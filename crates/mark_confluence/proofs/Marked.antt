@@ -8,9 +8,9 @@ use Rattle.lts.specs.Sense.{R1}
 use Rattle.graph.specs.Hops.{count, has}
 use Rattle.base_bounded.proofs.Bools.{and-left, and-right}
 use Rattle.walk_silent.specs.Silent.{HopOf}
-use Rattle.base_fixpoint.specs.Pairs.{Pairs, In, Within}
-use Rattle.base_fixpoint.specs.Rounds.{Kept}
-use Rattle.base_fixpoint.proofs.Rounds.{left-fixed, kept-left, left-kept, left-every, left-same}
+use Rattle.base_fixpoint.specs.Pairs.{Pairs, In, Subset}
+use Rattle.base_fixpoint.specs.Approximants.{PostFixed}
+use Rattle.base_fixpoint.proofs.Approximants.{approximant-fixed, post-fixed-approximant, approximant-post-fixed, approximant-every, approximant-same}
 use Rattle.mark_confluence.specs.Rounds.{Trials, closing, answers, closes, Solution, silentHops, survives, marked, ConfluentSet}
 use Rattle.mark_confluence.proofs.Closing.{closes-says, closes-yes, closed-mono, closing-mono, answers-mono}
 use Rattle.mark_confluence.proofs.Rounds.{closes-monotone, silent-listed}
@@ -19,7 +19,7 @@ module _ (hs : List ℕ) where
   -- the equation X of the marked set, with Y and Z put in, for every pair: one round more changes nothing
   pub marked-fixed : (s1 s2 : ℕ) → marked hs s1 s2 ≡ (has hs s1 0 s2 && closes hs (marked hs) s1 s2)
   unfolding marked survives
-  marked-fixed = left-fixed (closes hs) (silentHops hs) (closes-monotone hs) (silent-listed hs)
+  marked-fixed = approximant-fixed (closes hs) (silentHops hs) (closes-monotone hs) (silent-listed hs)
 
   -- a set that meets it is confluent
   fixed-confluent : (x : Pairs) → ((s1 s2 : ℕ) → x s1 s2 ≡ (has hs s1 0 s2 && closes hs x s1 s2)) → ConfluentSet hs (In x)
@@ -33,13 +33,13 @@ module _ (hs : List ℕ) where
   marked-confluent = fixed-confluent (marked hs) marked-fixed
 
   -- a confluent set keeps itself through a round
-  pub confluent-kept : {U : ℕ → ℕ → Type 0} → ConfluentSet hs U → Kept (closes hs) U
+  pub confluent-kept : {U : ℕ → ℕ → Type 0} → ConfluentSet hs U → PostFixed (closes hs) U
   confluent-kept c v f s t m = closes-yes hs v s t (closed-mono hs f s t (c .closed s t m))
 
   -- so a hop of it survives every number of rounds
   pub confluent-survives : {U : ℕ → ℕ → Type 0} → ConfluentSet hs U → (k s t : ℕ) → U s t → survives hs k s t ≡ true
   unfolding survives
-  confluent-survives c = kept-left (closes hs) (silentHops hs) (c .silent) (confluent-kept c)
+  confluent-survives c = post-fixed-approximant (closes hs) (silentHops hs) (c .silent) (confluent-kept c)
 
   pub marked-greatest : (U : ℕ → ℕ → Type 0) → ConfluentSet hs U → (s t : ℕ) → U s t → marked hs s t ≡ true
   unfolding marked
@@ -81,17 +81,17 @@ module _ (hs : List ℕ) where
   pub marked-every : (s t : ℕ) →
       (marked hs s t ≡ true → (k : ℕ) → survives hs k s t ≡ true) × (((k : ℕ) → survives hs k s t ≡ true) → marked hs s t ≡ true)
   unfolding marked survives
-  marked-every = left-every (closes hs) (silentHops hs) (closes-monotone hs) (silent-listed hs)
+  marked-every = approximant-every (closes hs) (silentHops hs) (closes-monotone hs) (silent-listed hs)
 
   -- a hop of the marked set closes with any set that holds the marked set ..
-  pub marked-kept : Kept (closes hs) (In (marked hs))
+  pub marked-kept : PostFixed (closes hs) (In (marked hs))
   unfolding marked survives
-  marked-kept = left-kept (closes hs) (silentHops hs) (closes-monotone hs) (silent-listed hs)
+  marked-kept = approximant-post-fixed (closes hs) (silentHops hs) (closes-monotone hs) (silent-listed hs)
 
   -- .. and such a set of silent hops that all close with it is the marked set
-  pub marked-same : (v : Pairs) → Within (In v) (In (silentHops hs)) → Within (In v) (In (closes hs v)) → Within (In (marked hs)) (In v) → v ≡ marked hs
+  pub marked-same : (v : Pairs) → Subset (In v) (In (silentHops hs)) → Subset (In v) (In (closes hs v)) → Subset (In (marked hs)) (In v) → v ≡ marked hs
   unfolding marked survives
-  marked-same = left-same (closes hs) (silentHops hs) (closes-monotone hs) (silent-listed hs)
+  marked-same = approximant-same (closes hs) (silentHops hs) (closes-monotone hs) (silent-listed hs)
 
   -- the union of confluent sets is confluent
   pub union-confluent : (I : Type 0) (U : I → ℕ → ℕ → Type 0) → ((i : I) → ConfluentSet hs (U i)) → ConfluentSet hs (λ s t. (i : I) × U i s t)

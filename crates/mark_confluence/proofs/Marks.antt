@@ -9,20 +9,20 @@ use lib.ListN.{length, getD, take, drop, take-append-drop, length-append, length
 use lib.Seq.{drop-at, getD-take, length-take-le, ext-getD}
 use lib.Dec.{eqb}
 use borrow.Author.Tests.{eqb-true, eq-eqb}
-use Rattle.base_bounded.specs.Tests.{listed}
+use Rattle.base_bounded.specs.Quantifiers.{tabulate}
 use Rattle.base_bounded.proofs.Bools.{and-yes, and-left, and-right, same-test}
-use Rattle.base_bounded.proofs.Tests.{length-listed, getD-listed}
+use Rattle.base_bounded.proofs.Quantifiers.{length-tabulate, getD-tabulate}
 use Rattle.base_outputs.specs.Output.{onFront}
 use Rattle.graph.specs.Hops.{count, from, label, to, has}
 use Rattle.graph.proofs.Places.{is-yes, is-from, is-to, has-place, place-has}
-use Rattle.base_fixpoint.specs.Pairs.{Pairs, In, Within}
+use Rattle.base_fixpoint.specs.Pairs.{Pairs, In, Subset}
 use Rattle.mark_confluence.specs.Rounds.{silentHops}
 use Rattle.mark_confluence.specs.Held.{isMarked, heldBy, markOf, marksOf, everyPair}
 use Rattle.mark_confluence.proofs.Held.{held-says, held-yes}
 
 -- a list that is written from the front keeps its length
-pub length-so-far : (f : ℕ → ℕ) (old : List ℕ) {new : List ℕ} (i : ℕ) → i ≤ length old → new ≡ onFront (listed i f) old → length new ≡ length old
-length-so-far f old i l e = ap length e ∙ simp (length-append, length-listed, length-drop) (omega arith)
+pub length-so-far : (f : ℕ → ℕ) (old : List ℕ) {new : List ℕ} (i : ℕ) → i ≤ length old → new ≡ onFront (tabulate i f) old → length new ≡ length old
+length-so-far f old i l e = ap length e ∙ simp (length-append, length-tabulate, length-drop) (omega arith)
 
 -- a test as a number
 bit : (b : Bool) → (_≡_ {A = ℕ} (cond b 1 0) 0) ⊎ (_≡_ {A = ℕ} (cond b 1 0) 1)
@@ -55,7 +55,7 @@ module _ (hs : List ℕ) (u : Pairs) where
 
   pub length-marks : length (marksOf hs u) ≡ count hs
   unfolding marksOf
-  length-marks = length-listed (markOf hs u) (count hs)
+  length-marks = length-tabulate (markOf hs u) (count hs)
 
   -- a list whose elements are the marks, and which is behind them what `out` is
   pub marks-made : (ms out : List ℕ) → count hs ≤ length ms → ((i : ℕ) → i < count hs → getD ms i 0 ≡ markOf hs u i) →
@@ -70,7 +70,7 @@ module _ (hs : List ℕ) (u : Pairs) where
         front =
             ext-getD 0 (take (count hs) ms) (marksOf hs u) (long ∙ sym length-marks)
             (λ i l. let k : i < count hs = rw long at l in
-            getD-take (count hs) ms i 0 k ∙ (f i k ∙ sym (getD-listed (markOf hs u) (count hs) k)))
+            getD-take (count hs) ms i 0 k ∙ (f i k ∙ sym (getD-tabulate (markOf hs u) (count hs) k)))
 
   module _ (ms out : List ℕ) (e : ms ≡ onFront (marksOf hs u) out) where
     pub marks-capacity : count hs ≤ length out → length ms ≡ length out
@@ -83,7 +83,7 @@ module _ (hs : List ℕ) (u : Pairs) where
     pub marks-at : {i : ℕ} → i < count hs → getD ms i 0 ≡ markOf hs u i
     unfolding marksOf
     marks-at {i} l =
-        rw e (List·getD-append (marksOf hs u) (drop (length (marksOf hs u)) out) 0 i (rw length-marks l)) ∙ getD-listed (markOf hs u) (count hs) l
+        rw e (List·getD-append (marksOf hs u) (drop (length (marksOf hs u)) out) 0 i (rw length-marks l)) ∙ getD-tabulate (markOf hs u) (count hs) l
 
     pub marks-bits : (i : ℕ) → i < count hs → (getD ms i 0 ≡ 0) ⊎ (getD ms i 0 ≡ 1)
     marks-bits i l = ⊎-elim (λ q. inl (marks-at l ∙ q)) (λ q. inr (marks-at l ∙ q)) (mark-bit i)
@@ -112,7 +112,7 @@ module _ (hs : List ℕ) (u : Pairs) where
           (eq-eqb (getD ms (p .at) 0) 1 (marks-at (p .within) ∙ mark-one (p .at) (p .label-is) m))
 
     -- which is u where u has silent hops only
-    pub held-set : Within (In u) (In (silentHops hs)) → heldBy hs ms ≡ u
+    pub held-set : Subset (In u) (In (silentHops hs)) → heldBy hs ms ≡ u
     held-set w = λ k s t. same s t k where
       same : (s t : ℕ) → heldBy hs ms s t ≡ u s t
       same s t =

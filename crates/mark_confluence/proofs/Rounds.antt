@@ -5,9 +5,9 @@ use mathlib.Core.Bool.{true, _&&_}
 use mathlib.Core.List.{List}
 use Rattle.graph.specs.Hops.{count, from, to, has}
 use Rattle.graph.proofs.Places.{has-place}
-use Rattle.base_fixpoint.specs.Pairs.{Listed}
-use Rattle.base_fixpoint.specs.Rounds.{Monotone}
-use Rattle.base_fixpoint.proofs.Rounds.{left-none, left-more, left-within}
+use Rattle.base_fixpoint.specs.Pairs.{AtMostPairs}
+use Rattle.base_fixpoint.specs.Approximants.{Monotone}
+use Rattle.base_fixpoint.proofs.Approximants.{approximant-none, approximant-more, approximant-within}
 use Rattle.mark_confluence.specs.Rounds.{closes, silentHops, survives}
 use Rattle.mark_confluence.proofs.Closing.{closes-mono}
 
@@ -16,7 +16,7 @@ module _ (hs : List ℕ) where
   closes-monotone = closes-mono hs
 
   -- each silent hop stands at a place of the list
-  pub silent-listed : Listed (silentHops hs) (count hs)
+  pub silent-listed : AtMostPairs (silentHops hs) (count hs)
   silent-listed =
       record {
         first = from hs;
@@ -27,14 +27,14 @@ module _ (hs : List ℕ) where
   -- "Every silent hop survives 0 rounds."
   pub survives-none : (s t : ℕ) → survives hs 0 s t ≡ has hs s 0 t
   unfolding survives
-  survives-none = left-none (closes hs) (silentHops hs)
+  survives-none = approximant-none (closes hs) (silentHops hs)
 
   -- "It survives k + 1 when the condition above holds with 'in U' read as 'survives k'."
   pub survives-more : (k s t : ℕ) → survives hs (suc k) s t ≡ (has hs s 0 t && closes hs (survives hs k) s t)
   unfolding survives
-  survives-more = left-more (closes hs) (silentHops hs)
+  survives-more = approximant-more (closes hs) (silentHops hs)
 
   -- what survives is a silent hop
   pub survives-silent : (k s t : ℕ) → survives hs k s t ≡ true → has hs s 0 t ≡ true
   unfolding survives
-  survives-silent = left-within (closes hs) (silentHops hs)
+  survives-silent = approximant-within (closes hs) (silentHops hs)

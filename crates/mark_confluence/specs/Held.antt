@@ -4,7 +4,7 @@ use mathlib.Core.Bool.{Bool, true, cond, _&&_}
 use mathlib.Core.List.{List}
 use lib.ListN.{getD}
 use lib.Dec.{eqb}
-use Rattle.base_bounded.specs.Tests.{any, listed}
+use Rattle.base_bounded.specs.Quantifiers.{any, tabulate}
 use Rattle.graph.specs.Hops.{count, from, label, to, is}
 use Rattle.base_fixpoint.specs.Pairs.{Pairs}
 
@@ -24,7 +24,7 @@ unfoldable pub markOf : List ℕ → Pairs → ℕ → ℕ
 markOf hs u i = cond (eqb (label hs i) 0 && u (from hs i) (to hs i)) 1 0
 
 unfoldable pub marksOf : List ℕ → Pairs → List ℕ
-marksOf hs u = listed (count hs) (markOf hs u)
+marksOf hs u = tabulate (count hs) (markOf hs u)
 
 -- every pair: the marks of this set, which marking begins with, are 1 for each silent hop and 0 for each visible one
 abbrev pub everyPair : Pairs

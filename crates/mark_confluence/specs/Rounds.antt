@@ -7,10 +7,10 @@ use mathlib.Core.Bool.{Bool, true, not, _&&_, _||_}
 use mathlib.Core.Logic.{_⊎_}
 use mathlib.Core.List.{List}
 use lib.Dec.{eqb}
-use Rattle.base_bounded.specs.Tests.{all, any}
+use Rattle.base_bounded.specs.Quantifiers.{all, any}
 use Rattle.graph.specs.Hops.{count, from, label, to, labelled, has}
 use Rattle.base_fixpoint.specs.Pairs.{Pairs}
-use Rattle.base_fixpoint.specs.Rounds.{leftAfter}
+use Rattle.base_fixpoint.specs.Approximants.{approximant}
 
 -- a set of trials: s2, a, s3 is the trial of a hop labelled a to s3 against a silent hop to s2
 abbrev pub Trials : Type 0
@@ -62,7 +62,7 @@ silentHops hs s t = has hs s 0 t
 -- "Every silent hop survives 0 rounds. It survives k + 1 when the condition above holds with 'in U' read as 'survives k'."
 -- So these are the rounds of `closes` on the silent hops.
 unfoldable pub survives : List ℕ → ℕ → Pairs
-survives hs = leftAfter (closes hs) (silentHops hs)
+survives hs = approximant (closes hs) (silentHops hs)
 
 -- the marked set: what survives as many rounds as there are hops (and so every number of rounds)
 unfoldable pub marked : List ℕ → Pairs

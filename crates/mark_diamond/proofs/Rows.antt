@@ -16,7 +16,7 @@ use Rattle.graph.specs.Search.{placed, isAt, foundPlace, firstOf, pastOf}
 use Rattle.graph.specs.declared.Hop.{Hop}
 use Rattle.graph.specs.declared.Found.{Found}
 use Rattle.base_bounded.proofs.Bools.{and-left, and-right, lt-or-le}
-use Rattle.base_bounded.proofs.Tests.{all-yes, all-fails}
+use Rattle.base_bounded.proofs.Quantifiers.{all-yes, all-fails}
 use Rattle.graph.proofs.Ordered.{Below, before-below, below-before, ascending-lt}
 use Rattle.graph.proofs.Lookup.{placed-has, found-lower, Onward, onward, first-within, range-holds, range-only}
 use Rattle.base_fixpoint.specs.Pairs.{Pairs}

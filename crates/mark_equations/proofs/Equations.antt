@@ -9,7 +9,7 @@ use native.Mathlib.Numerals.{sub-one}
 use native.Mathlib.Omega.{arith}
 use borrow.Author.Tests.{not-true, not-false}
 use Rattle.base_bounded.proofs.Bools.{clash, no-test, eq-or-not}
-use Rattle.base_bounded.proofs.Tests.{all-fails}
+use Rattle.base_bounded.proofs.Quantifiers.{all-fails}
 use Rattle.graph.specs.Hops.{count, from, label, to, hopOf, has}
 use Rattle.graph.specs.Order.{Ascending}
 use Rattle.graph.specs.Search.{firstOf, pastOf, labelledFrom, labelledPast, placed}

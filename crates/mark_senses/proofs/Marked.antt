@@ -9,13 +9,13 @@ use Rattle.base_bounded.proofs.Bools.{same-test}
 use Rattle.graph.specs.Hops.{count}
 use Rattle.graph.specs.declared.Shape.{Shape}
 use Rattle.graph_check.specs.Check.{InRange}
-use Rattle.lts.specs.Closes.{Sense, r1, r2, r3, r8, SetOf, Greatest, Implies}
-use Rattle.lts.proofs.Closes.{r1→r2, r1→r3, weakest, set-among}
+use Rattle.lts.specs.Closes.{Sense, r1, r2, r3, r8, ConfluentIn, Greatest, Implies}
+use Rattle.lts.proofs.Closes.{r1→r2, r1→r3, implies-r8, confluent-within-greatest}
 use Rattle.lts.proofs.SenseForms.{r1-iff}
 use Rattle.walk_silent.specs.Silent.{HopOf}
-use Rattle.base_fixpoint.specs.Pairs.{Pairs, In, Within}
-use Rattle.base_fixpoint.specs.Rounds.{Monotone, Kept}
-use Rattle.base_fixpoint.proofs.Rounds.{left-within, left-greatest, left-kept, left-same}
+use Rattle.base_fixpoint.specs.Pairs.{Pairs, In, Subset}
+use Rattle.base_fixpoint.specs.Approximants.{Monotone, PostFixed}
+use Rattle.base_fixpoint.proofs.Approximants.{approximant-within, approximant-greatest, approximant-post-fixed, approximant-same}
 use Rattle.mark_confluence.specs.Rounds.{silentHops, marked, ConfluentSet}
 use Rattle.mark_confluence.proofs.Rounds.{silent-listed}
 use Rattle.mark_confluence.proofs.Marked.{marked-confluent, marked-greatest}
@@ -28,23 +28,23 @@ module _ (sense : Sense) (sh : Shape) (hs : List ℕ) where
   pub grows : Monotone (closesIn sense sh hs)
   grows = closes-mono sense sh hs
 
-  pub in-silent : Within (In (markedIn sense sh hs)) (In (silentHops hs))
+  pub in-silent : Subset (In (markedIn sense sh hs)) (In (silentHops hs))
   unfolding markedIn
-  in-silent = left-within (closesIn sense sh hs) (silentHops hs) (count hs)
+  in-silent = approximant-within (closesIn sense sh hs) (silentHops hs) (count hs)
 
   -- a hop of the marked set closes with any set that holds the marked set
-  pub in-kept : Kept (closesIn sense sh hs) (In (markedIn sense sh hs))
+  pub in-kept : PostFixed (closesIn sense sh hs) (In (markedIn sense sh hs))
   unfolding markedIn
-  in-kept = left-kept (closesIn sense sh hs) (silentHops hs) grows (silent-listed hs)
+  in-kept = approximant-post-fixed (closesIn sense sh hs) (silentHops hs) grows (silent-listed hs)
 
   -- and such a set of silent hops that all close with it is the marked set
-  pub in-same : (v : Pairs) → Within (In v) (In (silentHops hs)) → Within (In v) (In (closesIn sense sh hs v)) → Within (In (markedIn sense sh hs)) (In v) →
+  pub in-same : (v : Pairs) → Subset (In v) (In (silentHops hs)) → Subset (In v) (In (closesIn sense sh hs v)) → Subset (In (markedIn sense sh hs)) (In v) →
       v ≡ markedIn sense sh hs
   unfolding markedIn
-  in-same = left-same (closesIn sense sh hs) (silentHops hs) grows (silent-listed hs)
+  in-same = approximant-same (closesIn sense sh hs) (silentHops hs) grows (silent-listed hs)
 
   -- "the marked set is of that sense"
-  pub marked-of : SetOf sense (HopOf hs) (In (markedIn sense sh hs))
+  pub marked-of : ConfluentIn sense (HopOf hs) (In (markedIn sense sh hs))
   marked-of =
       record {
         silent = in-silent;
@@ -53,37 +53,37 @@ module _ (sense : Sense) (sh : Shape) (hs : List ℕ) where
 
   module _ (ranged : InRange sh hs) where
     -- a set of the sense keeps itself through a round
-    pub set-kept : {W : ℕ → ℕ → Type 0} → SetOf sense (HopOf hs) W → Kept (closesIn sense sh hs) W
+    pub set-kept : {W : ℕ → ℕ → Type 0} → ConfluentIn sense (HopOf hs) W → PostFixed (closesIn sense sh hs) W
     set-kept c v f s t m = closes-yes sense sh hs ranged (c .silent) v f s t m (c .closed s t m)
 
     -- ".. and holds every set of it"
     pub holds-every : Greatest sense (HopOf hs) (In (markedIn sense sh hs))
     unfolding markedIn
-    holds-every W c = left-greatest (closesIn sense sh hs) (silentHops hs) grows (silent-listed hs) (c .silent) (set-kept c)
+    holds-every W c = approximant-greatest (closesIn sense sh hs) (silentHops hs) grows (silent-listed hs) (c .silent) (set-kept c)
 
     -- a hop is marked exactly when some set of the sense has it
     pub marked-in-iff : (s t : ℕ) →
-        (markedIn sense sh hs s t ≡ true → (W : ℕ → ℕ → Type 0) × SetOf sense (HopOf hs) W × W s t) ×
-        ((W : ℕ → ℕ → Type 0) × SetOf sense (HopOf hs) W × W s t → markedIn sense sh hs s t ≡ true)
+        (markedIn sense sh hs s t ≡ true → (W : ℕ → ℕ → Type 0) × ConfluentIn sense (HopOf hs) W × W s t) ×
+        ((W : ℕ → ℕ → Type 0) × ConfluentIn sense (HopOf hs) W × W s t → markedIn sense sh hs s t ≡ true)
     marked-in-iff s t = ((λ e. (In (markedIn sense sh hs), marked-of, e)), (λ (W, c, m). holds-every W c s t m))
 
 module _ (sh : Shape) (hs : List ℕ) (ranged : InRange sh hs) where
   -- what is marked in a sense is marked in a weaker one
-  pub among : {sense weaker : Sense} → Implies sense weaker → Within (In (markedIn sense sh hs)) (In (markedIn weaker sh hs))
-  among {sense} {weaker} k = set-among k (marked-of sense sh hs) (holds-every weaker sh hs ranged)
+  pub among : {sense weaker : Sense} → Implies sense weaker → Subset (In (markedIn sense sh hs)) (In (markedIn weaker sh hs))
+  among {sense} {weaker} k = confluent-within-greatest k (marked-of sense sh hs) (holds-every weaker sh hs ranged)
 
   -- "R1's marks are among R2's and R3's, and theirs among R8's"
-  pub among-r2 : Within (In (markedIn r1 sh hs)) (In (markedIn r2 sh hs))
+  pub among-r2 : Subset (In (markedIn r1 sh hs)) (In (markedIn r2 sh hs))
   among-r2 = among r1→r2
 
-  pub among-r3 : Within (In (markedIn r1 sh hs)) (In (markedIn r3 sh hs))
+  pub among-r3 : Subset (In (markedIn r1 sh hs)) (In (markedIn r3 sh hs))
   among-r3 = among r1→r3
 
-  pub among-r8 : (sense : Sense) → Within (In (markedIn sense sh hs)) (In (markedIn r8 sh hs))
-  among-r8 sense = among (weakest sense)
+  pub among-r8 : (sense : Sense) → Subset (In (markedIn sense sh hs)) (In (markedIn r8 sh hs))
+  among-r8 sense = among (implies-r8 sense)
 
   -- sense 1 is document 01's condition, and its marked set is document 01's
-  pub strong-set : {W : ℕ → ℕ → Type 0} → ConfluentSet hs W ↔ SetOf r1 (HopOf hs) W
+  pub strong-set : {W : ℕ → ℕ → Type 0} → ConfluentSet hs W ↔ ConfluentIn r1 (HopOf hs) W
   strong-set {W} = (
     (λ c. record { silent = c .silent; closed = r1-iff (HopOf hs) W .1 (c .closed) }),
     (λ c. record { silent = c .silent; closed = r1-iff (HopOf hs) W .0 (c .closed) }),

@@ -8,20 +8,20 @@ use mathlib.Core.Logic.{_⊎_, inl, inr, ⊎-elim}
 use lib.Dec.{eqb}
 use borrow.Author.Tests.{eq-eqb, ne-eqb, eqb-true}
 use Rattle.base_bounded.proofs.Bools.{and-yes, and-left, and-right, or-left, or-right, or-yes, eq-or-not}
-use Rattle.base_bounded.proofs.Tests.{all-at, all-yes, any-at, any-found}
+use Rattle.base_bounded.proofs.Quantifiers.{all-at, all-yes, any-at, any-found}
 use Rattle.graph.specs.Hops.{count, from, label, to, has}
 use Rattle.graph.specs.declared.Shape.{Shape}
 use Rattle.graph.proofs.Places.{has-at, has-place}
 use Rattle.graph_check.specs.Check.{InRange}
 use Rattle.lts.specs.Star.{Star, stay, go}
 use Rattle.lts.specs.Closes.{Reach, nowhere, single, walks, Via, here, hop, walk, Sense, Answered, Closes}
-use Rattle.lts.specs.Sense.{Answer}
-use Rattle.lts.proofs.Star.{wider}
+use Rattle.lts.specs.Sense.{HopOrStay}
+use Rattle.lts.proofs.Star.{star-mono}
 use Rattle.walk_reach.specs.Reaching.{ChosenOf, leadsBy}
 use Rattle.walk_reach.proofs.Leads.{leads-self, leads-step, leads-cases, leads-walk, walk-leads}
 use Rattle.walk_silent.specs.Silent.{HopOf}
 use Rattle.walk_silent.proofs.Hops.{silent-end}
-use Rattle.base_fixpoint.specs.Pairs.{Pairs, In, Within}
+use Rattle.base_fixpoint.specs.Pairs.{Pairs, In, Subset}
 use Rattle.mark_confluence.specs.Rounds.{Trials, tried}
 use Rattle.mark_senses.specs.Senses.{setAt, comes, takes, meets, takesTo, answersFrom, answeredIn, closesIn}
 
@@ -57,7 +57,7 @@ module _ (hs : List ℕ) (n : ℕ) (u : Pairs) where
   unfolding comes
   comes-says nowhere s t e = rw (eqb-true s t e) here
   comes-says single s t e = ⊎-elim (λ q. rw (eqb-true s t q) here) (λ m. hop m) (or-yes (eqb s t) (u s t) e)
-  comes-says walks s t e = walk (wider chosen-in (leads-walk hs (setAt hs u) n s t e))
+  comes-says walks s t e = walk (star-mono chosen-in (leads-walk hs (setAt hs u) n s t e))
 
   comes-self : (r : Reach) (s : ℕ) → comes hs n u r s s ≡ true
   unfolding comes
@@ -65,13 +65,13 @@ module _ (hs : List ℕ) (n : ℕ) (u : Pairs) where
   comes-self single s = or-left (u s s) (eq-eqb s s refl)
   comes-self walks s = leads-self hs (setAt hs u) n s
 
-  pub takes-says : (p a q : ℕ) → takes hs p a q ≡ true → Answer (HopOf hs) (In u) p a q
+  pub takes-says : (p a q : ℕ) → takes hs p a q ≡ true → HopOrStay (HopOf hs) (In u) p a q
   unfolding takes
   takes-says p a q e =
       ⊎-elim (λ h. inl h) (λ h. inr (eqb-true a 0 (and-left (eqb a 0) (eqb q p) h), eqb-true q p (and-right (eqb a 0) (eqb q p) h)))
       (or-yes (has hs p a q) (eqb a 0 && eqb q p) e)
 
-  pub takes-yes : (p a q : ℕ) → Answer (HopOf hs) (In u) p a q → takes hs p a q ≡ true
+  pub takes-yes : (p a q : ℕ) → HopOrStay (HopOf hs) (In u) p a q → takes hs p a q ≡ true
   unfolding takes
   takes-yes p a q (inl h) = or-left (eqb a 0 && eqb q p) h
   takes-yes p a q (inr (z, e)) = or-right (has hs p a q) (and-yes (eq-eqb a 0 z) (eq-eqb q p e))
@@ -116,7 +116,7 @@ module _ (sense : Sense) (sh : Shape) (hs : List ℕ) where
       (tried-says hs (answeredIn sense hs (sh .states) u) s1 s2 a s3 (λ i l. all-at (tried hs (answeredIn sense hs (sh .states) u) s1 s2) (count hs) e l) h)
 
   -- the tests grow with the set
-  module _ (u v : Pairs) (f : Within (In u) (In v)) where
+  module _ (u v : Pairs) (f : Subset (In u) (In v)) where
     comes-mono : (r : Reach) (s t : ℕ) → comes hs (sh .states) u r s t ≡ true → comes hs (sh .states) v r s t ≡ true
     unfolding comes setAt
     comes-mono nowhere s t e = e
@@ -141,7 +141,7 @@ module _ (sense : Sense) (sh : Shape) (hs : List ℕ) where
         (and-yes (comes-mono (sense .after) q s4 (and-left (comes hs n u (sense .after) q s4) _ z))
         (comes-mono (sense .closing) s3 s4 (and-right (comes hs n u (sense .after) q s4) _ z)))))))
 
-    pub closes-mono : Within (In (closesIn sense sh hs u)) (In (closesIn sense sh hs v))
+    pub closes-mono : Subset (In (closesIn sense sh hs u)) (In (closesIn sense sh hs v))
     unfolding closesIn
     closes-mono s1 s2 e =
         let n = sh .states in
@@ -160,16 +160,16 @@ module _ (sense : Sense) (sh : Shape) (hs : List ℕ) where
       along l stay = l
       along l (go {s} {m} w p) = along (silent-end ranged s m (silent s m w)) p
 
-    answer-in : (p a q : ℕ) → p < sh .states → Answer (HopOf hs) W p a q → q < sh .states
+    answer-in : (p a q : ℕ) → p < sh .states → HopOrStay (HopOf hs) W p a q → q < sh .states
     answer-in p a q l (inl h) = let i = has-place hs p a q h in rw (← (i .to-is)) (ranged .to-in (i .at) (i .within))
     answer-in p a q l (inr (z, e)) = rw e l
 
-    module _ (u : Pairs) (f : Within W (In u)) where
+    module _ (u : Pairs) (f : Subset W (In u)) where
       comes-yes : {r : Reach} {s t : ℕ} → Via W r s t → comes hs (sh .states) u r s t ≡ true
       unfolding comes
       comes-yes (here {r} {s}) = comes-self hs (sh .states) u r s
       comes-yes (hop {s} {t} m) = or-right (eqb s t) (f s t m)
-      comes-yes (walk p) = walk-leads ranged (setAt hs u) (wider (λ s t m. in-chosen hs (sh .states) u s t (silent s t m) (f s t m)) p)
+      comes-yes (walk p) = walk-leads ranged (setAt hs u) (star-mono (λ s t m. in-chosen hs (sh .states) u s t (silent s t m) (f s t m)) p)
 
       answered-yes : (s2 a s3 : ℕ) → s2 < sh .states → Answered sense (HopOf hs) W s2 a s3 → answeredIn sense hs (sh .states) u s2 a s3 ≡ true
       unfolding answeredIn answersFrom takesTo meets

@@ -5,7 +5,7 @@ use Prim.Native.Nat.{ℕ}
 use mathlib.Core.Bool.{Bool, cond, _&&_, _||_}
 use mathlib.Core.List.{List}
 use lib.Dec.{eqb}
-use Rattle.base_bounded.specs.Tests.{all, any}
+use Rattle.base_bounded.specs.Quantifiers.{all, any}
 use Rattle.graph.specs.Hops.{count, from, label, to, has}
 use Rattle.graph.specs.Answers.{accepted, refused}
 use Rattle.graph.specs.declared.Answer.{Answer}
@@ -13,7 +13,7 @@ use Rattle.graph.specs.declared.Shape.{Shape}
 use Rattle.lts.specs.Closes.{Reach, nowhere, single, walks, Sense, r1, r2, r3, r8}
 use Rattle.walk_reach.specs.Reaching.{leadsBy}
 use Rattle.base_fixpoint.specs.Pairs.{Pairs}
-use Rattle.base_fixpoint.specs.Rounds.{leftAfter}
+use Rattle.base_fixpoint.specs.Approximants.{approximant}
 use Rattle.mark_confluence.specs.Rounds.{Trials, tried, silentHops}
 
 -- the hop at place i is silent, and in the set u
@@ -52,7 +52,7 @@ closesIn sense sh hs u s1 s2 = all (count hs) (tried hs (answeredIn sense hs (sh
 
 -- the marked set of the sense: what is left of the silent hops after as many rounds of dropping what does not close as there are hops
 unfoldable pub markedIn : Sense → Shape → List ℕ → Pairs
-markedIn sense sh hs = leftAfter (closesIn sense sh hs) (silentHops hs) (count hs)
+markedIn sense sh hs = approximant (closesIn sense sh hs) (silentHops hs) (count hs)
 
 -- "the sense as a number 1, 2, 3 or 8"
 unfoldable pub isSense : ℕ → Bool

@@ -9,13 +9,13 @@ use native.Mathlib.Omega.{arith}
 use lib.ListN.{length, getD, drop}
 use borrow.Author.Tests.{eqb-true, eq-eqb}
 use Rattle.base_bounded.proofs.Bools.{and-yes}
-use Rattle.base_bounded.proofs.Tests.{any-found, tally-within}
+use Rattle.base_bounded.proofs.Quantifiers.{any-found, tally-within}
 use Rattle.base_outputs.specs.Output.{onFront}
 use Rattle.graph.specs.Hops.{count, from, to, is, has}
 use Rattle.graph.specs.Order.{Ascending}
 use Rattle.graph.proofs.Places.{is-yes, is-from, is-to}
-use Rattle.base_fixpoint.specs.Pairs.{Pairs, In, Within}
-use Rattle.base_fixpoint.specs.Rounds.{Operator}
+use Rattle.base_fixpoint.specs.Pairs.{Pairs, In, Subset}
+use Rattle.base_fixpoint.specs.Approximants.{Operator}
 use Rattle.mark_confluence.specs.Rounds.{silentHops}
 use Rattle.mark_confluence.specs.Held.{isMarked, heldBy, markOf, marksOf, everyPair}
 use Rattle.mark_confluence.proofs.Held.{held-says, held-yes, held-at}
@@ -55,7 +55,7 @@ module _ {hs : List ℕ} {m : Pairs} where
   swept-rests s q = let (e, f) = s .same q in rw e f
 
 -- the marks that sweeps begin with
-pub first-marking : (hs : List ℕ) (m : Pairs) → Within (In m) (In (silentHops hs)) → (ms out : List ℕ) → count hs ≤ length out → ms ≡ onFront (marksOf hs everyPair) out → Marking hs m ms
+pub first-marking : (hs : List ℕ) (m : Pairs) → Subset (In m) (In (silentHops hs)) → (ms out : List ℕ) → count hs ≤ length out → ms ≡ onFront (marksOf hs everyPair) out → Marking hs m ms
 first-marking hs m silent ms out capacity e =
     record {
       capacity = rw (marks-capacity hs everyPair ms out e capacity) capacity;
@@ -66,7 +66,7 @@ first-marking hs m silent ms out capacity e =
 
 -- the end of sweeping: m is what F keeps, and each marked hop closes
 module _ {hs : List ℕ} {m : Pairs} (F : Operator)
-    (only : (v : Pairs) → Within (In v) (In (silentHops hs)) → Within (In v) (In (F v)) → Within (In m) (In v) → v ≡ m)
+    (only : (v : Pairs) → Subset (In v) (In (silentHops hs)) → Subset (In v) (In (F v)) → Subset (In m) (In v) → v ≡ m)
     {ms : List ℕ} (up : Ascending hs) (k : Marking hs m ms)
     (rest : (i : ℕ) → i < count hs → isMarked ms i ≡ true → F (heldBy hs ms) (from hs i) (to hs i) ≡ true) where
   -- where no marked hop fails to close, the set that the marks are is m

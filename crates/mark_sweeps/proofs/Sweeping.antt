@@ -10,7 +10,7 @@ use lib.ListN.{getD, set, drop, length-set}
 use lib.Seq.{getD-set-same, getD-set-other, drop-set-lt}
 use borrow.Author.Tests.{eqb-true}
 use Rattle.base_bounded.proofs.Bools.{clash, eq-or-not}
-use Rattle.base_bounded.proofs.Tests.{tally-less}
+use Rattle.base_bounded.proofs.Quantifiers.{tally-less}
 use Rattle.base_outputs.specs.Output.{onFront}
 use Rattle.graph.specs.Hops.{count, from, to, is}
 use Rattle.graph.specs.Order.{Ascending}

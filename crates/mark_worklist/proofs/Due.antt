@@ -8,13 +8,13 @@ use mathlib.Core.Logic.{_⊎_, inl, inr, ⊎-elim}
 use native.Mathlib.Omega.{arith}
 use lib.Dec.{eqb}
 use borrow.Author.Tests.{eq-eqb, eqb-true, not-true}
-use Rattle.base_bounded.specs.Tests.{any, tally, total}
+use Rattle.base_bounded.specs.Quantifiers.{any, tally, total}
 use Rattle.graph.specs.Hops.{count, from, label, to, has}
 use Rattle.base_bounded.proofs.Bools.{clash, decided, and-yes, and-left, and-right, and-no-right, or-right, or-yes, same-test, no-test, not-no}
-use Rattle.base_bounded.proofs.Tests.{any-at, any-found, tally-within, tally-less, tally-zero}
+use Rattle.base_bounded.proofs.Quantifiers.{any-at, any-found, tally-within, tally-less, tally-zero}
 use Rattle.graph.proofs.Places.{has-at, has-place}
 use Rattle.base_fixpoint.specs.Pairs.{Pairs, In}
-use Rattle.base_fixpoint.proofs.Rounds.{left-meets, left-yes, left-falls, left-rests}
+use Rattle.base_fixpoint.proofs.Approximants.{approximant-meets, approximant-yes, approximant-falls, approximant-rests}
 use Rattle.mark_confluence.specs.Rounds.{FirstPoint, answers, closes, silentHops, survives, marked}
 use Rattle.mark_confluence.proofs.Closing.{Reaches, Closed, reaches-yes, reaches-says, closes-says, closes-yes}
 use Rattle.mark_confluence.proofs.Rounds.{closes-monotone, silent-listed, survives-none, survives-silent}
@@ -28,15 +28,15 @@ module _ (hs : List ℕ) where
   -- the rounds one after the other
   pub survives-closes : (k s t : ℕ) → survives hs (suc k) s t ≡ true → closes hs (survives hs k) s t ≡ true
   unfolding survives
-  survives-closes = left-meets (closes hs) (silentHops hs)
+  survives-closes = approximant-meets (closes hs) (silentHops hs)
 
   pub survives-yes : (k s t : ℕ) → has hs s 0 t ≡ true → closes hs (survives hs k) s t ≡ true → survives hs (suc k) s t ≡ true
   unfolding survives
-  survives-yes = left-yes (closes hs) (silentHops hs)
+  survives-yes = approximant-yes (closes hs) (silentHops hs)
 
   pub survives-falls : (k s t : ℕ) → survives hs (suc k) s t ≡ true → survives hs k s t ≡ true
   unfolding survives
-  survives-falls = left-falls (closes hs) (silentHops hs) (closes-monotone hs)
+  survives-falls = approximant-falls (closes hs) (silentHops hs) (closes-monotone hs)
 
   -- the test says that, and the other way round
   module _ (v : Pairs) where
@@ -203,7 +203,7 @@ module _ (hs : List ℕ) where
 
   pub idle-marked : (k : ℕ) → Idle k → (s t : ℕ) → survives hs k s t ≡ marked hs s t
   unfolding marked survives
-  idle-marked k n s t = sym (idle-rests k n (count hs) s t) ∙ (rw turned (sym (left-rests (closes hs) (silentHops hs) (closes-monotone hs) (silent-listed hs) k s t))) where
+  idle-marked k n s t = sym (idle-rests k n (count hs) s t) ∙ (rw turned (sym (approximant-rests (closes hs) (silentHops hs) (closes-monotone hs) (silent-listed hs) k s t))) where
     turned : count hs + k ≡ k + count hs
     turned = omega arith
 

@@ -5,7 +5,7 @@ use Prim.Native.Nat.{ℕ, zero, suc}
 use mathlib.Core.Bool.{Bool, not, _&&_}
 use mathlib.Core.List.{List}
 use lib.Dec.{eqb}
-use Rattle.base_bounded.specs.Tests.{any, tally, total}
+use Rattle.base_bounded.specs.Quantifiers.{any, tally, total}
 use Rattle.graph.specs.Hops.{count, from, label, to}
 use Rattle.base_fixpoint.specs.Pairs.{Pairs}
 use Rattle.mark_confluence.specs.Rounds.{answers, survives}

@@ -11,9 +11,9 @@ use native.Mathlib.Omega.{arith}
 use lib.ListN.{length, getD, replicate, getD-replicate}
 use lib.Dec.{ltb}
 use borrow.Author.Tests.{lt-ltb, le-ltb}
-use Rattle.base_bounded.specs.Tests.{tally, total}
+use Rattle.base_bounded.specs.Quantifiers.{tally, total}
 use Rattle.base_bounded.proofs.Bools.{clash, decided, eq-or-not, lt-or-le, and-yes, and-left, and-right, same-test, no-test}
-use Rattle.base_bounded.proofs.Tests.{tally-same, tally-mono, tally-within, tally-less, total-more, total-most}
+use Rattle.base_bounded.proofs.Quantifiers.{tally-same, tally-mono, tally-within, tally-less, total-more, total-most}
 use Rattle.base_outputs.specs.Output.{onFront}
 use Rattle.graph.specs.Hops.{count, from, label, to, has}
 use Rattle.graph.specs.Answers.{most-hops}

@@ -9,9 +9,9 @@ use native.Mathlib.Omega.{arith}
 use lib.ListN.{length, getD, set, length-set}
 use lib.Seq.{getD-set-same, getD-set-other}
 use borrow.Author.Tests.{eq-eqb, ne-eqb, eqb-true}
-use Rattle.base_bounded.specs.Tests.{tally}
+use Rattle.base_bounded.specs.Quantifiers.{tally}
 use Rattle.base_bounded.proofs.Bools.{clash, eq-or-not, lt-or-le}
-use Rattle.base_bounded.proofs.Tests.{tally-within, tally-zero, tally-less}
+use Rattle.base_bounded.proofs.Quantifiers.{tally-within, tally-zero, tally-less}
 use Rattle.base_bounded.proofs.Tallies.{tally-one}
 use Rattle.graph.specs.Hops.{count, from, label}
 use Rattle.mark_confluence.specs.Held.{isMarked}

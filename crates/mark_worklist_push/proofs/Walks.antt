@@ -9,7 +9,7 @@ use native.Mathlib.Omega.{arith}
 use lib.ListN.{getD}
 use Rattle.base_bounded.specs.Slots.{slot}
 use Rattle.base_bounded.proofs.Bools.{clash, lt-or-le}
-use Rattle.base_bounded.proofs.Slots.{beginning-within, slot-in}
+use Rattle.base_bounded.proofs.Slots.{key-start-within, slot-in}
 use Rattle.graph.specs.Hops.{count, from, label, to, hopOf, is, has}
 use Rattle.graph.specs.Order.{Ascending}
 use Rattle.graph.specs.Search.{placed, firstOf, labelledFrom, labelledPast}
@@ -235,4 +235,4 @@ pub start-most : {hs st bs ps : List ℕ} → Tables hs st bs ps → {x r : ℕ}
 start-most {hs} {st} t {x} e l = omega (arith, start-is hs st (t .table) x refl l e, first-within hs (t .ready .ascending) x, t .ready .hops-most)
 
 pub begin-most : {hs st bs ps : List ℕ} → Tables hs st bs ps → {x r : ℕ} → r ≡ getD bs x 0 → x ≤ most-states → r ≤ most-hops
-begin-most {hs} {bs = bs} t {x} e l = omega (arith, begin-is hs bs (t .begins) x refl l e, beginning-within (to hs) (count hs) x, t .ready .hops-most)
+begin-most {hs} {bs = bs} t {x} e l = omega (arith, begin-is hs bs (t .begins) x refl l e, key-start-within (to hs) (count hs) x, t .ready .hops-most)

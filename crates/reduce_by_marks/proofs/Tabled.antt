@@ -4,14 +4,14 @@ use mathlib.Core.Path.{_≡_, ap, _∙_}
 use mathlib.Core.List.{List, _++_}
 use native.Mathlib.Omega.{arith}
 use lib.ListN.{length, getD, drop, List·getD-append}
-use Rattle.base_bounded.specs.Tests.{listed}
+use Rattle.base_bounded.specs.Quantifiers.{tabulate}
 use Rattle.base_outputs.specs.Output.{onFront}
 use Rattle.graph.specs.Hops.{count, from, to, flat, over}
 use Rattle.graph.specs.Map.{mapped}
 use Rattle.graph.specs.Answers.{most-states}
 use Rattle.graph.specs.declared.Hop.{Hop}
 use Rattle.graph.specs.declared.Shape.{Shape}
-use Rattle.base_bounded.proofs.Tests.{tally-within, length-listed, getD-listed}
+use Rattle.base_bounded.proofs.Quantifiers.{tally-within, length-tabulate, getD-tabulate}
 use Rattle.graph_check.specs.Check.{Admitted}
 use Rattle.base_fixpoint.specs.Pairs.{Pairs}
 use Rattle.reduce_representatives.specs.Representative.{Settles, resting, mapOf}
@@ -26,7 +26,7 @@ use Rattle.reduce_by_marks.specs.declared.ShortGraph.{ShortGraph}
 
 -- the table of next states, the new numbers, the map from old to new and the short hops are at hand
 module _ {sh : Shape} {hs : List ℕ} {u : Pairs} (adm : Admitted sh hs) (sett : Settles sh hs u) (next : List ℕ) (on : Onward hs u next) (news : List ℕ)
-    (fill : Numbers next news) (old : List ℕ) {map : List ℕ} (e : map ≡ onFront (listed (sh .states) (numbered next news (sh .states))) old)
+    (fill : Numbers next news) (old : List ℕ) {map : List ℕ} (e : map ≡ onFront (tabulate (sh .states) (numbered next news (sh .states))) old)
   where
     pub reduced-map : map ≡ onFront (mapList sh hs u) old
     reduced-map = e ∙ ap (λ (m : List ℕ). onFront m old) (tabled-list adm sett next on news fill)
@@ -35,7 +35,7 @@ module _ {sh : Shape} {hs : List ℕ} {u : Pairs} (adm : Admitted sh hs) (sett :
     unfolding mapList
     map-holds s l =
         rw reduced-map
-        (List·getD-append (listed (sh .states) (mapOf sh hs u)) (drop (length (listed (sh .states) (mapOf sh hs u))) old) 0 s (rw (length-listed (mapOf sh hs u) (sh .states)) l) ∙ getD-listed (mapOf sh hs u) (sh .states) l)
+        (List·getD-append (tabulate (sh .states) (mapOf sh hs u)) (drop (length (tabulate (sh .states) (mapOf sh hs u))) old) 0 s (rw (length-tabulate (mapOf sh hs u) (sh .states)) l) ∙ getD-tabulate (mapOf sh hs u) (sh .states) l)
 
     -- the map's numbers and the labels are numbers of states and labels that can be
     map-small : (s : ℕ) → s < sh .states → mapped map s < most-states

@@ -12,10 +12,10 @@ use Rattle.graph.specs.declared.Answer.{Answer}
 use Rattle.graph.specs.declared.Shape.{Shape}
 use Rattle.lts.specs.Reduction.{Confluent}
 use Rattle.lts.specs.Closes.{Sense}
-use Rattle.lts.proofs.SenseForms.{set-confluent}
+use Rattle.lts.proofs.SenseForms.{confluent-in-weak}
 use Rattle.walk_silent.specs.Silent.{HopOf}
 use Rattle.walk_silent.proofs.Rings.{rank}
-use Rattle.base_fixpoint.specs.Pairs.{Pairs, In, Within}
+use Rattle.base_fixpoint.specs.Pairs.{Pairs, In, Subset}
 use Rattle.mark_confluence.specs.Rounds.{silentHops}
 use Rattle.mark_confluence.specs.Held.{marksOf, heldBy}
 use Rattle.mark_confluence.proofs.Marks.{marks-capacity, marks-silent, held-set}
@@ -38,14 +38,14 @@ module _ {sh : Shape} {hs : List ℕ} (red : Reducible sh hs) (sense : Sense) wh
 
   -- confluence in any sense is weak confluence
   pub marked-weakly : Confluent (HopOf hs) (In (markedIn sense sh hs))
-  marked-weakly = set-confluent (HopOf hs) (In (markedIn sense sh hs)) (marked-of sense sh hs) (rank sh hs) (falls red)
+  marked-weakly = confluent-in-weak (HopOf hs) (In (markedIn sense sh hs)) (marked-of sense sh hs) (rank sh hs) (falls red)
 
 -- what marking with the silent hops u leaves in ms is marks, one a hop, of which no visible hop has one, and they are of u
 module _ (sh : Shape) (hs : List ℕ) (u : Pairs) (ms out : List ℕ) (e : ms ≡ onFront (marksOf hs u) out) where
   pub left-marks : count hs ≤ length out → SilentMarks hs ms
   left-marks l = record { capacity = omega (arith, marks-capacity hs u ms out e l); silent = marks-silent hs u ms out e }
 
-  module _ (w : Within (In u) (In (silentHops hs))) where
+  module _ (w : Subset (In u) (In (silentHops hs))) where
     -- so what is reduced along them is reduced along u
     same-graph : {r : ShortGraph} → r ≡ shortGraph sh hs (heldBy hs ms) → r ≡ shortGraph sh hs u
     same-graph q = q ∙ ap (shortGraph sh hs) (held-set hs u ms out e w)
@@ -71,7 +71,7 @@ left-made sh hs k ms out e p q = λ d. record { answer = p d; shape = left-shape
   u : Pairs
   u = markedBy k sh hs
 
-  w : Within (In u) (In (silentHops hs))
+  w : Subset (In u) (In (silentHops hs))
   w = in-silent (senseOf k) sh hs
 
 -- the short hops are no more than the hops

@@ -12,7 +12,7 @@ use Rattle.graph.specs.Hops.{count, from, label, to, is, has}
 use Rattle.graph.specs.Order.{Ascending}
 use Rattle.graph.specs.declared.Shape.{Shape}
 use Rattle.base_bounded.proofs.Bools.{no-test, eq-or-not}
-use Rattle.base_bounded.proofs.Tests.{any-found, tally-within}
+use Rattle.base_bounded.proofs.Quantifiers.{any-found, tally-within}
 use Rattle.graph.proofs.Places.{is-yes}
 use Rattle.walk_silent.specs.Silent.{HopOf, leads}
 use Rattle.walk_silent.proofs.Rings.{rank, rank-falls-accepted}

@@ -13,7 +13,7 @@ use lib.Seq.{getD-set-same, getD-set-other}
 use lib.Dec.{eqb}
 use Rattle.graph.specs.Hops.{count, from, label, to}
 use Rattle.base_bounded.proofs.Bools.{eq-or-not, not-yes, not-no, and-yes, and-no-left, and-no-right}
-use Rattle.base_bounded.proofs.Tests.{any-no, any-found, least-is}
+use Rattle.base_bounded.proofs.Quantifiers.{any-no, any-found, least-is}
 use Rattle.base_fixpoint.specs.Pairs.{Pairs}
 use Rattle.mark_confluence.specs.Held.{isMarked}
 use Rattle.reduce_representatives.specs.Representative.{markedFrom, resting, onward}

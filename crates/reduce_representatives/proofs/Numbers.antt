@@ -5,7 +5,7 @@ use mathlib.Core.Bool.{true}
 use mathlib.Core.List.{List}
 use mathlib.Core.Logic.{_⊎_, inl, inr}
 use native.Mathlib.Omega.{arith}
-use Rattle.base_bounded.specs.Tests.{tally}
+use Rattle.base_bounded.specs.Quantifiers.{tally}
 use Rattle.base_bounded.proofs.Bools.{lt-or-le}
 use Rattle.base_bounded.proofs.Tallies.{tally-past}
 use Rattle.base_fixpoint.specs.Pairs.{Pairs}

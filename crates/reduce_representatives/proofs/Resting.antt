@@ -8,16 +8,16 @@ use mathlib.Core.Logic.{_⊎_, inl, inr, ⊎-elim, _↔_}
 use native.Mathlib.Omega.{arith}
 use borrow.Author.Tests.{eqb-true, eq-eqb, ne-eqb, not-true, not-false}
 use lib.Dec.{eqb}
-use Rattle.base_bounded.specs.Tests.{any, least}
+use Rattle.base_bounded.specs.Quantifiers.{any, least}
 use Rattle.graph.specs.Hops.{count, from, label, to}
 use Rattle.graph_check.specs.Check.{InRange}
 use Rattle.graph.specs.declared.Shape.{Shape}
 use Rattle.base_bounded.proofs.Bools.{clash, decided, and-yes, and-left, and-right, lt-or-le}
-use Rattle.base_bounded.proofs.Tests.{any-at, any-found, least-passes, least-before, least-within}
+use Rattle.base_bounded.proofs.Quantifiers.{any-at, any-found, least-passes, least-before, least-within}
 use Rattle.graph.proofs.Places.{has-place}
 use Rattle.lts.specs.Star.{Star, stay, go}
 use Rattle.lts.specs.Sense.{Normal}
-use Rattle.lts.specs.Reduction.{Confluent, Rests}
+use Rattle.lts.specs.Reduction.{Confluent, NormalForms}
 use Rattle.lts.proofs.Star.{star→joined}
 use Rattle.lts.proofs.Confluence.{rep-normal, joined→rep}
 use Rattle.walk_silent.specs.Silent.{HopOf}
@@ -122,7 +122,7 @@ module _ {sh : Shape} {hs : List ℕ} {u : Pairs} (sett : Settles sh hs u) where
   unfolding repOf
   rep-resting s = followed-rests (sh .states) s (sett .bound s)
 
-  pub rep-rests : Rests (In u) (repOf sh hs u)
+  pub rep-rests : NormalForms (In u) (repOf sh hs u)
   unfolding repOf
   rep-rests = record { down = followed-down hs u (sh .states); rest = λ s. resting-normal _ (rep-resting s) }
 

@@ -6,13 +6,13 @@ use mathlib.Core.List.{List}
 use mathlib.Core.Logic.{inl, inr, ⊎-elim}
 use native.Mathlib.Omega.{arith}
 use lib.ListN.{getD}
-use Rattle.base_bounded.specs.Tests.{tally}
+use Rattle.base_bounded.specs.Quantifiers.{tally}
 use Rattle.graph.specs.Answers.{most-states}
 use Rattle.graph_check.specs.Check.{Admitted}
 use Rattle.graph.specs.declared.Shape.{Shape}
 use Rattle.base_fixpoint.specs.Pairs.{Pairs}
 use Rattle.base_bounded.proofs.Bools.{decided}
-use Rattle.base_bounded.proofs.Tests.{tally-same}
+use Rattle.base_bounded.proofs.Quantifiers.{tally-same}
 use Rattle.reduce_representatives.specs.Representative.{Settles, resting, onward, followed, newOf, repOf, mapOf}
 use Rattle.reduce_representatives.specs.Tables.{Onward, Closed, Falls, Sinks, Numbers, stays, stepped, numbered}
 use Rattle.reduce_representatives.proofs.Resting.{rests-onward, onward-in, onward-falls, followed-in, resting-stays}

@@ -9,7 +9,7 @@ use graph::map::map_at;
 ghost use mathlib.Core.Path.{_≡_};
 ghost use Prim.Native.Nat.{_≤_};
 ghost use lib.ListN.{length};
-ghost use Rattle.base_bounded.specs.Tests.{listed};
+ghost use Rattle.base_bounded.specs.Quantifiers.{tabulate};
 ghost use Rattle.base_outputs.specs.Output.{onFront};
 ghost use Rattle.graph.specs.Answers.{most-states};
 ghost use Rattle.reduce_representatives.specs.Tables.{Closed, Sinks, Numbers, numbered};
@@ -39,7 +39,7 @@ pub fn fill_map(states: usize, mut next: [u16; MOST_STATES], news: &[u16], map: 
     requires capacity { ⌜ states ≤ length (now map) ⌝ }
     requires closed { ⌜ Closed states next ⌝ }
     requires sinks { ⌜ Sinks states next ⌝ }
-    ensures { λ r. ⌜ now (map .exit) ≡ onFront (listed states (numbered next (now (news .entry)) states)) (now (map .entry)) ⌝ }
+    ensures { λ r. ⌜ now (map .exit) ≡ onFront (tabulate states (numbered next (now (news .entry)) states)) (now (map .entry)) ⌝ }
 {
     let mut s = 0;
     while s < states {

@@ -6,13 +6,13 @@ use mathlib.Core.Bool.{true}
 use mathlib.Core.List.{List}
 use native.Mathlib.Omega.{arith}
 use Rattle.base_bounded.proofs.Bools.{no-test}
-use Rattle.base_bounded.proofs.Tests.{tally-within, tally-less}
+use Rattle.base_bounded.proofs.Quantifiers.{tally-within, tally-less}
 use Rattle.base_bounded.proofs.Tallies.{tally-full}
 use Rattle.graph.specs.Hops.{flat}
 use Rattle.graph.specs.declared.Shape.{Shape}
 use Rattle.graph_check.specs.Check.{Admitted}
 use Rattle.lts.specs.Reduction.{Confluent}
-use Rattle.lts.proofs.Left.{left-ringless}
+use Rattle.lts.proofs.Renumbered.{renumbered-acyclic}
 use Rattle.walk_silent.specs.Silent.{HopOf, OnRing}
 use Rattle.walk_silent.proofs.Rings.{ringless-iff}
 use Rattle.walk_silent.proofs.Hops.{silent-start}
@@ -31,7 +31,7 @@ module _ {sh : Shape} {hs : List ℕ} {u : Pairs} (adm : Admitted sh hs) (sett :
   short-ringless conf n (m, h, p) =
       let (r, _, e, _, d, _) = short-only sh hs u n 0 m h in
       let at : mapOf sh hs u r ≡ n = map-own sh hs u r e ∙ d in
-      left-ringless conf (rep-rests sett) (short-left sett) r m (rw at h) (rw at p)
+      renumbered-acyclic conf (rep-rests sett) (short-left sett) r m (rw at h) (rw at p)
 
   pub short-again : Confluent (HopOf hs) (In u) → Reducible (shortShape sh hs u) (flat (shortHops sh hs u))
   short-again conf = record { admitted = shape-admitted adm sett; free = ringless-iff (shape-admitted adm sett .range) .1 (short-ringless conf) }

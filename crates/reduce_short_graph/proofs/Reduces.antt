@@ -3,15 +3,15 @@ use Prim.Native.Nat.{ℕ, _<_}
 use mathlib.Core.Path.{refl, ap, subst}
 use mathlib.Core.List.{List}
 use native.Mathlib.Omega.{arith}
-use Rattle.base_bounded.specs.Tests.{tally}
+use Rattle.base_bounded.specs.Quantifiers.{tally}
 use Rattle.graph.specs.Hops.{count, from, label, to, flat}
 use Rattle.graph_check.specs.Check.{Admitted}
 use Rattle.graph.specs.declared.Shape.{Shape}
-use Rattle.base_bounded.proofs.Tests.{tally-within}
+use Rattle.base_bounded.proofs.Quantifiers.{tally-within}
 use Rattle.graph.proofs.Places.{has-at, has-place, length-flat, count-flat}
 use Rattle.lts.specs.Reduction.{Confluent, Reduces}
-use Rattle.lts.specs.Left.{Left}
-use Rattle.lts.proofs.Left.{left-reduces}
+use Rattle.lts.specs.Renumbered.{Renumbered}
+use Rattle.lts.proofs.Renumbered.{renumbered-reduces}
 use Rattle.walk_silent.specs.Silent.{HopOf}
 use Rattle.base_fixpoint.specs.Pairs.{Pairs, In}
 use Rattle.reduce_representatives.specs.Representative.{Settles, resting, newOf, repOf, mapOf}
@@ -23,7 +23,7 @@ use Rattle.reduce_short_graph.proofs.Images.{ShortHop, short-ascending,
 
 module _ {sh : Shape} {hs : List ℕ} {u : Pairs} (sett : Settles sh hs u) where
   -- the short graph is what is left, numbered anew
-  pub short-left : Left (HopOf hs) (repOf sh hs u) (HopOf (flat (shortHops sh hs u))) (mapOf sh hs u)
+  pub short-left : Renumbered (HopOf hs) (repOf sh hs u) (HopOf (flat (shortHops sh hs u))) (mapOf sh hs u)
   unfolding mapOf
   short-left = record {
     same = λ s. ap (newOf hs u) (rep-own sh hs u _ (rep-resting sett s));
@@ -36,7 +36,7 @@ module _ {sh : Shape} {hs : List ℕ} {u : Pairs} (sett : Settles sh hs u) where
 
   -- the map to the short graph keeps branching bisimilarity: it loses no hop and makes none up
   pub map-reduces : Confluent (HopOf hs) (In u) → {D : ℕ → Type 0} → Reduces D (HopOf hs) (HopOf (flat (shortHops sh hs u))) (mapOf sh hs u)
-  map-reduces conf = left-reduces conf (rep-rests sett) short-left
+  map-reduces conf = renumbered-reduces conf (rep-rests sett) short-left
 
 -- the short graph is admitted
 module _ {sh : Shape} {hs : List ℕ} {u : Pairs} (adm : Admitted sh hs) (sett : Settles sh hs u) where

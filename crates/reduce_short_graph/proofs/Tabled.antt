@@ -5,7 +5,7 @@ use mathlib.Core.Bool.{true}
 use mathlib.Core.List.{List}
 use native.Mathlib.Omega.{arith}
 use lib.ListN.{getD}
-use Rattle.base_bounded.specs.Tests.{listed}
+use Rattle.base_bounded.specs.Quantifiers.{tabulate}
 use Rattle.graph.specs.Hops.{count, from, label, to, lineAt, linedHop}
 use Rattle.graph_check.specs.Check.{Admitted}
 use Rattle.graph.specs.declared.Shape.{Shape}
@@ -19,14 +19,14 @@ use Rattle.reduce_short_graph.specs.Short.{image, gathered, mapList}
 use Rattle.reduce_sorted_images.specs.Ascending.{imaged}
 use Rattle.reduce_short_graph.specs.Tables.{shortBy}
 
-listed-same : (f g : ℕ → ℕ) (n : ℕ) → ((i : ℕ) → i < n → f i ≡ g i) → listed n f ≡ listed n g
-unfolding listed
+listed-same : (f g : ℕ → ℕ) (n : ℕ) → ((i : ℕ) → i < n → f i ≡ g i) → tabulate n f ≡ tabulate n g
+unfolding tabulate
 listed-same f g zero h = refl
 listed-same f g (suc n) h = rw (h n (omega arith), listed-same f g n (λ i l. h i (omega arith)))
 
 module _ {sh : Shape} {hs : List ℕ} {u : Pairs} (adm : Admitted sh hs) (sett : Settles sh hs u) (next : List ℕ) (on : Onward hs u next) where
   module _ (news : List ℕ) (fill : Numbers next news) where
-    pub tabled-list : listed (sh .states) (numbered next news (sh .states)) ≡ mapList sh hs u
+    pub tabled-list : tabulate (sh .states) (numbered next news (sh .states)) ≡ mapList sh hs u
     unfolding mapList
     tabled-list = listed-same (numbered next news (sh .states)) (mapOf sh hs u) (sh .states) (tabled-map adm sett next on news fill)
 

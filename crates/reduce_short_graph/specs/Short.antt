@@ -4,7 +4,7 @@
 use Prim.Native.Nat.{ℕ}
 use mathlib.Core.Bool.{Bool, _&&_}
 use mathlib.Core.List.{List}
-use Rattle.base_bounded.specs.Tests.{tally, listed}
+use Rattle.base_bounded.specs.Quantifiers.{tally, tabulate}
 use Rattle.graph.specs.Hops.{count, from, linedHop, hopAt, same}
 use Rattle.graph.specs.declared.Hop.{Hop}
 use Rattle.graph.specs.declared.Shape.{Shape}
@@ -37,4 +37,4 @@ shortShape sh hs u = record { states = tally (sh .states) (resting hs u); labels
 
 -- the map as a list, "one element a state"
 unfoldable pub mapList : Shape → List ℕ → Pairs → List ℕ
-mapList sh hs u = listed (sh .states) (mapOf sh hs u)
+mapList sh hs u = tabulate (sh .states) (mapOf sh hs u)

@@ -10,9 +10,9 @@ use native.Mathlib.Omega.{arith}
 use borrow.Author.Tests.{lt-ltb, eq-eqb}
 use lib.ListN.{length, getD, length-append}
 use lib.Dec.{ltb, eqb}
-use Rattle.base_bounded.specs.Tests.{tally}
+use Rattle.base_bounded.specs.Quantifiers.{tally}
 use Rattle.base_bounded.proofs.Bools.{eq-or-not, and-yes}
-use Rattle.base_bounded.proofs.Tests.{any-found, tally-within}
+use Rattle.base_bounded.proofs.Quantifiers.{any-found, tally-within}
 use Rattle.base_bounded.proofs.Tallies.{tally-full, tally-both}
 use Rattle.graph.specs.Hops.{count, from, label, to, lineAt, flat, numberPlace}
 use Rattle.graph.proofs.Places.{count-flat}

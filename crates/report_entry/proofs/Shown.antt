@@ -8,8 +8,8 @@ use borrow.Author.Tests.{eq-eqb, ne-eqb, eqb-true, le-leb, lt-leb, lt-ltb, le-lt
 use lib.ListN.{length, getD, drop, length-append, List·getD-append}
 use lib.Seq.{take-at}
 use lib.Dec.{eqb}
-use Rattle.base_bounded.specs.Tests.{listed}
-use Rattle.base_bounded.proofs.Tests.{length-listed, getD-listed}
+use Rattle.base_bounded.specs.Quantifiers.{tabulate}
+use Rattle.base_bounded.proofs.Quantifiers.{length-tabulate, getD-tabulate}
 use Rattle.base_outputs.specs.Output.{onFront}
 use Rattle.graph.specs.Hops.{numberPlace, count, flat, between}
 use Rattle.graph.specs.Answers.{most-hops, most-numbers, andThen, roomFor, refused}
@@ -20,7 +20,7 @@ use Rattle.graph.proofs.Fronts.{flat-front}
 use Rattle.graph_check.specs.Check.{checkOf, Admitted}
 use Rattle.graph_check.proofs.Checked.{check-admitted, admitted-check}
 use Rattle.walk_silent.specs.Silent.{ringless}
-use Rattle.base_fixpoint.specs.Pairs.{In, Within}
+use Rattle.base_fixpoint.specs.Pairs.{In, Subset}
 use Rattle.mark_confluence.specs.Rounds.{silentHops, marked}
 use Rattle.mark_confluence.specs.Held.{heldBy, markOf, marksOf}
 use Rattle.mark_confluence.proofs.Marked.{marked-confluent}
@@ -89,7 +89,7 @@ module _ {sh : Shape} {hs : List ℕ} (adm : Admitted sh hs) {a : Answer} (e : a
 
 -- what marking, and reducing along the marks, leave
 module _ {sh : Shape} {hs : List ℕ} (red : Reducible sh hs) where
-  silent : Within (In (marked hs)) (In (silentHops hs))
+  silent : Subset (In (marked hs)) (In (silentHops hs))
   silent = marked-confluent hs .silent
 
   module _ (ms0 : List ℕ) {ms : List ℕ} (e : ms ≡ onFront (marksOf hs (marked hs)) ms0) where
@@ -100,8 +100,8 @@ module _ {sh : Shape} {hs : List ℕ} (red : Reducible sh hs) where
     unfolding mapList
     reduced-map m0 f s l =
         rw (left-map sh hs (marked hs) ms ms0 e silent m0 f)
-        (List·getD-append (listed (sh .states) (mapOf sh hs (marked hs))) _ 0 s (rw (length-listed (mapOf sh hs (marked hs)) (sh .states)) l) ∙
-        getD-listed (mapOf sh hs (marked hs)) (sh .states) l)
+        (List·getD-append (tabulate (sh .states) (mapOf sh hs (marked hs))) _ 0 s (rw (length-tabulate (mapOf sh hs (marked hs)) (sh .states)) l) ∙
+        getD-tabulate (mapOf sh hs (marked hs)) (sh .states) l)
 
     module _ {r : ShortGraph} (d : r ≡ shortGraph sh hs (heldBy hs ms)) where
       pub reduced-shape : r .shape ≡ shortShape sh hs (marked hs)

@@ -3,7 +3,7 @@ use Prim.Native.Nat.{ℕ, _<_}
 use mathlib.Core.Path.{_≡_}
 use mathlib.Core.List.{List}
 use lib.ListN.{length}
-use Rattle.base_bounded.proofs.Tests.{length-listed, getD-listed}
+use Rattle.base_bounded.proofs.Quantifiers.{length-tabulate, getD-tabulate}
 use Rattle.graph.specs.Map.{mapped}
 use Rattle.graph.specs.declared.Shape.{Shape}
 use Rattle.audit_admitted.specs.Fitting.{AdmittedMap}
@@ -11,19 +11,19 @@ use Rattle.shrink_compose.specs.Chained.{chained, ownMap}
 
 pub chained-length : (m n : List ℕ) → length (chained m n) ≡ length m
 unfolding chained
-chained-length m n = length-listed _ _
+chained-length m n = length-tabulate _ _
 
 pub chained-at : (m n : List ℕ) {s : ℕ} → s < length m → mapped (chained m n) s ≡ mapped n (mapped m s)
 unfolding chained
-chained-at m n l = getD-listed (λ (s : ℕ). mapped n (mapped m s)) (length m) l
+chained-at m n l = getD-tabulate (λ (s : ℕ). mapped n (mapped m s)) (length m) l
 
 pub own-length : (n : ℕ) → length (ownMap n) ≡ n
 unfolding ownMap
-own-length n = length-listed _ n
+own-length n = length-tabulate _ n
 
 pub own-at : (n : ℕ) {s : ℕ} → s < n → mapped (ownMap n) s ≡ s
 unfolding ownMap
-own-at n l = getD-listed (λ (s : ℕ). s) n l
+own-at n l = getD-tabulate (λ (s : ℕ). s) n l
 
 -- of two admitted maps one after the other is admitted
 pub chained-admitted : {sh1 sh2 sh3 : Shape} {m n : List ℕ} → AdmittedMap sh1 sh2 m → AdmittedMap sh2 sh3 n → AdmittedMap sh1 sh3 (chained m n)

@@ -6,7 +6,7 @@ use mathlib.Core.List.{List}
 use Rattle.graph.specs.Map.{mapped}
 use Rattle.graph.specs.declared.Shape.{Shape}
 use Rattle.graph_check.specs.Check.{Admitted}
-use Rattle.lts.proofs.Compose.{composes, Reduces·refl}
+use Rattle.lts.proofs.Compose.{reduces-compose, Reduces·refl}
 use Rattle.audit_faults.specs.Faults.{faultsOf}
 use Rattle.audit_admitted.proofs.Fits.{Audited}
 use Rattle.audit_entry.specs.Auditing.{auditOf, faultless}
@@ -28,7 +28,7 @@ module _ (sh1 sh2 sh3 : Shape) (h1 h2 h3 m n : List ℕ) where
       let f = zero-faultless sh1 sh2 h1 h2 m (a .first .range) y in
       let g = zero-faultless sh2 sh3 h2 h3 n (b .first .range) z in
       reduces-zero sh1 sh3 h1 h3 (chained m n) (a .first .range)
-      (composes {D2 = λ s. s < sh2 .states} (λ s i t h. hop-to (a .first .range) s i t h) (a .map .entries-in) (f .keeps) (g .keeps)) chain
+      (reduces-compose {D2 = λ s. s < sh2 .states} (λ s i t h. hop-to (a .first .range) s i t h) (a .map .entries-in) (f .keeps) (g .keeps)) chain
       (chain (sh1 .initial) (a .first .initial-in) ∙ ap (mapped n) (f .joins) ∙ g .joins)
     where
       chain : (s : ℕ) → s < sh1 .states → mapped (chained m n) s ≡ mapped n (mapped m s)

@@ -9,7 +9,7 @@ use borrow.Author.Tests.{eq-eqb}
 use lib.ListN.{length}
 use lib.Dec.{eqb}
 use Rattle.base_bounded.proofs.Bools.{clash, and-yes, and-right}
-use Rattle.base_bounded.proofs.Tests.{any-at, any-found}
+use Rattle.base_bounded.proofs.Quantifiers.{any-at, any-found}
 use Rattle.graph.specs.Hops.{count, from, label, to}
 use Rattle.graph.specs.declared.Shape.{Shape}
 use Rattle.graph.proofs.Places.{has-place, length-flat}

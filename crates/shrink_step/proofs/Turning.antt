@@ -7,12 +7,12 @@ use native.Mathlib.Numerals.{add-one}
 use native.Mathlib.Omega.{arith}
 use lib.ListN.{length, take}
 use lib.Seq.{take-at}
-use Rattle.base_bounded.proofs.Tests.{length-listed}
+use Rattle.base_bounded.proofs.Quantifiers.{length-tabulate}
 use Rattle.base_outputs.specs.Output.{onFront}
 use Rattle.graph.specs.Hops.{count, flat, between}
 use Rattle.graph.proofs.Fronts.{flat-front, between-count}
 use Rattle.graph.proofs.Places.{length-flat}
-use Rattle.base_fixpoint.specs.Pairs.{Pairs, In, Within}
+use Rattle.base_fixpoint.specs.Pairs.{Pairs, In, Subset}
 use Rattle.mark_confluence.specs.Rounds.{silentHops}
 use Rattle.mark_confluence.specs.Held.{marksOf, heldBy}
 use Rattle.mark_senses.specs.Senses.{senseOf, markedBy}
@@ -38,7 +38,7 @@ module _
     abbrev u : Pairs
     u = markedBy k (at .shape) seen
 
-    silent : Within (In u) (In (silentHops seen))
+    silent : Subset (In u) (In (silentHops seen))
     silent = in-silent (senseOf k) (at .shape) seen
 
     shape-is : made .shape ≡ markedShape (g .shape) (g .hops) k
@@ -77,4 +77,4 @@ module _
         on : then ≡ chained map (markedMap (g .shape) (g .hops) k)
         on =
             t ∙ ap (chained map) (ap (take (at .shape .states)) (rw p at (left-map (at .shape) seen u ms out e silent was f)) ∙
-            take-at (markedMap (g .shape) (g .hops) k) _ (at .shape .states) (length-listed (markedTo (g .shape) (g .hops) k) (at .shape .states)))
+            take-at (markedMap (g .shape) (g .hops) k) _ (at .shape .states) (length-tabulate (markedTo (g .shape) (g .hops) k) (at .shape .states)))

@@ -20,7 +20,7 @@ ghost use mathlib.Core.Bool.{cond, not, _&&_};
 ghost use Prim.Native.Nat.{_<_, _≤_};
 ghost use lib.ListN.{length};
 ghost use lib.Dec.{eqb};
-ghost use Rattle.base_bounded.specs.Tests.{any};
+ghost use Rattle.base_bounded.specs.Quantifiers.{any};
 ghost use Rattle.base_outputs.specs.Output.{onFront};
 ghost use Rattle.graph.specs.Hops.{count, between};
 ghost use Rattle.graph.specs.Answers.{most-states};

@@ -1,12 +1,12 @@
 -- The definitions give every figure of the table of graphs worked by hand: one proof, by computation. Assumes nothing.
 use mathlib.Core.Path.{_≡_, refl}
-use Rattle.base_bounded.specs.Tests.{all, any, least, listed, tally, total}
+use Rattle.base_bounded.specs.Quantifiers.{all, any, least, tabulate, tally, total}
 use Rattle.graph.specs.Hops.{flat, is, labelled, has}
 use Rattle.graph.specs.Order.{before}
 use Rattle.graph_check.specs.Check.{checkOf, countsFit, inside, firstOutside, rises, firstFalling}
 use Rattle.walk_reach.specs.Reaching.{leadsBy}
 use Rattle.walk_silent.specs.Silent.{onRing, lowestOnRing, ringless}
-use Rattle.base_fixpoint.specs.Rounds.{leftAfter}
+use Rattle.base_fixpoint.specs.Approximants.{approximant}
 use Rattle.mark_confluence.specs.Rounds.{survives, marked, closes, tried, answered, answers, hopAnswers, answer, closing}
 use Rattle.mark_confluence.specs.Held.{marksOf, markOf}
 use Rattle.mark_senses.specs.Senses.{setAt, comes, takes, meets, takesTo, answersFrom, answeredIn, closesIn, markedIn, isSense, senseOf, senseAnswer}
@@ -26,7 +26,7 @@ use Rattle.test_worked.specs.Table.{tableOf, table, outcomeOf, fallsIn}
 
 pub given : tableOf table ≡ table
 unfolding
-    all any least listed tally total flat is labelled has before checkOf countsFit inside firstOutside rises firstFalling leadsBy onRing lowestOnRing ringless
-    leftAfter survives marked closes tried answered answers hopAnswers answer closing setAt comes takes meets takesTo answersFrom answeredIn closesIn markedIn isSense senseOf senseAnswer marksOf markOf markAnswer fell standing reached shaken due testsIn testsUpTo testsOf countedOf markedFrom resting onward followed repOf newOf mapOf
+    all any least tabulate tally total flat is labelled has before checkOf countsFit inside firstOutside rises firstFalling leadsBy onRing lowestOnRing ringless
+    approximant survives marked closes tried answered answers hopAnswers answer closing setAt comes takes meets takesTo answersFrom answeredIn closesIn markedIn isSense senseOf senseAnswer marksOf markOf markAnswer fell standing reached shaken due testsIn testsUpTo testsOf countedOf markedFrom resting onward followed repOf newOf mapOf
     insert collected gathered shortHops shortShape mapList initialFault kept lostFaults offers backed matched madeUp madeUpFaults faultsOf firstInitial lostPlace firstLost madeUpPlace madeUpState firstMadeUp firstFault reduceAnswer reduceOf firstHigh mapFits auditAnswer auditOf hopsBefore findOf outcomeOf fallsIn
 given = refl

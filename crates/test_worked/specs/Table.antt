@@ -5,7 +5,7 @@ use mathlib.Core.Bool.{cond, not, _&&_}
 use mathlib.Core.List.{List, [], _∷_, map}
 use lib.ListN.{length}
 use lib.Dec.{eqb}
-use Rattle.base_bounded.specs.Tests.{least, listed}
+use Rattle.base_bounded.specs.Quantifiers.{least, tabulate}
 use Rattle.graph.specs.Hops.{count, from, label, to, hopOf, flat}
 use Rattle.graph.specs.Answers.{accepted, refused}
 use Rattle.graph.specs.declared.Hop.{Hop}
@@ -87,7 +87,7 @@ outcomeOf sh hs =
       answer = markAnswer sh hs 1 hs;
       reduced = reduceOf sh hs 1 (sh .states) (length hs);
       marks = marksMade sh hs 1;
-      falls = listed (count hs) (fallsIn hs);
+      falls = tabulate (count hs) (fallsIn hs);
       tests = countedOf sh hs hs .tests;
       map = markedMap sh hs 1;
       short = markedHops sh hs 1;

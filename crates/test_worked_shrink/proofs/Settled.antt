@@ -6,15 +6,15 @@ use mathlib.Core.Bool.{Bool, true, cond, _&&_}
 use mathlib.Core.List.{List}
 use borrow.Author.Tests.{eq-eqb, eqb-true}
 use lib.Dec.{eqb}
-use Rattle.base_bounded.specs.Tests.{all}
+use Rattle.base_bounded.specs.Quantifiers.{all}
 use Rattle.base_bounded.proofs.Bools.{and-yes, and-left, and-right}
-use Rattle.base_bounded.proofs.Tests.{all-at}
+use Rattle.base_bounded.proofs.Quantifiers.{all-at}
 use Rattle.graph.specs.Hops.{count, from, label, to}
 use Rattle.graph.specs.declared.Shape.{Shape}
 use Rattle.graph.proofs.Places.{has-at, has-place, is-yes, is-from, is-label, is-to}
-use Rattle.base_fixpoint.specs.Pairs.{In, Within}
-use Rattle.base_fixpoint.specs.Rounds.{leftAfter}
-use Rattle.base_fixpoint.proofs.Rounds.{kept-left}
+use Rattle.base_fixpoint.specs.Pairs.{In, Subset}
+use Rattle.base_fixpoint.specs.Approximants.{approximant}
+use Rattle.base_fixpoint.proofs.Approximants.{post-fixed-approximant}
 use Rattle.lts.specs.Closes.{Sense}
 use Rattle.mark_confluence.specs.Rounds.{silentHops}
 use Rattle.mark_confluence.specs.Held.{isMarked, heldBy}
@@ -29,31 +29,31 @@ module _ (sense : Sense) (sh : Shape) (hs ms : List ℕ) where
 
   -- if it is silent and one round leaves it, it is marked
   unfoldable pub leftAt : ℕ → Bool
-  leftAt i = cond (eqb (label hs i) 0 && leftAfter (closesIn sense sh hs) (silentHops hs) 1 (from hs i) (to hs i)) (isMarked ms i) true
+  leftAt i = cond (eqb (label hs i) 0 && approximant (closesIn sense sh hs) (silentHops hs) 1 (from hs i) (to hs i)) (isMarked ms i) true
 
   module _ (c : all (count hs) closesAt ≡ true) (l : all (count hs) leftAt ≡ true) where
     closed : (i : ℕ) → isMarked ms i ≡ true → closesAt i ≡ true → (label hs i ≡ 0) × (closesIn sense sh hs (heldBy hs ms) (from hs i) (to hs i) ≡ true)
     unfolding closesAt
     closed i m e = let p = rw m at e in (eqb-true _ _ (and-left (eqb (label hs i) 0) _ p), and-right (eqb (label hs i) 0) _ p)
 
-    held-silent : Within (In (heldBy hs ms)) (In (silentHops hs))
+    held-silent : Subset (In (heldBy hs ms)) (In (silentHops hs))
     held-silent s t e =
         let (i, k, p, m) = held-says hs ms s t e in
         rw (is-from hs s 0 t i p, is-label hs s 0 t i p, is-to hs s 0 t i p) at (has-at hs k)
 
-    held-closes : Within (In (heldBy hs ms)) (In (closesIn sense sh hs (heldBy hs ms)))
+    held-closes : Subset (In (heldBy hs ms)) (In (closesIn sense sh hs (heldBy hs ms)))
     held-closes s t e =
         let (i, k, p, m) = held-says hs ms s t e in
         rw (is-from hs s 0 t i p, is-to hs s 0 t i p) at (closed i m (all-at closesAt (count hs) c k) .1)
 
-    left : (i : ℕ) → label hs i ≡ 0 → leftAfter (closesIn sense sh hs) (silentHops hs) 1 (from hs i) (to hs i) ≡ true → leftAt i ≡ true → isMarked ms i ≡ true
+    left : (i : ℕ) → label hs i ≡ 0 → approximant (closesIn sense sh hs) (silentHops hs) 1 (from hs i) (to hs i) ≡ true → leftAt i ≡ true → isMarked ms i ≡ true
     unfolding leftAt
     left i z m e = rw (and-yes (eq-eqb _ _ z) m) at e
 
-    marked-held : Within (In (markedIn sense sh hs)) (In (heldBy hs ms))
+    marked-held : Subset (In (markedIn sense sh hs)) (In (heldBy hs ms))
     marked-held s t e =
         let p = has-place hs s 0 t (in-silent sense sh hs s t e) in
-        let r = kept-left (closesIn sense sh hs) (silentHops hs) (in-silent sense sh hs) (in-kept sense sh hs) 1 s t e in
+        let r = post-fixed-approximant (closesIn sense sh hs) (silentHops hs) (in-silent sense sh hs) (in-kept sense sh hs) 1 s t e in
         held-yes hs ms s t (p .within) (is-yes hs s 0 t (p .at) (p .from-is) (p .label-is) (p .to-is))
         (left (p .at) (p .label-is) (rw (p .from-is, p .to-is) r) (all-at leftAt (count hs) l (p .within)))
 

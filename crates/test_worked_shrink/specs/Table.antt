@@ -3,7 +3,7 @@
 use Prim.Native.Nat.{ℕ, suc}
 use mathlib.Core.List.{List, [], _∷_, _++_, map}
 use lib.ListN.{length}
-use Rattle.base_bounded.specs.Tests.{listed}
+use Rattle.base_bounded.specs.Quantifiers.{tabulate}
 use Rattle.graph.specs.Hops.{linedHop, hopOf, flat}
 use Rattle.graph.specs.Answers.{accepted, refused}
 use Rattle.graph.specs.declared.Hop.{Hop}
@@ -105,7 +105,7 @@ twice = lined 0 1 1 4 ∷ hop 1 0 2 ∷ lined 1 1 0 3 ∷ lined 2 0 0 5 ∷ []
 
 -- so many nines, which are no number of these graphs: what an output held before, and holds past what is written
 abbrev nines : ℕ → List ℕ
-nines n = listed n (λ (_ : ℕ). 9)
+nines n = tabulate n (λ (_ : ℕ). 9)
 
 -- a reduction: the marks, and of the stage after it the states and labels, with initial state 0, the hops, the map and how many reductions led to it
 abbrev turn : List ℕ → ℕ → ℕ → List Hop → List ℕ → ℕ → Turn

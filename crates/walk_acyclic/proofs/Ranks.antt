@@ -14,7 +14,7 @@ use Rattle.graph.specs.Search.{firstOf, pastOf, labelledPast}
 use Rattle.graph_check.specs.Check.{InRange}
 use Rattle.graph.specs.declared.Shape.{Shape}
 use Rattle.base_bounded.proofs.Bools.{clash, decided, lt-or-le, or-left, or-right, or-no, or-yes, not-yes, not-no}
-use Rattle.base_bounded.proofs.Tests.{all-at, all-fails, tally-less, tally-within}
+use Rattle.base_bounded.proofs.Quantifiers.{all-at, all-fails, tally-less, tally-within}
 use Rattle.graph.proofs.Lookup.{first-within, range-only, all-range}
 use Rattle.graph.proofs.Places.{labelled-yes, labelled-parts}
 use Rattle.lts.specs.Star.{stay, go}

@@ -5,7 +5,7 @@ use mathlib.Core.Path.{_≡_}
 use mathlib.Core.Bool.{Bool, true, not, _||_}
 use mathlib.Core.List.{List}
 use lib.ListN.{length}
-use Rattle.base_bounded.specs.Tests.{all, tally}
+use Rattle.base_bounded.specs.Quantifiers.{all, tally}
 use Rattle.graph.specs.Hops.{count, to, labelled}
 use Rattle.walk_reach.specs.Front.{noted}
 use Rattle.walk_silent.specs.Silent.{OnRing}

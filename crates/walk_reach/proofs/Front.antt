@@ -9,9 +9,9 @@ use native.Mathlib.Omega.{arith}
 use borrow.Author.Tests.{eqb-true, eq-eqb, ne-eqb}
 use lib.ListN.{length, getD, set, drop, replicate, length-append, length-drop, length-set, length-replicate}
 use lib.Seq.{drop-cons, set-at, getD-set-same, getD-set-other, drop-set-lt}
-use Rattle.base_bounded.specs.Tests.{tally}
+use Rattle.base_bounded.specs.Quantifiers.{tally}
 use Rattle.base_bounded.proofs.Bools.{clash, eq-or-not}
-use Rattle.base_bounded.proofs.Tests.{tally-less, tally-within}
+use Rattle.base_bounded.proofs.Quantifiers.{tally-less, tally-within}
 use Rattle.walk_reach.specs.Reaching.{ChosenOf}
 use Rattle.walk_reach.specs.Front.{noted, seenWith, queueWith, tailWith, Front, Grown}
 

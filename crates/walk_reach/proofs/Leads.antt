@@ -7,12 +7,12 @@ use mathlib.Core.List.{List}
 use mathlib.Core.Logic.{_⊎_, inl, inr, ⊎-elim, _↔_}
 use borrow.Author.Tests.{eqb-true, eq-eqb, not-false}
 use lib.Dec.{eqb}
-use Rattle.base_bounded.specs.Tests.{any}
+use Rattle.base_bounded.specs.Quantifiers.{any}
 use Rattle.graph.specs.Hops.{count, from, to}
 use Rattle.graph_check.specs.Check.{InRange}
 use Rattle.graph.specs.declared.Shape.{Shape}
 use Rattle.base_bounded.proofs.Bools.{and-left, and-right, and-yes, or-left, or-right, or-yes, not-yes}
-use Rattle.base_bounded.proofs.Tests.{any-at, any-found, any-same}
+use Rattle.base_bounded.proofs.Quantifiers.{any-at, any-found, any-same}
 use Rattle.base_bounded.proofs.Chains.{Falling, Still, still-at-last}
 use Rattle.lts.specs.Star.{Star, stay, go}
 use Rattle.walk_reach.specs.Reaching.{ChosenOf, leadsBy}

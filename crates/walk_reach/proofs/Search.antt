@@ -9,11 +9,11 @@ use native.Mathlib.Omega.{arith}
 use lib.Dec.{eqb}
 use lib.ListN.{length, getD, set, take, drop, replicate, length-set, length-replicate, take-append-drop, List·getD-append, getD-replicate}
 use lib.Seq.{ext-getD, length-take-le, getD-take, drop-at, drop-set-lt}
-use Rattle.base_bounded.specs.Tests.{listed}
+use Rattle.base_bounded.specs.Quantifiers.{tabulate}
 use Rattle.graph_check.specs.Check.{InRange}
 use Rattle.graph.specs.declared.Shape.{Shape}
 use Rattle.base_bounded.proofs.Bools.{clash, eq-or-not, no-test}
-use Rattle.base_bounded.proofs.Tests.{length-listed, getD-listed, tally-within}
+use Rattle.base_bounded.proofs.Quantifiers.{length-tabulate, getD-tabulate, tally-within}
 use Rattle.lts.specs.Star.{Star, stay, go}
 use Rattle.lts.proofs.Star.{one, join}
 use Rattle.walk_reach.specs.Reaching.{ChosenOf, leadsBy}
@@ -125,23 +125,23 @@ module _ {sh : Shape} {hs : List ℕ} (ranged : InRange sh hs) {c : ℕ → Bool
     -- at the end the bytes are those of the states that s leads to
     pub search-ends : s < sh .states → seen ≡ reached hs c (sh .states) s ++ drop (sh .states) seen₀
     unfolding reached
-    search-ends m = sym (take-append-drop (sh .states) seen) ∙ ap (λ (l : List ℕ). l ++ drop (sh .states) seen) fronts ∙ ap (λ (l : List ℕ). listed (sh .states) bit ++ l) (a .rest) where
+    search-ends m = sym (take-append-drop (sh .states) seen) ∙ ap (λ (l : List ℕ). l ++ drop (sh .states) seen) fronts ∙ ap (λ (l : List ℕ). tabulate (sh .states) bit ++ l) (a .rest) where
       bit : ℕ → ℕ
       bit t = cond (leadsBy hs c (sh .states) s t) 1 0
 
       size : length (take (sh .states) seen) ≡ sh .states
       size = length-take-le (sh .states) seen (a .front .seen-capacity)
 
-      fronts : take (sh .states) seen ≡ listed (sh .states) bit
-      fronts = ext-getD 0 _ _ (size ∙ sym (length-listed bit (sh .states)))
+      fronts : take (sh .states) seen ≡ tabulate (sh .states) bit
+      fronts = ext-getD 0 _ _ (size ∙ sym (length-tabulate bit (sh .states)))
           (λ i l. let k : i < sh .states = omega (arith, size) in
-          getD-take (sh .states) seen i 0 k ∙ noted-leads m i k ∙ sym (getD-listed bit (sh .states) k))
+          getD-take (sh .states) seen i 0 k ∙ noted-leads m i k ∙ sym (getD-tabulate bit (sh .states) k))
 
 -- what the bytes that a search leaves say of a state
 module _ (hs : List ℕ) (c : ℕ → Bool) (n s : ℕ) (rest : List ℕ) (t : ℕ) (l : t < n) where
   pub reached-at : getD (reached hs c n s ++ rest) t 0 ≡ cond (leadsBy hs c n s t) 1 0
   unfolding reached
-  reached-at = List·getD-append (listed n bit) rest 0 t (rw (length-listed bit n) l) ∙ getD-listed bit n l where
+  reached-at = List·getD-append (tabulate n bit) rest 0 t (rw (length-tabulate bit n) l) ∙ getD-tabulate bit n l where
     bit : ℕ → ℕ
     bit t = cond (leadsBy hs c n s t) 1 0
 

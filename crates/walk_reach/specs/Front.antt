@@ -8,7 +8,7 @@ use mathlib.Core.List.{List}
 use mathlib.Core.Logic.{_⊎_}
 use lib.ListN.{length, getD, set, drop}
 use lib.Dec.{eqb}
-use Rattle.base_bounded.specs.Tests.{tally, listed}
+use Rattle.base_bounded.specs.Quantifiers.{tally, tabulate}
 use Rattle.graph.specs.Hops.{count}
 use Rattle.graph.specs.declared.Shape.{Shape}
 use Rattle.graph_successors.specs.Starts.{Tabled}
@@ -20,7 +20,7 @@ noted seen t = eqb (getD seen t 0) 1
 
 -- the bytes of the states that s leads to along hops of the set c, for n states
 unfoldable pub reached : List ℕ → (ℕ → Bool) → ℕ → ℕ → List ℕ
-reached hs c n s = listed n (λ (t : ℕ). cond (leadsBy hs c n s t) 1 0)
+reached hs c n s = tabulate n (λ (t : ℕ). cond (leadsBy hs c n s t) 1 0)
 
 -- to note t: its byte is 1, and a state that was not noted stands at the end of the queue
 unfoldable pub seenWith : List ℕ → ℕ → List ℕ

@@ -6,12 +6,12 @@ use mathlib.Core.Bool.{true, _&&_}
 use mathlib.Core.List.{List, _++_}
 use borrow.Author.Tests.{eq-eqb, eqb-true}
 use lib.Dec.{eqb}
-use Rattle.base_bounded.specs.Tests.{any}
+use Rattle.base_bounded.specs.Quantifiers.{any}
 use Rattle.graph.specs.Hops.{count, from, label, to}
 use Rattle.graph_check.specs.Check.{InRange}
 use Rattle.graph.specs.declared.Shape.{Shape}
 use Rattle.base_bounded.proofs.Bools.{and-left, and-right, and-yes, same-test}
-use Rattle.base_bounded.proofs.Tests.{any-at, any-found}
+use Rattle.base_bounded.proofs.Quantifiers.{any-at, any-found}
 use Rattle.graph.proofs.Places.{has-place, place-has}
 use Rattle.lts.specs.Star.{stay, go}
 use Rattle.lts.proofs.Star.{one, join}

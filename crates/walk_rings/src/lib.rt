@@ -21,7 +21,7 @@ use walk_silent::chosen::silent_bytes;
 ghost use mathlib.Core.Path.{_≡_};
 ghost use Prim.Native.Nat.{_<_, _≤_};
 ghost use lib.ListN.{length};
-ghost use Rattle.base_bounded.specs.Tests.{any};
+ghost use Rattle.base_bounded.specs.Quantifiers.{any};
 ghost use Rattle.graph.specs.Hops.{count};
 ghost use Rattle.graph_check.specs.Check.{Admitted};
 ghost use Rattle.graph_successors.specs.Starts.{Tabled};

@@ -6,7 +6,7 @@ use mathlib.Core.List.{List, _++_}
 use mathlib.Core.Logic.{_↔_}
 use Rattle.graph_check.specs.Check.{InRange}
 use Rattle.graph.specs.declared.Shape.{Shape}
-use Rattle.lts.proofs.Star.{wider}
+use Rattle.lts.proofs.Star.{star-mono}
 use Rattle.walk_reach.specs.Reaching.{chosenIn, Chooses}
 use Rattle.walk_reach.specs.Front.{noted, reached}
 use Rattle.walk_reach.proofs.Leads as by
@@ -20,7 +20,7 @@ module _ (hs : List ℕ) where
 
   -- a bounded walk is a walk
   pub leads-walk : (k s t : ℕ) → leads hs k s t ≡ true → Leads hs s t
-  leads-walk k s t e = wider (chosen-silent hs) (by.leads-walk hs (silentAt hs) k s t e)
+  leads-walk k s t e = star-mono (chosen-silent hs) (by.leads-walk hs (silentAt hs) k s t e)
 
   -- what the bytes say of a state that a search along the silent hops leaves
   pub noted-leads : (bytes : List ℕ) → Chooses hs (silentAt hs) bytes → (n s : ℕ) (rest : List ℕ) {t : ℕ} → t < n →
@@ -31,7 +31,7 @@ module _ (hs : List ℕ) where
 
 module _ {sh : Shape} {hs : List ℕ} (ranged : InRange sh hs) where
   pub walk-leads : {s t : ℕ} → Leads hs s t → leads hs (sh .states) s t ≡ true
-  walk-leads w = by.walk-leads ranged (silentAt hs) (wider (silent-chosen hs) w)
+  walk-leads w = by.walk-leads ranged (silentAt hs) (star-mono (silent-chosen hs) w)
 
   pub leads-iff : (s t : ℕ) → (leads hs (sh .states) s t ≡ true) ↔ Leads hs s t
   leads-iff s t = (leads-walk hs (sh .states) s t, walk-leads)

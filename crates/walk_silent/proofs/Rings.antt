@@ -8,13 +8,13 @@ use mathlib.Core.Logic.{⊎-elim, _↔_}
 use native.Mathlib.Omega.{arith}
 use borrow.Author.Tests.{ltb-false, le-ltb}
 use lib.Dec.{ltb}
-use Rattle.base_bounded.specs.Tests.{tally}
+use Rattle.base_bounded.specs.Quantifiers.{tally}
 use Rattle.graph.specs.Hops.{count, to, labelled}
 use Rattle.graph.specs.Answers.{refused, accepted}
 use Rattle.graph_check.specs.Check.{InRange}
 use Rattle.graph.specs.declared.Shape.{Shape}
 use Rattle.base_bounded.proofs.Bools.{clash, and-left, and-right, and-yes, no-test, lt-or-le}
-use Rattle.base_bounded.proofs.Tests.{any-at, any-found, least-passes, least-before, least-is, tally-less}
+use Rattle.base_bounded.proofs.Quantifiers.{any-at, any-found, least-passes, least-before, least-is, tally-less}
 use Rattle.lts.specs.Star.{go}
 use Rattle.walk_silent.specs.Silent.{SilentOf, OnRing, leads, onRing, lowestOnRing, ringless}
 use Rattle.walk_silent.proofs.Hops.{silent-here, silent-place, silent-start}

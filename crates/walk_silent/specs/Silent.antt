@@ -4,7 +4,7 @@ use mathlib.Core.Path.{_≡_}
 use mathlib.Core.Bool.{Bool, true, cond, _&&_}
 use mathlib.Core.List.{List}
 use lib.Dec.{eqb, ltb}
-use Rattle.base_bounded.specs.Tests.{any, least}
+use Rattle.base_bounded.specs.Quantifiers.{any, least}
 use Rattle.graph.specs.Hops.{count, label, to, labelled, has}
 use Rattle.graph.specs.Answers.{accepted, refused}
 use Rattle.graph.specs.declared.Shape.{Shape}

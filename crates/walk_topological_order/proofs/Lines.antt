@@ -9,9 +9,9 @@ use native.Mathlib.Omega.{arith}
 use borrow.Author.Tests.{eq-eqb, eqb-true}
 use lib.ListN.{length, getD, set, length-set, replicate, length-replicate, getD-replicate}
 use lib.Dec.{eqb}
-use Rattle.base_bounded.specs.Tests.{tally}
+use Rattle.base_bounded.specs.Quantifiers.{tally}
 use Rattle.base_bounded.proofs.Bools.{clash, decided, lt-or-le, and-yes, and-left, and-right, or-left, or-right, not-no, no-test}
-use Rattle.base_bounded.proofs.Tests.{all-yes, tally-within, tally-zero, tally-less}
+use Rattle.base_bounded.proofs.Quantifiers.{all-yes, tally-within, tally-zero, tally-less}
 use Rattle.base_bounded.proofs.Tallies.{tally-full, tally-one, tally-both}
 use Rattle.graph.specs.Hops.{count, from, label, to, labelled}
 use Rattle.graph.specs.declared.Shape.{Shape}

@@ -7,9 +7,9 @@ use mathlib.Core.Logic.{_⊎_, inl, inr}
 use native.Mathlib.Omega.{arith}
 use lib.ListN.{length, getD, set, length-set}
 use lib.Seq.{getD-set-same, getD-set-other}
-use Rattle.base_bounded.specs.Tests.{tally}
+use Rattle.base_bounded.specs.Quantifiers.{tally}
 use Rattle.base_bounded.proofs.Bools.{lt-or-le}
-use Rattle.base_bounded.proofs.Tests.{tally-more}
+use Rattle.base_bounded.proofs.Quantifiers.{tally-more}
 use Rattle.base_bounded.proofs.Tallies.{tally-past}
 use Rattle.graph.specs.Hops.{count, label, labelled}
 use Rattle.graph.specs.Order.{Ascending}

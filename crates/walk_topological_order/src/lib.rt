@@ -19,7 +19,7 @@ ghost use mathlib.Core.Path.{_≡_};
 ghost use Prim.Native.Nat.{_+_, _<_, _≤_};
 ghost use lib.ListN.{length};
 ghost use Rattle.graph.specs.Hops.{count, labelled};
-ghost use Rattle.base_bounded.specs.Tests.{tally};
+ghost use Rattle.base_bounded.specs.Quantifiers.{tally};
 ghost use Rattle.walk_silent.specs.Silent.{ringless};
 ghost use Rattle.graph_successors.specs.Starts.{Tabled};
 ghost use Rattle.walk_topological_order.specs.Line.{Line};

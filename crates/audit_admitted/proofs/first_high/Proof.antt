@@ -7,9 +7,9 @@ use native.Mathlib.Omega.{arith}
 use borrow.Author.Tests.{lt-ltb, le-ltb}
 use lib.ListN.{length}
 use lib.Dec.{ltb}
-use Rattle.base_bounded.specs.Tests.{least}
+use Rattle.base_bounded.specs.Quantifiers.{least}
 use Rattle.base_bounded.proofs.Bools.{not-yes, not-no}
-use Rattle.base_bounded.proofs.Tests.{least-none, least-more, least-found, least-done}
+use Rattle.base_bounded.proofs.Quantifiers.{least-none, least-more, least-found, least-done}
 use Rattle.graph.specs.Map.{mapped}
 use Rattle.audit_admitted.specs.Fitting.{firstHigh}
 use Rattle.audit_admitted.proofs.first_high.Statement.{statement}

@@ -6,8 +6,8 @@ use mathlib.Core.Path.{_≡_, sym, _∙_}
 use mathlib.Core.Logic.{⊎-elim}
 use native.Mathlib.Omega.{arith}
 use lib.ListN.{length}
-use Rattle.base_bounded.specs.Tests.{total}
-use Rattle.base_bounded.proofs.Tests.{total-none, total-more, total-done}
+use Rattle.base_bounded.specs.Quantifiers.{total}
+use Rattle.base_bounded.proofs.Quantifiers.{total-none, total-more, total-done}
 use Rattle.graph.specs.Hops.{count}
 use Rattle.graph.specs.Answers.{most-states}
 use Rattle.audit_unmatched.specs.States.{Fresh, madeUpOf}

@@ -5,10 +5,10 @@ use mathlib.Core.Path.{_≡_, sym, ap, _∙_}
 use mathlib.Core.Bool.{Bool}
 use mathlib.Core.Logic.{⊎-elim}
 use native.Mathlib.Omega.{arith}
-use Rattle.base_bounded.specs.Tests.{tally}
+use Rattle.base_bounded.specs.Quantifiers.{tally}
 use Rattle.graph.specs.Hops.{count}
 use Rattle.graph.specs.Search.{firstOf}
-use Rattle.base_bounded.proofs.Tests.{least-within, tally-more, tally-skip, tally-within}
+use Rattle.base_bounded.proofs.Quantifiers.{least-within, tally-more, tally-skip, tally-within}
 use Rattle.base_bounded.proofs.Least.{tally-least}
 use Rattle.graph.proofs.Lookup.{first-within}
 use Rattle.graph_successors.proofs.Firsts.{start-is}

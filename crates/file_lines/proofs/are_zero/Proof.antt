@@ -6,8 +6,8 @@ use native.Mathlib.Omega.{arith}
 use borrow.Author.Needs.{needs}
 use borrow.Author.Tests.{eq-eqb, ne-eqb}
 use lib.ListN.{length}
-use Rattle.base_bounded.specs.Tests.{all}
-use Rattle.base_bounded.proofs.Tests.{all-none, all-more, all-fails, all-done}
+use Rattle.base_bounded.specs.Quantifiers.{all}
+use Rattle.base_bounded.proofs.Quantifiers.{all-none, all-more, all-fails, all-done}
 use Rattle.file_lines.specs.LineField.{linePlace, zeroLines}
 use Rattle.file_lines.proofs.Laws.{zeroLine}
 use Rattle.file_lines.proofs.are_zero.Statement.{statement}

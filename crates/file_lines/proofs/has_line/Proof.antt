@@ -5,9 +5,9 @@ use mathlib.Core.Bool.{false}
 use native.Mathlib.Omega.{arith}
 use borrow.Author.Needs.{needs}
 use borrow.Author.Tests.{eq-eqb, ne-eqb}
-use Rattle.base_bounded.specs.Tests.{any}
+use Rattle.base_bounded.specs.Quantifiers.{any}
 use Rattle.base_bounded.proofs.Bools.{not-yes, not-no}
-use Rattle.base_bounded.proofs.Tests.{any-none, any-more, any-found, any-done}
+use Rattle.base_bounded.proofs.Quantifiers.{any-none, any-more, any-found, any-done}
 use Rattle.graph.specs.Hops.{count}
 use Rattle.file_lines.specs.LineField.{anyLine}
 use Rattle.file_lines.proofs.Laws.{lined}

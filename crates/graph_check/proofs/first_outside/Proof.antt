@@ -4,10 +4,10 @@ use Prim.Native.Nat.{ℕ, _≤_, _-_}
 use mathlib.Core.Path.{_≡_, sym, ap, _∙_}
 use mathlib.Core.Bool.{not}
 use native.Mathlib.Omega.{arith}
-use Rattle.base_bounded.specs.Tests.{least}
+use Rattle.base_bounded.specs.Quantifiers.{least}
 use Rattle.graph.specs.Hops.{count}
 use Rattle.graph_check.specs.Check.{inside, firstOutside}
-use Rattle.base_bounded.proofs.Tests.{least-none, least-more, least-found, least-done}
+use Rattle.base_bounded.proofs.Quantifiers.{least-none, least-more, least-found, least-done}
 use Rattle.graph_check.proofs.first_outside.Statement.{statement}
 use Rattle.graph_check.proofs.first_outside.Tie as tie
 

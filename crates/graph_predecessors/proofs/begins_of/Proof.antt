@@ -5,8 +5,8 @@ use native.Mathlib.Omega.{arith}
 use borrow.Author.Needs.{needs}
 use lib.ListN.{length, getD, length-set}
 use lib.Seq.{getD-set-other}
-use Rattle.base_bounded.specs.Slots.{keyed}
-use Rattle.base_bounded.proofs.Slots.{beginning-zero, beginning-step, beginning-within}
+use Rattle.base_bounded.specs.Slots.{keyCount}
+use Rattle.base_bounded.proofs.Slots.{key-start-zero, key-start-step, key-start-within}
 use Rattle.graph.specs.Hops.{count, to}
 use Rattle.graph.specs.Answers.{most-states}
 use Rattle.graph_successors.proofs.Firsts.{filled-more}
@@ -17,7 +17,7 @@ use Rattle.graph_predecessors.proofs.begins_of.Tie as tie
 abbrev Inv-loop : tie.InvT-loop
 Inv-loop hops begins₀ at₀ s₀ begins at s =
     (length begins ≡ most-states + 1) × (s ≤ most-states + 1) × (at ≡ beginOf hops s) × ((t : ℕ) → t < s → getD begins t 0 ≡ beginOf hops t) ×
-    ((t : ℕ) → s ≤ t → t ≤ most-states → getD begins t 0 ≡ keyed (to hops) (count hops) t)
+    ((t : ℕ) → s ≤ t → t ≤ most-states → getD begins t 0 ≡ keyCount (to hops) (count hops) t)
 
 abbrev μ-loop : tie.MeasureT-loop
 μ-loop hops begins₀ at₀ s₀ begins at s = most-states + 1 - s
@@ -27,7 +27,7 @@ ends-of-requires c κs = search needs
 
 loop-holds : tie.Need-loop-holds Inv-loop μ-loop
 unfolding Counted
-loop-holds c = (search needs, omega arith, sym (beginning-zero _ _), (λ t l. absurd (omega arith)), (λ t l m. c .ends-of .ensures t m))
+loop-holds c = (search needs, omega arith, sym (key-start-zero _ _), (λ t l. absurd (omega arith)), (λ t l m. c .ends-of .ensures t m))
 
 mul-ending : tie.Need-mul-ending Inv-loop μ-loop
 mul-ending c = omega arith
@@ -46,8 +46,8 @@ add-at c =
     let st = c .before .before .before .before in
     let v = c .before .loop in
     let e : v .at + getD (v .begins) (v .s) 0 ≡ beginOf (st .args .hops .now) (v .s + 1) =
-    omega (arith, beginning-step (to (st .args .hops .now)) (count (st .args .hops .now)) (v .s), v .inv .4 (v .s) (omega arith) (omega arith)) in
-    omega (arith, beginning-within (to (st .args .hops .now)) (count (st .args .hops .now)) (v .s + 1), st .pre .hops-most)
+    omega (arith, key-start-step (to (st .args .hops .now)) (count (st .args .hops .now)) (v .s), v .inv .4 (v .s) (omega arith) (omega arith)) in
+    omega (arith, key-start-within (to (st .args .hops .now)) (count (st .args .hops .now)) (v .s + 1), st .pre .hops-most)
 
 add-s : tie.Need-add-s Inv-loop μ-loop
 add-s c = omega arith
@@ -61,7 +61,7 @@ loop-again c =
     let v = c .before .loop in (
       simp length-set (v .inv .0),
       omega arith,
-      omega (arith, beginning-step (to (st .args .hops .now)) (count (st .args .hops .now)) (v .s), v .inv .4 (v .s) (omega arith) (omega arith)),
+      omega (arith, key-start-step (to (st .args .hops .now)) (count (st .args .hops .now)) (v .s), v .inv .4 (v .s) (omega arith) (omega arith)),
       filled-more (beginOf (st .args .hops .now)) (v .begins) (omega arith) (v .inv .2) (v .inv .3),
       (λ t l m. getD-set-other (v .begins) (v .s) t (v .at) 0 (λ q. omega arith) ∙ v .inv .4 t (omega arith) m),
     )

@@ -4,8 +4,8 @@ use mathlib.Core.Path.{_≡_, refl, _∙_}
 use native.Mathlib.Omega.{arith}
 use borrow.Author.Needs.{needs}
 use lib.ListN.{length, getD, length-set, length-replicate, getD-replicate}
-use Rattle.base_bounded.specs.Slots.{keyed}
-use Rattle.base_bounded.proofs.Slots.{keyed-none, keyed-within, keyed-turn}
+use Rattle.base_bounded.specs.Slots.{keyCount}
+use Rattle.base_bounded.proofs.Slots.{key-count-none, key-count-within, key-count-step}
 use Rattle.graph.specs.Hops.{count, to}
 use Rattle.graph.specs.Answers.{most-states}
 use Rattle.graph_predecessors.specs.Ends.{Counted}
@@ -14,7 +14,7 @@ use Rattle.graph_predecessors.proofs.ends_of.Tie as tie
 
 abbrev Inv-loop : tie.InvT-loop
 Inv-loop hops n ends₀ j₀ ends j =
-    (n ≡ count hops) × (j ≤ n) × (length ends ≡ most-states + 1) × ((s : ℕ) → s ≤ most-states → getD ends s 0 ≡ 0 + keyed (to hops) j s)
+    (n ≡ count hops) × (j ≤ n) × (length ends ≡ most-states + 1) × ((s : ℕ) → s ≤ most-states → getD ends s 0 ≡ 0 + keyCount (to hops) j s)
 
 abbrev μ-loop : tie.MeasureT-loop
 μ-loop hops n ends₀ j₀ ends j = n - j
@@ -28,7 +28,7 @@ loop-holds c =
       c .hop-count .ensures,
       omega arith,
       length-replicate {A = ℕ} (most-states + 1) 0,
-      λ s l. getD-replicate {A = ℕ} (most-states + 1) s 0 0 (omega arith) ∙ omega (arith, keyed-none (to hs) s),
+      λ s l. getD-replicate {A = ℕ} (most-states + 1) s 0 0 (omega arith) ∙ omega (arith, key-count-none (to hs) s),
     )
 
 to-at-requires : tie.Need-to-at-requires Inv-loop μ-loop
@@ -52,7 +52,7 @@ add-ends c =
     let st = c .before .before .before .before .before .before in
     let v = c .before .before .before .loop in
     let l : c .wide .result ≤ most-states = omega (arith, st .pre .to-in (v .j) (omega arith)) in
-    omega (arith, v .inv .3 (c .wide .result) l, keyed-within (to (st .args .hops .now)) (v .j) (c .wide .result), st .pre .hops-most)
+    omega (arith, v .inv .3 (c .wide .result) l, key-count-within (to (st .args .hops .now)) (v .j) (c .wide .result), st .pre .hops-most)
 
 array-write-ends : tie.Need-array-write-ends Inv-loop μ-loop
 array-write-ends c =
@@ -73,7 +73,7 @@ loop-again c =
       v .inv .0,
       omega arith,
       simp length-set (v .inv .2),
-      λ s m. keyed-turn (to (st .args .hops .now)) (λ (t : ℕ). 0) (v .ends) (v .j) l (c .wide .ensures ∙ c .before .to-at .ensures) refl s (v .inv .3 s m),
+      λ s m. key-count-step (to (st .args .hops .now)) (λ (t : ℕ). 0) (v .ends) (v .j) l (c .wide .ensures ∙ c .before .to-at .ensures) refl s (v .inv .3 s m),
     )
 
 returns : tie.Need-returns Inv-loop μ-loop

@@ -5,8 +5,8 @@ use mathlib.Core.List.{List}
 use native.Mathlib.Omega.{arith}
 use borrow.Author.Needs.{needs}
 use lib.ListN.{length, getD, length-set, length-replicate}
-use Rattle.base_bounded.specs.Slots.{keyed, slot}
-use Rattle.base_bounded.proofs.Slots.{keyed-none, keyed-turn, slot-next, slot-turn}
+use Rattle.base_bounded.specs.Slots.{keyCount, slot}
+use Rattle.base_bounded.proofs.Slots.{key-count-none, key-count-step, slot-next, slot-step}
 use Rattle.graph.specs.Hops.{count, to}
 use Rattle.graph.specs.Answers.{most-states, most-hops}
 use Rattle.graph_successors.specs.Starts.{Ready}
@@ -16,13 +16,13 @@ use Rattle.graph_predecessors.proofs.fill.Tie as tie
 
 -- what the table has for the next hop into the end of the hop at place j is its slot
 next-slot : (hs xs : List ℕ) → Ready hs → {j s k : ℕ} → j < count hs → s ≡ to hs j → k ≡ getD xs s 0 →
-    ((t : ℕ) → t ≤ most-states → getD xs t 0 ≡ beginOf hs t + keyed (to hs) j t) → (k ≡ slot (to hs) (count hs) j) × (k < most-hops)
+    ((t : ℕ) → t ≤ most-states → getD xs t 0 ≡ beginOf hs t + keyCount (to hs) j t) → (k ≡ slot (to hs) (count hs) j) × (k < most-hops)
 next-slot hs xs r {j} {s} l q e f = slot-next (to hs) (count hs) l (r .hops-most) q (e ∙ f s (omega (arith, r .to-in j l)))
 
 abbrev Inv-loop : tie.InvT-loop
 Inv-loop hops next₀ n places₀ j₀ next places j =
     (n ≡ count hops) × (j ≤ n) × (length next ≡ most-states + 1) × (length places ≡ most-hops) ×
-    ((s : ℕ) → s ≤ most-states → getD next s 0 ≡ beginOf hops s + keyed (to hops) j s) × Filled hops j places
+    ((s : ℕ) → s ≤ most-states → getD next s 0 ≡ beginOf hops s + keyCount (to hops) j s) × Filled hops j places
 
 abbrev μ-loop : tie.MeasureT-loop
 μ-loop hops next₀ n places₀ j₀ next places j = n - j
@@ -38,7 +38,7 @@ loop-holds c =
       omega arith,
       search needs,
       length-replicate {A = ℕ} most-hops 0,
-      (λ s l. omega (arith, st .pre .1 s l, keyed-none (to (st .args .hops .now)) s)),
+      (λ s l. omega (arith, st .pre .1 s l, key-count-none (to (st .args .hops .now)) s)),
       λ j l. absurd (omega arith),
     )
 
@@ -119,8 +119,8 @@ loop-again c =
       omega arith,
       simp length-set (v .inv .2),
       simp length-set (v .inv .3),
-      (λ s m. keyed-turn (to hs) (beginOf hs) (v .next) (v .j) (omega (arith, st .pre .0 .to-in (v .j) l)) q refl s (v .inv .4 s m)),
-      slot-turn (to hs) (count hs) (λ (i : ℕ). i) (v .places) l k (omega arith) refl (v .inv .5),
+      (λ s m. key-count-step (to hs) (beginOf hs) (v .next) (v .j) (omega (arith, st .pre .0 .to-in (v .j) l)) q refl s (v .inv .4 s m)),
+      slot-step (to hs) (count hs) (λ (i : ℕ). i) (v .places) l k (omega arith) refl (v .inv .5),
     )
 
 returns : tie.Need-returns Inv-loop μ-loop

@@ -5,11 +5,11 @@ use mathlib.Core.Bool.{not, _||_}
 use native.Mathlib.Omega.{arith}
 use borrow.Author.Needs.{needs}
 use lib.ListN.{getD}
-use Rattle.base_bounded.specs.Tests.{all}
+use Rattle.base_bounded.specs.Quantifiers.{all}
 use Rattle.graph.specs.Answers.{most-states}
 use Rattle.graph.specs.Hops.{from, to}
 use Rattle.graph.specs.declared.Hop.{Hop}
-use Rattle.base_bitset.specs.Bits.{bitAt, inTable, word-bits}
+use Rattle.base_bitset.specs.Bits.{bitAt, bitIn, word-bits}
 use Rattle.mark_batch_filter.specs.Judged.{fits}
 use Rattle.mark_batch_filter.proofs.fits_at.Statement.{statement}
 use Rattle.mark_batch_filter.proofs.fits_at.Tie as tie
@@ -53,7 +53,7 @@ holds-requires : tie.Need-holds-requires
 holds-requires c κs = search needs
 
 returns : tie.Need-returns
-unfolding fits inTable
+unfolding fits bitIn
 returns c =
     let st = c .before .before .before .before .before .before .before in
     c .holds .ensures ∙ ap₂ (λ (x y : ℕ). all word-bits (λ (b : ℕ). not (bitAt (getD (st .args .froms .now) x 0) b) || bitAt (getD (st .args .answers .now) y 0) b))

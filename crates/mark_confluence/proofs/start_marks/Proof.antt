@@ -5,10 +5,10 @@ use mathlib.Core.Logic.{⊎-elim}
 use native.Mathlib.Omega.{arith}
 use borrow.Author.Needs.{needs}
 use lib.ListN.{length}
-use Rattle.base_bounded.specs.Tests.{listed}
+use Rattle.base_bounded.specs.Quantifiers.{tabulate}
 use Rattle.graph.specs.Hops.{count}
 use Rattle.base_outputs.specs.Output.{onFront}
-use Rattle.base_outputs.proofs.Front.{listed-none, listed-more, listed-done}
+use Rattle.base_outputs.proofs.Front.{tabulate-none, tabulate-more, tabulate-done}
 use Rattle.mark_confluence.specs.Held.{markOf, marksOf, everyPair}
 use Rattle.mark_confluence.proofs.Marks.{first-silent, first-visible, length-so-far}
 use Rattle.mark_confluence.proofs.start_marks.Statement.{statement}
@@ -16,7 +16,7 @@ use Rattle.mark_confluence.proofs.start_marks.Tie as tie
 
 abbrev Inv-loop : tie.InvT-loop
 Inv-loop hops marks₀ past i₀ marks i =
-    (past ≡ count hops) × (past ≤ length marks₀) × (i ≤ past) × (marks ≡ onFront (listed i (markOf hops everyPair)) marks₀)
+    (past ≡ count hops) × (past ≤ length marks₀) × (i ≤ past) × (marks ≡ onFront (tabulate i (markOf hops everyPair)) marks₀)
 
 abbrev μ-loop : tie.MeasureT-loop
 μ-loop hops marks₀ past i₀ marks i = past - i
@@ -25,7 +25,7 @@ hop-count-requires : tie.Need-hop-count-requires Inv-loop μ-loop
 hop-count-requires c κs = search needs
 
 loop-holds : tie.Need-loop-holds Inv-loop μ-loop
-loop-holds c = (c .hop-count .ensures, omega arith, omega arith, listed-none _ _)
+loop-holds c = (c .hop-count .ensures, omega arith, omega arith, tabulate-none _ _)
 
 label-at-requires : tie.Need-label-at-requires Inv-loop μ-loop
 label-at-requires c κs = search needs
@@ -53,8 +53,8 @@ loop-again c =
       v .0,
       v .1,
       omega arith,
-      ⊎-elim (λ w. w .1 ∙ listed-more _ _ (v .3) (first-silent _ _ (sym a ∙ w .0 .taken)) (omega arith))
-          (λ w. w .1 ∙ listed-more _ _ (v .3) (first-visible _ _ (λ q. w .0 .left (a ∙ q))) (omega arith)) (c .if1 .came),
+      ⊎-elim (λ w. w .1 ∙ tabulate-more _ _ (v .3) (first-silent _ _ (sym a ∙ w .0 .taken)) (omega arith))
+          (λ w. w .1 ∙ tabulate-more _ _ (v .3) (first-visible _ _ (λ q. w .0 .left (a ∙ q))) (omega arith)) (c .if1 .came),
     )
 
 same-length : tie.Need-same-length Inv-loop μ-loop
@@ -62,7 +62,7 @@ same-length c = length-so-far _ _ (c .before .loop .i) (omega arith) (c .before 
 
 returns : tie.Need-returns Inv-loop μ-loop
 unfolding marksOf
-returns c = listed-done _ _ (c .before .loop .inv .3) (omega arith) (omega arith)
+returns c = tabulate-done _ _ (c .before .loop .inv .3) (omega arith) (omega arith)
 
 pub start-marks-spec : {M : Type 1} → statement M
 start-marks-spec =

@@ -5,7 +5,7 @@ use mathlib.Core.Bool.{cond}
 use native.Mathlib.Omega.{arith}
 use lib.ListN.{length}
 use lib.Dec.{ltb}
-use Rattle.base_bounded.specs.Tests.{tally}
+use Rattle.base_bounded.specs.Quantifiers.{tally}
 use Rattle.graph.specs.Hops.{count}
 use Rattle.mark_confluence.specs.Held.{isMarked}
 use Rattle.mark_worklist_push.specs.Queue.{Tables, Leaving, Queue, Listed}

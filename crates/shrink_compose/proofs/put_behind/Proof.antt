@@ -5,12 +5,12 @@ use mathlib.Core.List.{List}
 use native.Mathlib.Omega.{arith}
 use borrow.Author.Needs.{needs}
 use lib.ListN.{length, length-set}
-use Rattle.base_bounded.specs.Tests.{listed}
-use Rattle.base_bounded.proofs.Tests.{length-listed}
+use Rattle.base_bounded.specs.Quantifiers.{tabulate}
+use Rattle.base_bounded.proofs.Quantifiers.{length-tabulate}
 use Rattle.graph.specs.Answers.{most-states}
 use Rattle.graph.specs.Map.{mapped}
 use Rattle.base_outputs.specs.Output.{onFront}
-use Rattle.base_outputs.proofs.Front.{front-past, front-all, listed-none, listed-more, listed-done}
+use Rattle.base_outputs.proofs.Front.{front-past, front-all, tabulate-none, tabulate-more, tabulate-done}
 use Rattle.shrink_compose.specs.Chained.{chained, Into}
 use Rattle.shrink_compose.proofs.put_behind.Statement.{statement}
 use Rattle.shrink_compose.proofs.put_behind.Tie as tie
@@ -21,20 +21,20 @@ on map next s = mapped next (mapped map s)
 
 abbrev Inv-loop : tie.InvT-loop
 Inv-loop map₀ next s₀ map s =
-    (map ≡ onFront (listed s (on map₀ next)) map₀) × (length map ≡ length map₀) × (s ≤ length map₀) × (length map₀ ≤ most-states) × Into map₀ (length next)
+    (map ≡ onFront (tabulate s (on map₀ next)) map₀) × (length map ≡ length map₀) × (s ≤ length map₀) × (length map₀ ≤ most-states) × Into map₀ (length next)
 
 abbrev μ-loop : tie.MeasureT-loop
 μ-loop map₀ next s₀ map s = length map₀ - s
 
 -- an entry that was not passed is as it was
-unpassed : (map₀ next : List ℕ) {map : List ℕ} (s : ℕ) → map ≡ onFront (listed s (on map₀ next)) map₀ → mapped map s ≡ mapped map₀ s
+unpassed : (map₀ next : List ℕ) {map : List ℕ} (s : ℕ) → map ≡ onFront (tabulate s (on map₀ next)) map₀ → mapped map s ≡ mapped map₀ s
 unpassed map₀ next s e =
-    ap (λ (x : List ℕ). mapped x s) e ∙ front-past (listed s (on map₀ next)) map₀ (omega (arith, length-listed (on map₀ next) s))
+    ap (λ (x : List ℕ). mapped x s) e ∙ front-past (tabulate s (on map₀ next)) map₀ (omega (arith, length-tabulate (on map₀ next) s))
 
 loop-holds : tie.Need-loop-holds Inv-loop μ-loop
 loop-holds c =
     let st = c .before .before in
-    (listed-none (on (st .args .map .now) (st .args .next .now)) (st .args .map .now), refl, omega arith, st .pre .0, st .pre .1)
+    (tabulate-none (on (st .args .map .now) (st .args .next .now)) (st .args .map .now), refl, omega arith, st .pre .0, st .pre .1)
 
 cast-t10 : tie.Need-cast-t10 Inv-loop μ-loop
 cast-t10 c = omega arith
@@ -66,7 +66,7 @@ loop-again c =
     let v = l .inv in
     let st = c .before .before .before .before .before .before .before .args in
     let d = c .map-at2 .ensures ∙ ap (mapped (st .next .now)) (c .before .map-at .ensures ∙ unpassed (st .map .now) (st .next .now) (l .s) (v .0)) in
-    (listed-more (on (st .map .now) (st .next .now)) (st .map .now) (v .0) d (omega arith), simp length-set (omega arith), omega arith, v .3, v .4)
+    (tabulate-more (on (st .map .now) (st .next .now)) (st .map .now) (v .0) d (omega arith), simp length-set (omega arith), omega arith, v .3, v .4)
 
 same-length : tie.Need-same-length Inv-loop μ-loop
 same-length c = omega arith
@@ -76,7 +76,7 @@ unfolding chained
 returns c =
     let s = c .before .before .before .before .args in
     let f = on (s .map .now) (s .next .now) in
-    listed-done f (s .map .now) (c .before .loop .inv .0) (omega arith) (omega arith) ∙ front-all (listed (length (s .map .now)) f) (s .map .now) (length-listed f (length (s .map .now)))
+    tabulate-done f (s .map .now) (c .before .loop .inv .0) (omega arith) (omega arith) ∙ front-all (tabulate (length (s .map .now)) f) (s .map .now) (length-tabulate f (length (s .map .now)))
 
 pub put-behind-spec : {M : Type 1} → statement M
 put-behind-spec =

@@ -4,11 +4,11 @@ use mathlib.Core.Path.{_≡_, refl, _∙_}
 use native.Mathlib.Omega.{arith}
 use borrow.Author.Needs.{needs}
 use lib.ListN.{length, length-set}
-use Rattle.base_bounded.specs.Tests.{listed}
-use Rattle.base_bounded.proofs.Tests.{length-listed}
+use Rattle.base_bounded.specs.Quantifiers.{tabulate}
+use Rattle.base_bounded.proofs.Quantifiers.{length-tabulate}
 use Rattle.graph.specs.Answers.{most-states}
 use Rattle.base_outputs.specs.Output.{onFront}
-use Rattle.base_outputs.proofs.Front.{front-all, listed-none, listed-more, listed-done}
+use Rattle.base_outputs.proofs.Front.{front-all, tabulate-none, tabulate-more, tabulate-done}
 use Rattle.shrink_compose.specs.Chained.{ownMap}
 use Rattle.shrink_compose.proofs.put_own.Statement.{statement}
 use Rattle.shrink_compose.proofs.put_own.Tie as tie
@@ -17,13 +17,13 @@ abbrev own : ℕ → ℕ
 own s = s
 
 abbrev Inv-loop : tie.InvT-loop
-Inv-loop map₀ s₀ map s = (map ≡ onFront (listed s own) map₀) × (length map ≡ length map₀) × (s ≤ length map₀) × (length map₀ ≤ most-states)
+Inv-loop map₀ s₀ map s = (map ≡ onFront (tabulate s own) map₀) × (length map ≡ length map₀) × (s ≤ length map₀) × (length map₀ ≤ most-states)
 
 abbrev μ-loop : tie.MeasureT-loop
 μ-loop map₀ s₀ map s = length map₀ - s
 
 loop-holds : tie.Need-loop-holds Inv-loop μ-loop
-loop-holds c = (listed-none own (c .args .map .now), refl, omega arith, c .pre)
+loop-holds c = (tabulate-none own (c .args .map .now), refl, omega arith, c .pre)
 
 cast-map : tie.Need-cast-map Inv-loop μ-loop
 cast-map c = omega arith
@@ -43,7 +43,7 @@ loop-less c = omega arith
 loop-again : tie.Need-loop-again Inv-loop μ-loop
 loop-again c =
     let v = c .before .loop .inv in
-    (listed-more own (c .before .before .args .map .now) (v .0) refl (omega arith), simp length-set (omega arith), omega arith, omega arith)
+    (tabulate-more own (c .before .before .args .map .now) (v .0) refl (omega arith), simp length-set (omega arith), omega arith, omega arith)
 
 same-length : tie.Need-same-length Inv-loop μ-loop
 same-length c = omega arith
@@ -52,7 +52,7 @@ returns : tie.Need-returns Inv-loop μ-loop
 unfolding ownMap
 returns c =
     let old = c .before .before .args .map .now in
-    listed-done own old (c .before .loop .inv .0) (omega arith) (omega arith) ∙ front-all (listed (length old) own) old (length-listed own (length old))
+    tabulate-done own old (c .before .loop .inv .0) (omega arith) (omega arith) ∙ front-all (tabulate (length old) own) old (length-tabulate own (length old))
 
 pub put-own-spec : {M : Type 1} → statement M
 put-own-spec =

@@ -2,7 +2,7 @@
 use mathlib.Core.Path.{sym, _∙_}
 use borrow.Author.Needs.{needs}
 use Rattle.walk_reach.proofs.Front.{noted-yes}
-use Rattle.base_bounded.specs.Tests.{any}
+use Rattle.base_bounded.specs.Quantifiers.{any}
 use Rattle.graph.specs.Hops.{count}
 use Rattle.walk_rings.specs.Ring.{leadsBackAt}
 use Rattle.walk_silent.proofs.Rings.{no-ring-test}

@@ -5,8 +5,8 @@ use native.Mathlib.Omega.{arith}
 use borrow.Author.Needs.{needs}
 use lib.ListN.{length, length-replicate}
 use Rattle.graph.specs.Answers.{most-states}
-use Rattle.base_bounded.specs.Tests.{least}
-use Rattle.base_bounded.proofs.Tests.{least-none, least-more, least-found, least-done}
+use Rattle.base_bounded.specs.Quantifiers.{least}
+use Rattle.base_bounded.proofs.Quantifiers.{least-none, least-more, least-found, least-done}
 use Rattle.walk_silent.specs.Silent.{onRing, lowestOnRing}
 use Rattle.walk_rings.proofs.lowest_unranked.Statement.{statement}
 use Rattle.walk_rings.proofs.lowest_unranked.Tie as tie

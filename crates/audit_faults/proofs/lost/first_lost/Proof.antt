@@ -4,9 +4,9 @@ use Prim.Native.Nat.{ℕ, _≤_, _-_}
 use mathlib.Core.Path.{_≡_, sym, _∙_}
 use mathlib.Core.Bool.{Bool, not}
 use native.Mathlib.Omega.{arith}
-use Rattle.base_bounded.specs.Tests.{least}
+use Rattle.base_bounded.specs.Quantifiers.{least}
 use Rattle.graph.specs.Hops.{count}
-use Rattle.base_bounded.proofs.Tests.{least-none, least-more, least-found, least-done}
+use Rattle.base_bounded.proofs.Quantifiers.{least-none, least-more, least-found, least-done}
 use Rattle.audit_faults.specs.Faults.{kept}
 use Rattle.audit_faults.specs.First.{lostPlace}
 use Rattle.audit_faults.proofs.lost.first_lost.Statement.{statement}

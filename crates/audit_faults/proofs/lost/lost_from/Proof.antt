@@ -5,9 +5,9 @@ use mathlib.Core.Path.{_≡_, sym, _∙_}
 use mathlib.Core.Bool.{Bool, not}
 use mathlib.Core.Logic.{⊎-elim}
 use native.Mathlib.Omega.{arith}
-use Rattle.base_bounded.specs.Tests.{tally}
+use Rattle.base_bounded.specs.Quantifiers.{tally}
 use Rattle.graph.specs.Hops.{count}
-use Rattle.base_bounded.proofs.Tests.{least-within, tally-more, tally-skip, tally-done, tally-within}
+use Rattle.base_bounded.proofs.Quantifiers.{least-within, tally-more, tally-skip, tally-done, tally-within}
 use Rattle.base_bounded.proofs.Least.{tally-least}
 use Rattle.audit_faults.specs.Faults.{kept, lostFaults}
 use Rattle.audit_faults.specs.First.{lostPlace}

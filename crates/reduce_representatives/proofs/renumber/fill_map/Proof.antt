@@ -4,11 +4,11 @@ use Prim.Native.Nat.{ℕ, _≤_, _-_}
 use mathlib.Core.Path.{_≡_, refl, ap, _∙_}
 use native.Mathlib.Omega.{arith}
 use lib.ListN.{length, getD, length-set}
-use Rattle.base_bounded.specs.Tests.{listed}
+use Rattle.base_bounded.specs.Quantifiers.{tabulate}
 use Rattle.graph.specs.Answers.{most-states}
 use Rattle.reduce_representatives.specs.Tables.{Noted, numbered}
 use Rattle.base_outputs.specs.Output.{onFront}
-use Rattle.base_outputs.proofs.Front.{listed-none, listed-more, listed-done}
+use Rattle.base_outputs.proofs.Front.{tabulate-none, tabulate-more, tabulate-done}
 use Rattle.reduce_representatives.proofs.Nexts.{stepped-in}
 use Rattle.reduce_representatives.proofs.Ways.{noted-none, noted-then, noted-sinks}
 use borrow.Author.Needs.{needs}
@@ -17,7 +17,7 @@ use Rattle.reduce_representatives.proofs.renumber.fill_map.Tie as tie
 
 abbrev Inv-loop : tie.InvT-loop
 Inv-loop states news map₀ next₀ s₀ map next s =
-    (s ≤ states) × (states ≤ length map₀) × (length map ≡ length map₀) × (map ≡ onFront (listed s (numbered next₀ news states)) map₀) ×
+    (s ≤ states) × (states ≤ length map₀) × (length map ≡ length map₀) × (map ≡ onFront (tabulate s (numbered next₀ news states)) map₀) ×
     Noted states next₀ next × (most-states ≤ length next₀)
 
 abbrev μ-loop : tie.MeasureT-loop
@@ -26,7 +26,7 @@ abbrev μ-loop : tie.MeasureT-loop
 loop-holds : tie.Need-loop-holds Inv-loop μ-loop
 loop-holds c =
     let st = c .before .before in
-    (omega arith, omega arith, refl, listed-none _ _, noted-none _ _ (st .pre .1 .1 .1 .0), search needs)
+    (omega arith, omega arith, refl, tabulate-none _ _, noted-none _ _ (st .pre .1 .1 .1 .0), search needs)
 
 cast-t11 : tie.Need-cast-t11 Inv-loop μ-loop
 cast-t11 c = search needs
@@ -77,7 +77,7 @@ loop-again c =
       omega arith,
       omega arith,
       simp length-set (v .inv .2),
-      listed-more (numbered _ (st .args .news .now) (st .args .states)) (st .args .map .now) (v .inv .3)
+      tabulate-more (numbered _ (st .args .news .now) (st .args .states)) (st .args .map .now) (v .inv .3)
           (c .map-at .ensures ∙ ap (λ (k : ℕ). getD (st .args .news .now) k 0) (c .before .before .before .follow .ensures ∙ v .inv .4 .same (v .s) (omega arith)))
           (omega arith),
       noted-then (v .inv .4) (c .before .note-way .ensures),
@@ -88,7 +88,7 @@ same-length : tie.Need-same-length Inv-loop μ-loop
 same-length c = omega arith
 
 returns : tie.Need-returns Inv-loop μ-loop
-returns c = listed-done _ _ (c .before .loop .inv .3) (omega arith) (omega arith)
+returns c = tabulate-done _ _ (c .before .loop .inv .3) (omega arith) (omega arith)
 
 pub fill-map-spec : {M : Type 1} → statement M
 fill-map-spec =

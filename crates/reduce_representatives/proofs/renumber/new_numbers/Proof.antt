@@ -5,8 +5,8 @@ use mathlib.Core.Logic.{⊎-elim}
 use native.Mathlib.Omega.{arith}
 use lib.ListN.{length, getD, length-set, length-replicate, getD-replicate}
 use Rattle.graph.specs.Answers.{most-states}
-use Rattle.base_bounded.specs.Tests.{tally}
-use Rattle.base_bounded.proofs.Tests.{tally-none, tally-more, tally-skip, tally-within}
+use Rattle.base_bounded.specs.Quantifiers.{tally}
+use Rattle.base_bounded.proofs.Quantifiers.{tally-none, tally-more, tally-skip, tally-within}
 use Rattle.reduce_representatives.specs.Tables.{Numbers, stays}
 use Rattle.graph_successors.proofs.Firsts.{filled-more}
 use borrow.Author.Needs.{needs}

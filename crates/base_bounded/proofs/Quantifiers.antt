@@ -12,7 +12,7 @@ use borrow.Author.Tests.{ltb-true, ltb-false, lt-ltb, le-ltb}
 use lib.Dec.{ltb}
 use lib.ListN.{length, getD, length-append, List·getD-append}
 use lib.Seq.{getD-at}
-use Rattle.base_bounded.specs.Tests.{all, any, least, tally, listed, total}
+use Rattle.base_bounded.specs.Quantifiers.{all, any, least, tally, tabulate, total}
 use Rattle.base_bounded.proofs.Bools.{clash, and-left, and-right, and-no-right, or-right, or-yes}
 
 module _ (p : ℕ → Bool) where
@@ -208,17 +208,17 @@ module _ (p q : ℕ → Bool) where
         there false false g h = omega arith
 
 module _ (f : ℕ → ℕ) where
-  pub length-listed : (n : ℕ) → length (listed n f) ≡ n
-  unfolding listed
-  length-listed zero = refl
-  length-listed (suc n) = rw (length-append, length-listed n, add-one)
+  pub length-tabulate : (n : ℕ) → length (tabulate n f) ≡ n
+  unfolding tabulate
+  length-tabulate zero = refl
+  length-tabulate (suc n) = rw (length-append, length-tabulate n, add-one)
 
-  pub getD-listed : (n : ℕ) {i : ℕ} → i < n → getD (listed n f) i 0 ≡ f i
-  unfolding listed
-  getD-listed zero l = absurd (not-suc-le-zero l)
-  getD-listed (suc n) {i} l =
-      ⊎-elim (λ q. getD-at (listed n f) (f n) [] 0 i (length-listed n ∙ sym q) ∙ ap f (sym q))
-      (λ m. List·getD-append (listed n f) (f n ∷ []) 0 i (rw (length-listed n) m) ∙ getD-listed n m)
+  pub getD-tabulate : (n : ℕ) {i : ℕ} → i < n → getD (tabulate n f) i 0 ≡ f i
+  unfolding tabulate
+  getD-tabulate zero l = absurd (not-suc-le-zero l)
+  getD-tabulate (suc n) {i} l =
+      ⊎-elim (λ q. getD-at (tabulate n f) (f n) [] 0 i (length-tabulate n ∙ sym q) ∙ ap f (sym q))
+      (λ m. List·getD-append (tabulate n f) (f n ∷ []) 0 i (rw (length-tabulate n) m) ∙ getD-tabulate n m)
       (eq-or-lt-of-le (le-of-suc-le-suc l))
 
 -- how many pass: one turn of a loop that counts, and none at all

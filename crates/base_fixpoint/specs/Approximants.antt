@@ -1,7 +1,7 @@
 -- Rounds of an operator on a set of pairs. Assumes nothing: these are definitions.
 use Prim.Native.Nat.{ℕ, zero, suc}
 use mathlib.Core.Bool.{_&&_}
-use Rattle.base_fixpoint.specs.Pairs.{Pairs, In, Within}
+use Rattle.base_fixpoint.specs.Pairs.{Pairs, In, Subset}
 
 -- an operator F: F u s t says whether the pair s, t meets a condition that speaks of the set u
 abbrev pub Operator : Type 0
@@ -9,14 +9,14 @@ Operator = Pairs → Pairs
 
 -- what k rounds leave of the set b. "Every silent hop survives 0 rounds. It survives k + 1 when the condition above holds with 'in U' read as
 -- 'survives k'", for any condition and for any set to begin with
-unfoldable pub leftAfter : Operator → Pairs → ℕ → Pairs
-leftAfter F b zero s t = b s t
-leftAfter F b (suc k) s t = b s t && F (leftAfter F b k) s t
+unfoldable pub approximant : Operator → Pairs → ℕ → Pairs
+approximant F b zero s t = b s t
+approximant F b (suc k) s t = b s t && F (approximant F b k) s t
 
 -- the condition asks no more where the set is larger
 abbrev pub Monotone : Operator → Type 0
-Monotone F = (u v : Pairs) → Within (In u) (In v) → Within (In (F u)) (In (F v))
+Monotone F = (u v : Pairs) → Subset (In u) (In v) → Subset (In (F u)) (In (F v))
 
 -- a set of which each pair meets the condition with any set that holds them all: decidable or not, it keeps itself through a round
-abbrev pub Kept : Operator → (ℕ → ℕ → Type 0) → Type 0
-Kept F U = (v : Pairs) → Within U (In v) → Within U (In (F v))
+abbrev pub PostFixed : Operator → (ℕ → ℕ → Type 0) → Type 0
+PostFixed F U = (v : Pairs) → Subset U (In v) → Subset U (In (F v))

@@ -32,9 +32,9 @@ tally zero p = zero
 tally (suc n) p = cond (p n) 1 0 + tally n p
 
 -- f 0, f 1, .. up to f (n - 1)
-unfoldable pub listed : ℕ → (ℕ → ℕ) → List ℕ
-listed zero f = []
-listed (suc n) f = listed n f ++ (f n ∷ [])
+unfoldable pub tabulate : ℕ → (ℕ → ℕ) → List ℕ
+tabulate zero f = []
+tabulate (suc n) f = tabulate n f ++ (f n ∷ [])
 
 -- the sum of f 0, f 1, .. up to f (n - 1)
 unfoldable pub total : ℕ → (ℕ → ℕ) → ℕ

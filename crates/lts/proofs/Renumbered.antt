@@ -6,29 +6,29 @@ use mathlib.Core.Path.{_≡_, refl, sym, ap, _∙_}
 use mathlib.Core.Logic.{_⊎_, inl, inr}
 use Rattle.lts.specs.Star.{Star, stay, go}
 use Rattle.lts.specs.Sense.{Silent}
-use Rattle.lts.specs.Reduction.{Confluent, Rests, Kept, Reduces}
-use Rattle.lts.specs.Left.{Left}
-use Rattle.lts.proofs.Star.{wider}
-use Rattle.lts.proofs.Confluence.{Meets, forward, rep-normal, kept-falls}
+use Rattle.lts.specs.Reduction.{Confluent, NormalForms, QuotientHop, Reduces}
+use Rattle.lts.specs.Renumbered.{Renumbered}
+use Rattle.lts.proofs.Star.{star-mono}
+use Rattle.lts.proofs.Confluence.{Meets, forward, rep-normal, quotient-rank-falls}
 
-module _ {Hop : ℕ → ℕ → ℕ → Type 0} {U : ℕ → ℕ → Type 0} {rep : ℕ → ℕ} (conf : Confluent Hop U) (rests : Rests U rep) where
+module _ {Hop : ℕ → ℕ → ℕ → Type 0} {U : ℕ → ℕ → Type 0} {rep : ℕ → ℕ} (conf : Confluent Hop U) (rests : NormalForms U rep) where
   open Confluent conf using (silent, rank)
 
   -- the representatives with their old numbers
-  pub kept-left : Left Hop rep (Kept Hop rep) rep
-  kept-left = record {
+  pub quotient-renumbered : Renumbered Hop rep (QuotientHop Hop rep) rep
+  quotient-renumbered = record {
     same = λ s. rep-normal conf rests (rests .rest s);
     other = λ s t e. e;
     fore = λ s a t h. (t, h, refl);
     back = λ s a q h. h;
   }
 
-  module _ {Hop2 : ℕ → ℕ → ℕ → Type 0} {f : ℕ → ℕ} (left : Left Hop rep Hop2 f) where
+  module _ {Hop2 : ℕ → ℕ → ℕ → Type 0} {f : ℕ → ℕ} (left : Renumbered Hop rep Hop2 f) where
     -- T3 in this form
-    pub left-reduces : {D : ℕ → Type 0} → Reduces D Hop Hop2 f
-    left-reduces = record {
+    pub renumbered-reduces : {D : ℕ → Type 0} → Reduces D Hop Hop2 f
+    renumbered-reduces = record {
       fore = λ s a t h. fore-on s a t (forward conf rests s a t h);
-      back = λ s a q d h. let (t, k, e) = left .back s a q h in inr (rep s, t, wider silent (rests .down s), left .same s, k, e);
+      back = λ s a q d h. let (t, k, e) = left .back s a q h in inr (rep s, t, star-mono silent (rests .down s), left .same s, k, e);
     }
       where
         level : {s t : ℕ} → rep s ≡ rep t → f s ≡ f t
@@ -40,12 +40,12 @@ module _ {Hop : ℕ → ℕ → ℕ → Type 0} {U : ℕ → ℕ → Type 0} {re
 
     -- the rank of the representative falls along the silent hops of what is left
     left-falls : (s m : ℕ) → Hop2 (f s) 0 m → (t : ℕ) × (f t ≡ m) × (rank (rep t) < rank (rep s))
-    left-falls s m h = let (t, k, e) = left .back s 0 m h in (t, e, kept-falls conf rests (rep s) (rep t) (t, k, refl))
+    left-falls s m h = let (t, k, e) = left .back s 0 m h in (t, e, quotient-rank-falls conf rests (rep s) (rep t) (t, k, refl))
 
     left-sinks : {n m : ℕ} → Star (Silent Hop2) n m → (s t : ℕ) → f s ≡ n → f t ≡ m → rank (rep t) ≤ rank (rep s)
     left-sinks stay s t d e = rw (left .other s t (d ∙ sym e)) (omega arith)
     left-sinks (go {m = m} h p) s t d e = let (u, c, l) = left-falls s m (rw d h) in omega (arith, left-sinks p u t c e)
 
     -- no silent hop of an image leads to a state that leads back to it
-    pub left-ringless : (s m : ℕ) → Hop2 (f s) 0 m → Star (Silent Hop2) m (f s) → ⊥
-    left-ringless s m h p = let (t, e, l) = left-falls s m h in omega (arith, left-sinks p t s e refl)
+    pub renumbered-acyclic : (s m : ℕ) → Hop2 (f s) 0 m → Star (Silent Hop2) m (f s) → ⊥
+    renumbered-acyclic s m h p = let (t, e, l) = left-falls s m h in omega (arith, left-sinks p t s e refl)
