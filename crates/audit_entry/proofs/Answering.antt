@@ -7,7 +7,7 @@ use native.Mathlib.Omega.{arith}
 use borrow.Author.Tests.{eq-eqb, ne-eqb}
 use Rattle.graph.specs.declared.Shape.{Shape}
 use Rattle.graph.specs.declared.Answer.{Answer}
-use Rattle.graph_successors.proofs.Firsts.{admitted-ready}
+use Rattle.graph_successors.proofs.Firsts.{admitted-indexable}
 use Rattle.audit_faults.specs.Faults.{faultsOf}
 use Rattle.audit_faults.specs.First.{noFault, firstFault}
 use Rattle.audit_faults.specs.Images.{Auditable}
@@ -22,7 +22,7 @@ pub auditable : {sh1 sh2 : Shape} {h1 h2 m : List ℕ} → Audited sh1 sh2 h1 h2
 auditable a =
     record {
       admitted = a .first;
-      ready = admitted-ready (a .second);
+      ready = admitted-indexable (a .second);
       one-a-state = a .map .one-a-state;
       entries-in = λ s l. omega (arith, a .map .entries-in s l, a .second .states-most);
     }

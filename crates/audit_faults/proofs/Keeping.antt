@@ -14,7 +14,7 @@ use Rattle.graph.specs.declared.Found.{Found}
 use Rattle.graph.specs.declared.Found.the-variants.{At, Gap}
 use Rattle.base_bounded.proofs.Bools.{or-right}
 use Rattle.graph.proofs.Lookup.{at-place, at-has, gap-has}
-use Rattle.graph_successors.specs.Starts.{Ready}
+use Rattle.graph_successors.specs.SuccessorIndex.{Indexable}
 use Rattle.audit_faults.specs.Faults.{initialFault, kept}
 use Rattle.audit_faults.specs.First.{fault, noFault, firstInitial, lostPlace, firstLost}
 use Rattle.audit_faults.specs.declared.Fault.{Fault}
@@ -30,7 +30,7 @@ module _ (sh1 sh2 : Shape) (m : List ℕ) {r : ℕ} (e : r ≡ mapped m (sh1 .in
   initial-parted d = rw (ne-eqb _ _ (λ q. d (e ∙ q))) (refl, refl)
 
 -- the place of the mapped hop tells whether graph 2 has it
-module _ (h1 h2 m : List ℕ) (ready : Ready h2) (i : ℕ) {p : ℕ} (e : p ≡ imageOf h1 h2 m i) where
+module _ (h1 h2 m : List ℕ) (ready : Indexable h2) (i : ℕ) {p : ℕ} (e : p ≡ imageOf h1 h2 m i) where
   abbrev has-it : Bool
   has-it = has h2 (mapped m (from h1 i)) (label h1 i) (mapped m (to h1 i))
 

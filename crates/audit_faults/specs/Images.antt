@@ -13,12 +13,12 @@ use Rattle.graph.specs.declared.Shape.{Shape}
 use Rattle.graph.specs.declared.Found.{Found}
 use Rattle.graph.specs.declared.Found.the-variants.{At, Gap}
 use Rattle.graph_check.specs.Check.{Admitted}
-use Rattle.graph_successors.specs.Starts.{Ready}
+use Rattle.graph_successors.specs.SuccessorIndex.{Indexable}
 
 -- what the count asks of the two hop lists and the map, once the audit has admitted them
 pub record Auditable (sh1 : Shape) (h1 h2 m : List ℕ) : Type 0 where
   pub admitted : Admitted sh1 h1
-  pub ready : Ready h2
+  pub ready : Indexable h2
   pub one-a-state : length m ≡ sh1 .states
   pub entries-in : (s : ℕ) → s < sh1 .states → mapped m s < most-states
 

@@ -14,7 +14,7 @@ use graph_successors::find_row;
 ghost use mathlib.Core.Path.{_≡_};
 ghost use Prim.Native.Nat.{_<_};
 ghost use Rattle.graph.specs.Hops.{count};
-ghost use Rattle.graph_successors.specs.Starts.{Table};
+ghost use Rattle.graph_successors.specs.SuccessorIndex.{SuccessorIndex};
 ghost use Rattle.audit_faults.specs.Images.{Auditable, imageOf, Imaged};
 
 // The place of a hop that graph 2 has not: one past all that can be.
@@ -30,7 +30,7 @@ fn image_at(
     i: usize,
 ) -> u16
     requires auditable { ⌜ Auditable shape1 (now hops1) (now hops2) (now map) ⌝ }
-    requires table { ⌜ Table (now hops2) (now starts2) ⌝ }
+    requires table { ⌜ SuccessorIndex (now hops2) (now starts2) ⌝ }
     requires place { ⌜ i < count (now hops1) ⌝ }
     ensures { λ r. ⌜ r ≡ imageOf (now (hops1 .entry)) (now (hops2 .entry)) (now (map .entry)) i ⌝ }
 {
@@ -53,7 +53,7 @@ pub fn images_of(
     map: &[u16],
 ) -> [u16; MOST_HOPS]
     requires auditable { ⌜ Auditable shape1 (now hops1) (now hops2) (now map) ⌝ }
-    requires table { ⌜ Table (now hops2) (now starts2) ⌝ }
+    requires table { ⌜ SuccessorIndex (now hops2) (now starts2) ⌝ }
     ensures { λ r. ⌜ Imaged (now (hops1 .entry)) (now (hops2 .entry)) (now (map .entry)) r ⌝ }
 {
     let n = hop_count(hops1);

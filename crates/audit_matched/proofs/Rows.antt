@@ -18,7 +18,7 @@ use Rattle.base_bounded.proofs.Bools.{clash, lt-or-le, same-test, and-no-left}
 use Rattle.base_bounded.proofs.Quantifiers.{any-found, any-at}
 use Rattle.graph.proofs.Lookup.{first-within, range-only}
 use Rattle.graph_successors.proofs.Firsts.{first-is, first-next}
-use Rattle.graph_successors.specs.Starts.{Ready}
+use Rattle.graph_successors.specs.SuccessorIndex.{Indexable}
 use Rattle.walk_reach.specs.Front.{noted}
 use Rattle.graph.specs.Map.{mapped}
 use Rattle.audit_faults.specs.Images.{Imaged}
@@ -61,7 +61,7 @@ module _ (h1 h2 m seen : List ℕ) (r k : ℕ) where
         ap (λ (x : Bool). cond x k (getD first j 0))
         (sym (any-rest (ticks h1 h2 m seen r j) (firstOf h1 (u + 1)) (first-next h1 up u) (λ i lo hi. and-no-left _ (state-seen lo hi ∙ e))))
 
-    pub state-more : Ready h2 → (images : List ℕ) → Imaged h1 h2 m images → (eqb (getD seen u 0) 1 && eqb v r) ≡ true →
+    pub state-more : Indexable h2 → (images : List ℕ) → Imaged h1 h2 m images → (eqb (getD seen u 0) 1 && eqb v r) ≡ true →
         (before stamps : List ℕ) → count h2 ≤ length stamps → {i : ℕ} → firstOf h1 u ≤ i → i < firstOf h1 (u + 1) →
         {after : List ℕ} → after ≡ set stamps (getD images i 0) k →
         TickedOn h1 h2 m seen r k (firstOf h1 u) i before stamps → TickedOn h1 h2 m seen r k (firstOf h1 u) (i + 1) before after

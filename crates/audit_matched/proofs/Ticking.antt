@@ -20,14 +20,14 @@ use Rattle.base_bounded.proofs.Quantifiers.{any-never}
 use Rattle.graph.proofs.Places.{is-alike}
 use Rattle.graph.proofs.Ordered.{alike-back, alike-then, ascending-place}
 use Rattle.graph.proofs.Lookup.{at-place, gap-has}
-use Rattle.graph_successors.specs.Starts.{Ready}
+use Rattle.graph_successors.specs.SuccessorIndex.{Indexable}
 use Rattle.walk_reach.specs.Front.{noted}
 use Rattle.graph.specs.Map.{mapped}
 use Rattle.audit_faults.specs.Images.{mappedHop, nowhere, placeOf, imageOf}
 use Rattle.audit_matched.specs.Ticks.{seenInClass, ticks, TickedBy}
 
 -- a stamp for a hop is seen at its place and nowhere else
-module _ (h2 : List ℕ) (ready : Ready h2) (h : Hop) (k : ℕ) (stamps : List ℕ) (capacity : count h2 ≤ length stamps) (j : ℕ) (l : j < count h2) where
+module _ (h2 : List ℕ) (ready : Indexable h2) (h : Hop) (k : ℕ) (stamps : List ℕ) (capacity : count h2 ≤ length stamps) (j : ℕ) (l : j < count h2) where
   abbrev is-h : ℕ → Bool
   is-h = is h2 (h .from) (h .label) (h .to)
 
@@ -58,7 +58,7 @@ module _ (h1 h2 m seen : List ℕ) (r k : ℕ) where
   seen-map i e = eqb-true _ _ (and-right (noted seen (from h1 i)) _ e)
 
   -- what the stamp of a hop that leaves r is seen as
-  image-stamp : Ready h2 → (stamps : List ℕ) → count h2 ≤ length stamps → (i : ℕ) → mapped m (from h1 i) ≡ r → (j : ℕ) → j < count h2 →
+  image-stamp : Indexable h2 → (stamps : List ℕ) → count h2 ≤ length stamps → (i : ℕ) → mapped m (from h1 i) ≡ r → (j : ℕ) → j < count h2 →
       getD (set stamps (imageOf h1 h2 m i) k) j 0 ≡ cond (is h2 r (label h1 i) (mapped m (to h1 i)) j) k (getD stamps j 0)
   unfolding imageOf
   image-stamp ready stamps capacity i q j l =
@@ -66,7 +66,7 @@ module _ (h1 h2 m seen : List ℕ) (r k : ℕ) where
       ap (λ (x : ℕ). cond (is h2 x (label h1 i) (mapped m (to h1 i)) j) k (getD stamps j 0)) q
 
   -- .. and one place more, whose hop leaves a state that counts
-  pub ticked-more : Ready h2 → (stamps : List ℕ) → count h2 ≤ length stamps → (i : ℕ) → seenInClass h1 m seen r i ≡ true →
+  pub ticked-more : Indexable h2 → (stamps : List ℕ) → count h2 ≤ length stamps → (i : ℕ) → seenInClass h1 m seen r i ≡ true →
       (first : List ℕ) → TickedBy h1 h2 m seen r k i first stamps → TickedBy h1 h2 m seen r k (i + 1) first (set stamps (imageOf h1 h2 m i) k)
   unfolding TickedBy ticks any
   ticked-more ready stamps capacity i e first t j l =

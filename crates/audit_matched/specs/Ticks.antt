@@ -11,14 +11,14 @@ use Rattle.base_bounded.specs.Quantifiers.{any}
 use Rattle.graph.specs.Hops.{count, from, label, to, is}
 use Rattle.graph.specs.Map.{mapped}
 use Rattle.graph.specs.declared.Shape.{Shape}
-use Rattle.graph_successors.specs.Starts.{Table}
+use Rattle.graph_successors.specs.SuccessorIndex.{SuccessorIndex}
 use Rattle.walk_reach.specs.Front.{noted}
 use Rattle.audit_faults.specs.Images.{Auditable, Imaged}
 
 -- what ticking has at hand: the two graphs and the map, the first places of graph 1, and the places of its hops in graph 2
 pub record Tickable (sh1 : Shape) (h1 st1 h2 m images : List ℕ) : Type 0 where
   pub auditable : Auditable sh1 h1 h2 m
-  pub table : Table h1 st1
+  pub table : SuccessorIndex h1 st1
   pub imaged : Imaged h1 h2 m images
 
 -- the hop at place i of graph 1 leaves a state that is noted in `seen` and whose map is r

@@ -9,7 +9,7 @@ use lib.Dec.{eqb}
 use Rattle.base_bounded.specs.Quantifiers.{least, tally}
 use Rattle.graph.specs.Hops.{count, from, label, to}
 use Rattle.graph.specs.declared.Shape.{Shape}
-use Rattle.graph_successors.specs.Starts.{Table}
+use Rattle.graph_successors.specs.SuccessorIndex.{SuccessorIndex}
 use Rattle.walk_reach.specs.Front.{Space}
 use Rattle.walk_silent.specs.Chosen.{SilentChosen}
 use Rattle.audit_faults.specs.Faults.{madeUp}
@@ -20,7 +20,7 @@ use Rattle.audit_matched.specs.Ticks.{Tickable}
 pub record Countable (sh1 : Shape) (h1 st1 bytes h2 st2 m images : List ℕ) : Type 0 where
   pub tickable : Tickable sh1 h1 st1 h2 m images
   pub silent : SilentChosen sh1 h1 st1 bytes
-  pub table : Table h2 st2
+  pub table : SuccessorIndex h2 st2
 
 -- the working space: for the search, and a stamp for each hop of graph 2
 pub record Rooms (n : ℕ) (h2 seen queue stamps : List ℕ) : Type 0 where

@@ -35,7 +35,7 @@ ghost use lib.Dec.{ltb};
 ghost use Rattle.base_bounded.specs.Quantifiers.{least, tally};
 ghost use Rattle.graph.specs.Hops.{count};
 ghost use Rattle.graph.specs.Answers.{most-states};
-ghost use Rattle.graph_successors.specs.Starts.{Table, Ready};
+ghost use Rattle.graph_successors.specs.SuccessorIndex.{SuccessorIndex, Indexable};
 ghost use Rattle.audit_faults.specs.Faults.{madeUpFaults};
 ghost use Rattle.audit_faults.specs.First.{fault, noFault, firstMadeUp};
 ghost use Rattle.audit_faults.specs.Images.{Auditable, Imaged};
@@ -67,8 +67,8 @@ fn first_unticked(
     r: NewState,
     k: u16,
 ) -> usize
-    requires ready { ⌜ Ready (now hops2) ⌝ }
-    requires table { ⌜ Table (now hops2) (now starts2) ⌝ }
+    requires ready { ⌜ Indexable (now hops2) ⌝ }
+    requires table { ⌜ SuccessorIndex (now hops2) (now starts2) ⌝ }
     requires stamps { ⌜ count (now hops2) ≤ length (now stamps) ⌝ }
     requires state { ⌜ r .0 < most-states ⌝ }
     ensures { λ u. ⌜ u ≡ least (count (now (hops2 .entry))) (unticked (now (hops2 .entry)) (now (stamps .entry)) (r .0) k) ⌝ }
@@ -94,8 +94,8 @@ fn unticked_from(
     k: u16,
     first: usize,
 ) -> u32
-    requires ready { ⌜ Ready (now hops2) ⌝ }
-    requires table { ⌜ Table (now hops2) (now starts2) ⌝ }
+    requires ready { ⌜ Indexable (now hops2) ⌝ }
+    requires table { ⌜ SuccessorIndex (now hops2) (now starts2) ⌝ }
     requires stamps { ⌜ count (now hops2) ≤ length (now stamps) ⌝ }
     requires state { ⌜ r .0 < most-states ⌝ }
     requires first { ⌜ first ≡ least (count (now hops2)) (unticked (now hops2) (now stamps) (r .0) k) ⌝ }
@@ -239,7 +239,7 @@ pub fn all_made_up(
     images: &[u16; MOST_HOPS],
 ) -> Share
     requires auditable { ⌜ Auditable shape1 (now hops1) (now hops2) (now map) ⌝ }
-    requires table { ⌜ Table (now hops2) (now starts2) ⌝ }
+    requires table { ⌜ SuccessorIndex (now hops2) (now starts2) ⌝ }
     requires imaged { ⌜ Imaged (now hops1) (now hops2) (now map) (now images) ⌝ }
     ensures counts { λ r. ⌜ r .faults ≡ madeUpFaults shape1 (now (hops1 .entry)) (now (hops2 .entry)) (now (map .entry)) ⌝ }
     ensures names { λ r. ⌜ r .first ≡ firstMadeUp shape1 (now (hops1 .entry)) (now (hops2 .entry)) (now (map .entry)) ⌝ }

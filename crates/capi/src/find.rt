@@ -3,7 +3,7 @@ use c_find::tell_find;
 ghost use mathlib.Core.Path.{_≡_};
 ghost use lib.ListN.{length};
 ghost use Rattle.graph_check.specs.Check.{checkOf};
-ghost use Rattle.graph_find.specs.Finding.{findOf};
+ghost use Rattle.graph_find.specs.Find.{findOf};
 ghost use Rattle.c_answer.specs.Numbers.{shapeOf, returned, told};
 ghost use Rattle.c_find.specs.Numbers.{findingNumbers};
 

@@ -3,7 +3,7 @@ use c_hops_of::tell_hops_of;
 ghost use mathlib.Core.Path.{_≡_};
 ghost use lib.ListN.{length};
 ghost use Rattle.graph.specs.Answers.{accepted};
-ghost use Rattle.graph_hops_of.specs.Outgoing.{chosen, spanOf};
+ghost use Rattle.graph_hops_of.specs.HopsOf.{chosen, spanOf};
 ghost use Rattle.c_answer.specs.Numbers.{shapeOf, returned, told};
 ghost use Rattle.c_hops_of.specs.Numbers.{spanNumbers};
 

@@ -10,13 +10,13 @@ use lib.ListN.{length, take, drop}
 use lib.Seq.{take-at}
 use lib.Dec.{leb}
 use Rattle.graph.specs.Hops.{count, whole, numberPlace}
-use Rattle.graph.specs.Answers.{most-states, most-labels, most-hops, accepted, refused, andThen, roomFor}
+use Rattle.graph.specs.Answers.{most-states, most-labels, most-hops, accepted, refused, andThen, capacityAnswer}
 use Rattle.graph_check.specs.Check.{countsFit, checkOf}
 use Rattle.graph.specs.declared.Shape.{Shape}
 use Rattle.graph.specs.declared.Answer.{Answer}
 use Rattle.base_bounded.proofs.Bools.{and-no-left, and-no-right, not-no, decided}
 use Rattle.graph_check.proofs.Checked.{check-counts, check-admitted}
-use Rattle.graph.proofs.Accepts.{both-accept, second-accepts, room-accepts}
+use Rattle.graph.proofs.Accepts.{both-accept, second-accepts, capacity-accepts}
 use Rattle.file_lines.specs.declared.Lines.{Lines}
 use Rattle.file_hops.specs.Field.{HopsLie, hopsInField}
 use Rattle.file_fields.specs.Format.{hasHops, hopsPlace, hopsIn, namesPlace, linesIn, shapeIn, hopListIn}
@@ -91,16 +91,16 @@ module _ (b : List ℕ) where
   pub read-accepts : (capacity : ℕ) → readAnswer b capacity .number ≡ 0 → (readAnswer b capacity ≡ accepted) × (numberPlace (hopsIn b) ≤ capacity)
   unfolding readAnswer
   read-accepts capacity z =
-      let (f, g) = both-accept (formatAnswer b) (andThen (checkOf (shapeIn b) (hopListIn b)) (roomFor (numberPlace (hopsIn b)) capacity)) z in
-      let (h, r) = both-accept (checkOf (shapeIn b) (hopListIn b)) (roomFor (numberPlace (hopsIn b)) capacity) g in
-      let (a, l) = room-accepts (numberPlace (hopsIn b)) capacity r in
+      let (f, g) = both-accept (formatAnswer b) (andThen (checkOf (shapeIn b) (hopListIn b)) (capacityAnswer (numberPlace (hopsIn b)) capacity)) z in
+      let (h, r) = both-accept (checkOf (shapeIn b) (hopListIn b)) (capacityAnswer (numberPlace (hopsIn b)) capacity) g in
+      let (a, l) = capacity-accepts (numberPlace (hopsIn b)) capacity r in
       (second-accepts (formatAnswer b) _ z ∙ second-accepts (checkOf (shapeIn b) (hopListIn b)) _ g ∙ a, l)
 
   pub graph-accepts : (capacity : ℕ) → readAnswer b capacity .number ≡ 0 → checkOf (shapeIn b) (hopListIn b) .number ≡ 0
   unfolding readAnswer
   graph-accepts capacity z =
-      both-accept (checkOf (shapeIn b) (hopListIn b)) (roomFor (numberPlace (hopsIn b)) capacity)
-      (both-accept (formatAnswer b) (andThen (checkOf (shapeIn b) (hopListIn b)) (roomFor (numberPlace (hopsIn b)) capacity)) z .1) .0
+      both-accept (checkOf (shapeIn b) (hopListIn b)) (capacityAnswer (numberPlace (hopsIn b)) capacity)
+      (both-accept (formatAnswer b) (andThen (checkOf (shapeIn b) (hopListIn b)) (capacityAnswer (numberPlace (hopsIn b)) capacity)) z .1) .0
 
   pub hops-most : (capacity : ℕ) → readAnswer b capacity .number ≡ 0 → hopsIn b ≤ most-hops
   hops-most capacity z = graph-few refl (graph-accepts capacity z)
@@ -109,7 +109,7 @@ module _ (b : List ℕ) where
   pub accepted-sound : (capacity : ℕ) → readAnswer b capacity .number ≡ 0 → Sound b
   unfolding readAnswer
   accepted-sound capacity z =
-      format-sound b (both-accept (formatAnswer b) (andThen (checkOf (shapeIn b) (hopListIn b)) (roomFor (numberPlace (hopsIn b)) capacity)) z .0)
+      format-sound b (both-accept (formatAnswer b) (andThen (checkOf (shapeIn b) (hopListIn b)) (capacityAnswer (numberPlace (hopsIn b)) capacity)) z .0)
 
   -- what a refusal and an acceptance give and write
   module _ (old : List ℕ) where

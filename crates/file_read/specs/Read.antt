@@ -5,7 +5,7 @@ use mathlib.Core.List.{List}
 use lib.ListN.{length}
 use lib.Dec.{eqb}
 use Rattle.graph.specs.Hops.{numberPlace}
-use Rattle.graph.specs.Answers.{accepted, andThen, roomFor}
+use Rattle.graph.specs.Answers.{accepted, andThen, capacityAnswer}
 use Rattle.graph_check.specs.Check.{checkOf}
 use Rattle.graph.specs.declared.Answer.{Answer}
 use Rattle.file_fields.specs.Format.{hopsIn, shapeIn, hopListIn, blockPlace, blockLength}
@@ -15,7 +15,7 @@ use Rattle.file_read.specs.declared.Contents.{Contents}
 
 -- "then 1 to 4, then 6": the output takes four numbers a hop
 unfoldable pub readAnswer : List ℕ → ℕ → Answer
-readAnswer b capacity = andThen (formatAnswer b) (andThen (checkOf (shapeIn b) (hopListIn b)) (roomFor (numberPlace (hopsIn b)) capacity))
+readAnswer b capacity = andThen (formatAnswer b) (andThen (checkOf (shapeIn b) (hopListIn b)) (capacityAnswer (numberPlace (hopsIn b)) capacity))
 
 -- "with any number but 0 every other figure in the answer is 0"
 abbrev pub nothing : Answer → Contents

@@ -11,7 +11,7 @@ use lib.ListN.{length, getD, take, drop, List·getD-append}
 use lib.Seq.{take-at}
 use lib.Dec.{eqb, leb}
 use Rattle.graph.specs.Hops.{numberPlace}
-use Rattle.graph.specs.Answers.{most-numbers, accepted, refused, roomFor}
+use Rattle.graph.specs.Answers.{most-numbers, accepted, refused, capacityAnswer}
 use Rattle.graph_check.specs.Check.{Admitted}
 use Rattle.graph.specs.declared.Shape.{Shape}
 use Rattle.graph.specs.declared.Answer.{Answer}
@@ -223,7 +223,7 @@ module _ (sh : Shape) (hs ns file again : List ℕ) where
           pub written-capacity : length (encode sh hs ns) ≤ length file
           unfolding writeAnswer
           written-capacity =
-              go (leb (length (encode sh hs ns)) (length file)) refl (both-accept (givenAnswer sh hs ns) (roomFor (length (encode sh hs ns)) (length file)) y .1) where
+              go (leb (length (encode sh hs ns)) (length file)) refl (both-accept (givenAnswer sh hs ns) (capacityAnswer (length (encode sh hs ns)) (length file)) y .1) where
                 go : (t : Bool) → leb (length (encode sh hs ns)) (length file) ≡ t → (cond t accepted (refused 6 0)) .number ≡ 0 → length (encode sh hs ns) ≤ length file
                 go true d x = leb-true _ _ d
                 go false d x = absurd (omega arith)

@@ -8,7 +8,7 @@ use Rattle.base_bounded.specs.Quantifiers.{all, any, least}
 use Rattle.graph.specs.Hops.{flat}
 use Rattle.graph.specs.Order.{before}
 use Rattle.graph.specs.Answers.{accepted, refused}
-use Rattle.graph_check.specs.Check.{countsFit, inside, firstOutside, rises, firstFalling, checkOf}
+use Rattle.graph_check.specs.Check.{countsFit, inside, firstOutside, ascendsAt, firstNotAscending, checkOf}
 use Rattle.graph.specs.declared.Shape.{Shape}
 use Rattle.file_names.specs.Block.{nameAt, repeated, lengthFits, bad, firstBad}
 use Rattle.file_name_order.specs.Pair.{sameByte, sameName}
@@ -36,7 +36,7 @@ unfolding encode headBytes bitsOf initialBytes hopsBytes linesBytes anyLine any 
 p1-bytes = (refl, refl)
 
 pub p1-read : (readAnswer bytes 16 ≡ accepted) × (hopListIn bytes ≡ hops) × (readAnswer bytes 15 ≡ refused 6 0) × (readAnswer [] 0 ≡ refused 11 0)
-unfolding readAnswer formatAnswer namesAnswer idleBit need linesPlace lineBytesIn linesIn lineIn zeroLines restOf namesIn namesPlace hopsIn hopsPlace initialIn hasInitial hasHops hasNames hasLines shapeIn hopListIn nameAt firstBad bad lengthFits repeated sameName sameByte checkOf countsFit firstOutside inside firstFalling rises before hopsInField hopsBy hopFrom flat least all any
+unfolding readAnswer formatAnswer namesAnswer idleBit need linesPlace lineBytesIn linesIn lineIn zeroLines restOf namesIn namesPlace hopsIn hopsPlace initialIn hasInitial hasHops hasNames hasLines shapeIn hopListIn nameAt firstBad bad lengthFits repeated sameName sameByte checkOf countsFit firstOutside inside firstNotAscending ascendsAt before hopsInField hopsBy hopFrom flat least all any
 p1-read = (refl, refl, refl, refl)
 
 -- the second hop of line 5 and the last of line 300
@@ -53,5 +53,5 @@ unfolding encode headBytes bitsOf initialBytes hopsBytes linesBytes lineList any
 lined-bytes = (refl, refl)
 
 pub lined-read : (readAnswer linedBytes 16 ≡ accepted) × (hopListIn linedBytes ≡ linedHops)
-unfolding readAnswer formatAnswer namesAnswer idleBit need linesPlace lineBytesIn linesIn lineIn zeroLines restOf namesIn namesPlace hopsIn hopsPlace initialIn hasInitial hasHops hasNames hasLines shapeIn hopListIn nameAt firstBad bad lengthFits repeated sameName sameByte checkOf countsFit firstOutside inside firstFalling rises before hopsInField hopsBy hopFrom flat least all any
+unfolding readAnswer formatAnswer namesAnswer idleBit need linesPlace lineBytesIn linesIn lineIn zeroLines restOf namesIn namesPlace hopsIn hopsPlace initialIn hasInitial hasHops hasNames hasLines shapeIn hopListIn nameAt firstBad bad lengthFits repeated sameName sameByte checkOf countsFit firstOutside inside firstNotAscending ascendsAt before hopsInField hopsBy hopFrom flat least all any
 lined-read = (refl, refl)

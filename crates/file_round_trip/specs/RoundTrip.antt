@@ -5,7 +5,7 @@ use mathlib.Core.List.{List}
 use lib.ListN.{length}
 use lib.Dec.{eqb}
 use Rattle.graph.specs.Hops.{count}
-use Rattle.graph.specs.Answers.{most-numbers, accepted, andThen, roomFor}
+use Rattle.graph.specs.Answers.{most-numbers, accepted, andThen, capacityAnswer}
 use Rattle.graph.specs.declared.Shape.{Shape}
 use Rattle.graph.specs.declared.Answer.{Answer}
 use Rattle.base_outputs.specs.Output.{written}
@@ -17,7 +17,7 @@ use Rattle.file_write.specs.declared.Written.{Written}
 
 -- "A file read and written again has the same bytes": it is read into room for the hops of every graph
 unfoldable pub copyAnswer : List ℕ → ℕ → Answer
-copyAnswer b capacity = andThen (readAnswer b most-numbers) (roomFor (length b) capacity)
+copyAnswer b capacity = andThen (readAnswer b most-numbers) (capacityAnswer (length b) capacity)
 
 unfoldable pub copyOf : List ℕ → ℕ → Written
 copyOf b capacity = cond (eqb (copyAnswer b capacity .number) 0) (record { answer = accepted; length = length b }) (nothingWritten (copyAnswer b capacity))
@@ -33,7 +33,7 @@ abbrev pub sameGraph : Shape → List ℕ → List ℕ → Contents
 sameGraph sh hs ns = record { answer = accepted; shape = sh; hops = count hs; «names_place» = blockStart sh hs ns; «names_len» = length ns }
 
 unfoldable pub backAnswer : Shape → List ℕ → List ℕ → ℕ → ℕ → Answer
-backAnswer sh hs ns capacity hopCapacity = andThen (givenAnswer sh hs ns) (andThen (roomFor (length hs) hopCapacity) (roomFor (length (encode sh hs ns)) capacity))
+backAnswer sh hs ns capacity hopCapacity = andThen (givenAnswer sh hs ns) (andThen (capacityAnswer (length hs) hopCapacity) (capacityAnswer (length (encode sh hs ns)) capacity))
 
 unfoldable pub backOf : Shape → List ℕ → List ℕ → ℕ → ℕ → Contents
 backOf sh hs ns capacity hopCapacity = cond (eqb (backAnswer sh hs ns capacity hopCapacity .number) 0) (sameGraph sh hs ns) (nothing (backAnswer sh hs ns capacity hopCapacity))

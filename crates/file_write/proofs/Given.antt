@@ -8,12 +8,12 @@ use borrow.Author.Tests.{lt-ltb, le-ltb, lt-leb, le-leb, eq-eqb, ne-eqb}
 use lib.ListN.{length}
 use Rattle.base_bounded.proofs.Bools.{eq-or-not}
 use Rattle.graph.specs.Hops.{count}
-use Rattle.graph.specs.Answers.{most-labels, most-hops, accepted, refused, roomFor}
+use Rattle.graph.specs.Answers.{most-labels, most-hops, accepted, refused, capacityAnswer}
 use Rattle.graph_check.specs.Check.{checkOf, Admitted}
 use Rattle.graph.specs.declared.Shape.{Shape}
 use Rattle.graph.specs.declared.Answer.{Answer}
 use Rattle.graph_check.proofs.Checked.{check-admitted, admitted-check}
-use Rattle.graph.proofs.Accepts.{both-accept, second-accepts, room-accepts}
+use Rattle.graph.proofs.Accepts.{both-accept, second-accepts, capacity-accepts}
 use Rattle.file_names.specs.Block.{nameAt, firstBad, Searchable}
 use Rattle.file_names.proofs.Blocks.{name-less, name-least}
 use Rattle.base_outputs.specs.Output.{onFront}
@@ -103,8 +103,8 @@ module _ (sh : Shape) (hs ns : List ℕ) where
       (writeAnswer sh hs ns capacity ≡ accepted) × (givenAnswer sh hs ns .number ≡ 0) × (length (encode sh hs ns) ≤ capacity)
   unfolding writeAnswer
   write-accepts capacity z =
-      let (g, r) = both-accept (givenAnswer sh hs ns) (roomFor (length (encode sh hs ns)) capacity) z in
-      let (a, l) = room-accepts (length (encode sh hs ns)) capacity r in
+      let (g, r) = both-accept (givenAnswer sh hs ns) (capacityAnswer (length (encode sh hs ns)) capacity) z in
+      let (a, l) = capacity-accepts (length (encode sh hs ns)) capacity r in
       (second-accepts (givenAnswer sh hs ns) _ z ∙ a, g, l)
 
   -- what a refusal and an acceptance give

@@ -4,7 +4,7 @@ use mathlib.Core.Bool.{cond}
 use mathlib.Core.List.{List}
 use lib.ListN.{length}
 use lib.Dec.{eqb, ltb}
-use Rattle.graph.specs.Answers.{accepted, refused, andThen, roomFor}
+use Rattle.graph.specs.Answers.{accepted, refused, andThen, capacityAnswer}
 use Rattle.graph_check.specs.Check.{checkOf}
 use Rattle.graph.specs.declared.Shape.{Shape}
 use Rattle.graph.specs.declared.Answer.{Answer}
@@ -30,7 +30,7 @@ unfoldable pub givenAnswer : Shape → List ℕ → List ℕ → Answer
 givenAnswer sh hs ns = andThen (checkOf sh hs) (namesGiven sh ns)
 
 unfoldable pub writeAnswer : Shape → List ℕ → List ℕ → ℕ → Answer
-writeAnswer sh hs ns capacity = andThen (givenAnswer sh hs ns) (roomFor (length (encode sh hs ns)) capacity)
+writeAnswer sh hs ns capacity = andThen (givenAnswer sh hs ns) (capacityAnswer (length (encode sh hs ns)) capacity)
 
 -- "with any number but 0 every other figure in the answer is 0"
 abbrev pub nothingWritten : Answer → Written

@@ -5,7 +5,7 @@ use mathlib.Core.Bool.{Bool, true, false, cond}
 use native.Mathlib.Omega.{arith}
 use borrow.Author.Tests.{eq-eqb, ne-eqb, eqb-true, eqb-false, leb-true}
 use lib.Dec.{eqb, leb}
-use Rattle.graph.specs.Answers.{accepted, refused, andThen, roomFor}
+use Rattle.graph.specs.Answers.{accepted, refused, andThen, capacityAnswer}
 use Rattle.graph.specs.declared.Answer.{Answer}
 
 -- the first answer speaks, or the second
@@ -27,8 +27,8 @@ pub second-accepts : (a b : Answer) → andThen a b .number ≡ 0 → andThen a 
 second-accepts a b e = then-next a b (both-accept a b e .0)
 
 -- a room that is not refused is wide enough
-pub room-accepts : (n r : ℕ) → roomFor n r .number ≡ 0 → (roomFor n r ≡ accepted) × (n ≤ r)
-room-accepts n r = go (leb n r) refl where
+pub capacity-accepts : (n r : ℕ) → capacityAnswer n r .number ≡ 0 → (capacityAnswer n r ≡ accepted) × (n ≤ r)
+capacity-accepts n r = go (leb n r) refl where
   go : (t : Bool) → leb n r ≡ t → cond t accepted (refused 6 0) .number ≡ 0 → (cond t accepted (refused 6 0) ≡ accepted) × (n ≤ r)
   go true d z = (refl, leb-true n r d)
   go false d z = absurd (omega arith)

@@ -13,7 +13,7 @@ use Rattle.base_bounded.specs.Quantifiers.{any, all}
 use Rattle.graph.specs.Hops.{count, from, hopOf, hopAt, Alike, is, has}
 use Rattle.graph.specs.Order.{before, Ascending}
 use Rattle.graph.specs.Sum.{sumOf, Narrow}
-use Rattle.graph.specs.Search.{lower, Bracket, Ended, found, placed, isAt, foundPlace, firstOf, pastOf}
+use Rattle.graph.specs.Search.{lower, Bracket, AbsentFrom, found, placed, isAt, foundPlace, firstOf, pastOf}
 use Rattle.graph.specs.declared.Hop.{Hop}
 use Rattle.graph.specs.declared.Found.{Found}
 use Rattle.graph.specs.declared.Found.the-variants.{At, Gap}
@@ -53,9 +53,9 @@ module _ (hs : List ℕ) (h : Hop) where
   unfolding is
   sums-is i e p q = rw e at (sums-same p q)
 
-  pub whole-ended : {past : ℕ} → past ≡ count hs → Ended hs h past
-  unfolding Ended
-  whole-ended e j l k = absurd (omega arith)
+  pub whole-absent : {past : ℕ} → past ≡ count hs → AbsentFrom hs h past
+  unfolding AbsentFrom
+  whole-absent e j l k = absurd (omega arith)
 
   pub lower-met : {lo hi : ℕ} → Bracket hs h lo hi → hi ≤ lo → lower hs h ≡ lo
   unfolding lower
@@ -130,13 +130,13 @@ module _ (hs : List ℕ) (h : Hop) where
 
   -- the ways out of a search, where r is the place that it came to: it asked whether the hop stands there, or is past all that it can stand at
   module _ {r : ℕ} (e : r ≡ lower hs h) where
-    pub find-told : {b : Bool} → r < count hs → b ≡ is hs (h .from) (h .label) (h .to) r → found b r ≡ placed hs h
+    pub find-found : {b : Bool} → r < count hs → b ≡ is hs (h .from) (h .label) (h .to) r → found b r ≡ placed hs h
     unfolding placed
-    find-told l f = rw (← e, lt-ltb _ _ l, f)
+    find-found l f = rw (← e, lt-ltb _ _ l, f)
 
-    pub find-end : {past : ℕ} → past ≤ r → Ended hs h past → found false r ≡ placed hs h
-    unfolding placed Ended
-    find-end l f = ⊎-elim (λ m. find-told m (sym (f r l m))) (λ m. rw (← e, le-ltb _ _ m)) (lt-or-le r (count hs))
+    pub find-end : {past : ℕ} → past ≤ r → AbsentFrom hs h past → found false r ≡ placed hs h
+    unfolding placed AbsentFrom
+    find-end l f = ⊎-elim (λ m. find-found m (sym (f r l m))) (λ m. rw (← e, le-ltb _ _ m)) (lt-or-le r (count hs))
 
   -- the place that the search comes to
   pub found-lower : foundPlace (placed hs h) ≡ lower hs h

@@ -36,5 +36,5 @@ abbrev pub andThen : Answer → Answer → Answer
 andThen a b = cond (eqb (a .number) 0) b a
 
 -- row 6, for an output that has room for r elements and needs n
-abbrev pub roomFor : ℕ → ℕ → Answer
-roomFor n r = cond (leb n r) accepted (refused 6 0)
+abbrev pub capacityAnswer : ℕ → ℕ → Answer
+capacityAnswer n r = cond (leb n r) accepted (refused 6 0)

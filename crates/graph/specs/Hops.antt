@@ -101,5 +101,5 @@ has hs s a t = any (count hs) (is hs s a t)
 abbrev pub between : List ℕ → ℕ → ℕ → List ℕ
 between hs first past = take (numberPlace past - numberPlace first) (drop (numberPlace first) hs)
 
-abbrev pub standsAt : RefT (List ℕ) → ℕ → ℕ × ℕ
-standsAt t first = (ptr t .0, numberPlace first * 2 + ptr t .1)
+abbrev pub partAddress : RefT (List ℕ) → ℕ → ℕ × ℕ
+partAddress t first = (ptr t .0, numberPlace first * 2 + ptr t .1)

@@ -24,8 +24,8 @@ pub record Bracket (hs : List ℕ) (h : Hop) (lo hi : ℕ) : Type 0 where
   pub above : (j : ℕ) → hi ≤ j → j < count hs → before (hopAt hs j) h ≡ false
 
 -- h does not stand at the place p, or behind it
-unfoldable pub Ended : List ℕ → Hop → ℕ → Type 0
-Ended hs h p = (j : ℕ) → p ≤ j → j < count hs → is hs (h .from) (h .label) (h .to) j ≡ false
+unfoldable pub AbsentFrom : List ℕ → Hop → ℕ → Type 0
+AbsentFrom hs h p = (j : ℕ) → p ≤ j → j < count hs → is hs (h .from) (h .label) (h .to) j ≡ false
 
 abbrev pub found : Bool → ℕ → Found
 found true i = At i

@@ -10,7 +10,7 @@ use super::order::is_same;
 ghost use mathlib.Core.Path.{_≡_};
 ghost use Prim.Native.Nat.{_<_, _≤_};
 ghost use denote.Ref.{ptr};
-ghost use Rattle.graph.specs.Hops.{count, whole, from, label, to, lineAt, linedHop, hopOf, hopAt, put, is, between, standsAt, numberPlace};
+ghost use Rattle.graph.specs.Hops.{count, whole, from, label, to, lineAt, linedHop, hopOf, hopAt, put, is, between, partAddress, numberPlace};
 ghost use Rattle.graph.specs.Answers.{most-hops};
 
 // How many hops the list holds.
@@ -135,7 +135,7 @@ pub fn part<'a>(hops: &'a [u16], first: usize, past: usize) -> &'a [u16]
     requires rising { ⌜ first ≤ past ⌝ }
     requires within { ⌜ past ≤ count (now hops) ⌝ }
     ensures shows { λ r. ⌜ now r ≡ between (now (hops .entry)) first past ⌝ }
-    ensures stands { λ r. ⌜ ptr r ≡ standsAt (hops .entry) first ⌝ }
+    ensures stands { λ r. ⌜ ptr r ≡ partAddress (hops .entry) first ⌝ }
 {
     let a = NUMBERS_A_HOP * first;
     let e = NUMBERS_A_HOP * past;

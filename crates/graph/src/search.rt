@@ -15,7 +15,7 @@ ghost use mathlib.Core.Path.{_≡_};
 ghost use Prim.Native.Nat.{_<_, _≤_};
 ghost use Rattle.graph.specs.Hops.{count};
 ghost use Rattle.graph.specs.Order.{Ascending};
-ghost use Rattle.graph.specs.Search.{lower, Bracket, Ended, found, placed, isAt, foundPlace, firstOf, pastOf};
+ghost use Rattle.graph.specs.Search.{lower, Bracket, AbsentFrom, found, placed, isAt, foundPlace, firstOf, pastOf};
 
 // The first place whose hop is not before h, searched for by halving between two places that bracket it.
 pub fn lower_between(hops: &[u16], h: Hop, first: usize, past: usize) -> usize
@@ -46,7 +46,7 @@ pub fn lower_place(hops: &[u16], h: Hop) -> usize
 }
 
 // What a search tells of the place that it came to: the hop stands there, or would stand there.
-fn told(stands: bool, at: usize) -> Found
+fn found_or_gap(stands: bool, at: usize) -> Found
     ensures { λ r. ⌜ r ≡ found stands at ⌝ }
 {
     if stands {
@@ -59,21 +59,21 @@ fn told(stands: bool, at: usize) -> Found
 pub fn find_between(hops: &[u16], h: Hop, first: usize, past: usize) -> Found
     requires ascending { ⌜ Ascending (now hops) ⌝ }
     requires bracket { ⌜ Bracket (now hops) h first past ⌝ }
-    requires ended { ⌜ Ended (now hops) h past ⌝ }
+    requires ended { ⌜ AbsentFrom (now hops) h past ⌝ }
     ensures { λ r. ⌜ r ≡ placed (now (hops .entry)) h ⌝ }
 {
     let at = lower_between(hops, h, first, past);
     if at < past {
-        return told(is_hop_at(hops, at, h), at);
+        return found_or_gap(is_hop_at(hops, at, h), at);
     }
-    told(false, at)
+    found_or_gap(false, at)
 }
 
 // The same, walked to from the first of the two places: for hops that are sought one after the other, each not far behind the one before.
 pub fn find_ahead(hops: &[u16], h: Hop, first: usize, past: usize) -> Found
     requires ascending { ⌜ Ascending (now hops) ⌝ }
     requires bracket { ⌜ Bracket (now hops) h first past ⌝ }
-    requires ended { ⌜ Ended (now hops) h past ⌝ }
+    requires ended { ⌜ AbsentFrom (now hops) h past ⌝ }
     ensures { λ r. ⌜ r ≡ placed (now (hops .entry)) h ⌝ }
 {
     let sought = sum_of(h);
@@ -81,11 +81,11 @@ pub fn find_ahead(hops: &[u16], h: Hop, first: usize, past: usize) -> Found
     while at < past {
         let sum = sum_of(hop_at(hops, at));
         if !is_below(sum, sought) {
-            return told(sum == sought, at);
+            return found_or_gap(sum == sought, at);
         }
         at += 1;
     }
-    told(false, at)
+    found_or_gap(false, at)
 }
 
 // Where the hop stands or would stand, in the whole list.

@@ -15,7 +15,7 @@ use Rattle.base_bounded.specs.Quantifiers.{least, FirstFailing}
 use Rattle.graph.specs.Hops.{numbers-a-hop, count, from, label, to, hopAt}
 use Rattle.graph.specs.Order.{before, Ascending}
 use Rattle.graph.specs.Answers.{most-states, most-labels, most-hops, accepted, refused}
-use Rattle.graph_check.specs.Check.{countsFit, inside, firstOutside, rises, firstFalling, checkOf, InRange, Admitted}
+use Rattle.graph_check.specs.Check.{countsFit, inside, firstOutside, ascendsAt, firstNotAscending, checkOf, InRange, Admitted}
 use Rattle.graph.specs.declared.Hop.{Hop}
 use Rattle.graph.specs.declared.Shape.{Shape}
 use Rattle.graph.specs.declared.Answer.{Answer}
@@ -45,7 +45,7 @@ module _ (sh : Shape) (hs : List ℕ) where
         unfolding checkOf
         check-range m = rw (← f, e, lt-leb _ _ l, ← p, lt-ltb _ _ m)
 
-        module _ (m : count hs ≤ o) {w : ℕ} (q : w ≡ firstFalling hs) where
+        module _ (m : count hs ≤ o) {w : ℕ} (q : w ≡ firstNotAscending hs) where
           pub check-order : w < count hs → refused 4 w ≡ checkOf sh hs
           unfolding checkOf
           check-order k = rw (← f, e, lt-leb _ _ l, ← p, le-ltb _ _ m, ← q, lt-ltb _ _ k)
@@ -83,8 +83,8 @@ module _ (sh : Shape) (hs : List ℕ) where
   range-inside r i l = rw (lt-ltb _ _ (r .from-in i l), lt-ltb _ _ (r .label-in i l), lt-ltb _ _ (r .to-in i l))
 
   -- row 4 passed by each hop is "strictly ascending"
-  rising-ascends : ((i : ℕ) → i < count hs → rises hs i ≡ true) → Ascending hs
-  unfolding rises Ascending
+  rising-ascends : ((i : ℕ) → i < count hs → ascendsAt hs i ≡ true) → Ascending hs
+  unfolding ascendsAt Ascending
   rising-ascends f i l = go (or-yes (eqb (i + 1) 0) _ (f (i + 1) l)) where
     back : i + 1 - 1 ≡ i
     back = omega arith
@@ -93,8 +93,8 @@ module _ (sh : Shape) (hs : List ℕ) where
     go (inl e) = absurd (omega (arith, eqb-true (i + 1) 0 e))
     go (inr e) = subst (λ (n : ℕ). before (hopAt hs n) (hopAt hs (i + 1)) ≡ true) back e
 
-  ascends-rising : Ascending hs → (i : ℕ) → i < count hs → rises hs i ≡ true
-  unfolding rises Ascending
+  ascends-rising : Ascending hs → (i : ℕ) → i < count hs → ascendsAt hs i ≡ true
+  unfolding ascendsAt Ascending
   ascends-rising up zero l = refl
   ascends-rising up (suc i) l = or-right (eqb (suc i) 0) (subst (λ (n : ℕ). before (hopAt hs n) (hopAt hs (suc i)) ≡ true) back here) where
     back : i ≡ suc i - 1
@@ -137,12 +137,12 @@ module _ (sh : Shape) (hs : List ℕ) where
   pub record Means (a : Answer) : Type 0 where
     pub zero-admits : a .number ≡ 0 → Admitted sh hs
     pub three-first : a .number ≡ 3 → FirstFailing (count hs) (inside sh hs) (a .place)
-    pub four-first : a .number ≡ 4 → FirstFailing (count hs) (rises hs) (a .place)
+    pub four-first : a .number ≡ 4 → FirstFailing (count hs) (ascendsAt hs) (a .place)
 
   answered : (a b c d : Bool) → countsFit sh hs ≡ a → leb (sh .states) (sh .initial) ≡ b → ltb (firstOutside sh hs) (count hs) ≡ c →
-      ltb (firstFalling hs) (count hs) ≡ d →
-      Means (cond (not a) (refused 1 0) (cond b (refused 2 0) (cond c (refused 3 (firstOutside sh hs)) (cond d (refused 4 (firstFalling hs)) accepted))))
-  unfolding firstOutside firstFalling
+      ltb (firstNotAscending hs) (count hs) ≡ d →
+      Means (cond (not a) (refused 1 0) (cond b (refused 2 0) (cond c (refused 3 (firstOutside sh hs)) (cond d (refused 4 (firstNotAscending hs)) accepted))))
+  unfolding firstOutside firstNotAscending
   answered false b c d p q r t = record { zero-admits = λ e. absurd (omega arith); three-first = λ e. absurd (omega arith); four-first = λ e. absurd (omega arith) }
   answered true true c d p q r t = record { zero-admits = λ e. absurd (omega arith); three-first = λ e. absurd (omega arith); four-first = λ e. absurd (omega arith) }
   answered true false true d p q r t = record {
@@ -153,7 +153,7 @@ module _ (sh : Shape) (hs : List ℕ) where
   answered true false false true p q r t = record {
     zero-admits = λ e. absurd (omega arith);
     three-first = λ e. absurd (omega arith);
-    four-first = λ e. first-failing (count hs) (rises hs) (ltb-true _ _ t);
+    four-first = λ e. first-failing (count hs) (ascendsAt hs) (ltb-true _ _ t);
   }
   answered true false false false p q r t = record {
     zero-admits = λ e. (let l = counts-limits p in record {
@@ -165,7 +165,7 @@ module _ (sh : Shape) (hs : List ℕ) where
       whole-hops = l .whole-hops;
       initial-in = leb-false _ _ q;
       range = inside-range (none-failing (count hs) (inside sh hs) (ltb-false _ _ r));
-      ascending = rising-ascends (none-failing (count hs) (rises hs) (ltb-false _ _ t));
+      ascending = rising-ascends (none-failing (count hs) (ascendsAt hs) (ltb-false _ _ t));
     });
     three-first = λ e. absurd (omega arith);
     four-first = λ e. absurd (omega arith);
@@ -180,7 +180,7 @@ module _ (sh : Shape) (hs : List ℕ) where
   check-admitted = check-means .zero-admits
 
   pub admitted-check : Admitted sh hs → checkOf sh hs ≡ accepted
-  unfolding firstOutside firstFalling
+  unfolding firstOutside firstNotAscending
   admitted-check a =
       sym (check-accepts sh hs refl (not-yes (limits-counts limits)) (a .initial-in) refl outside refl falling)
     where
@@ -197,8 +197,8 @@ module _ (sh : Shape) (hs : List ℕ) where
       outside : count hs ≤ firstOutside sh hs
       outside = rw (all-passing (count hs) (inside sh hs) (range-inside (a .range))) (le-refl (count hs))
 
-      falling : count hs ≤ firstFalling hs
-      falling = rw (all-passing (count hs) (rises hs) (ascends-rising (a .ascending))) (le-refl (count hs))
+      falling : count hs ≤ firstNotAscending hs
+      falling = rw (all-passing (count hs) (ascendsAt hs) (ascends-rising (a .ascending))) (le-refl (count hs))
 
-  pub check-zero : (checkOf sh hs .number ≡ 0) ↔ Admitted sh hs
-  check-zero = (check-admitted, λ a. ap (λ (x : Answer). x .number) (admitted-check a))
+  pub check-zero-iff : (checkOf sh hs .number ≡ 0) ↔ Admitted sh hs
+  check-zero-iff = (check-admitted, λ a. ap (λ (x : Answer). x .number) (admitted-check a))

@@ -1,2 +1,2 @@
 pub mod Checked  -- accepted exactly when admitted, and which row speaks where
-pub mod Rising  -- row 4 by sums
+pub mod Ascending  -- row 4 by sums

@@ -27,11 +27,11 @@ unfoldable pub firstOutside : Shape → List ℕ → ℕ
 firstOutside sh hs = least (count hs) (λ (i : ℕ). not (inside sh hs i))
 
 -- row 4: "a hop not above the one before"; the first hop has none before it
-unfoldable pub rises : List ℕ → ℕ → Bool
-rises hs i = eqb i 0 || before (hopAt hs (i - 1)) (hopAt hs i)
+unfoldable pub ascendsAt : List ℕ → ℕ → Bool
+ascendsAt hs i = eqb i 0 || before (hopAt hs (i - 1)) (hopAt hs i)
 
-unfoldable pub firstFalling : List ℕ → ℕ
-firstFalling hs = least (count hs) (λ (i : ℕ). not (rises hs i))
+unfoldable pub firstNotAscending : List ℕ → ℕ
+firstNotAscending hs = least (count hs) (λ (i : ℕ). not (ascendsAt hs i))
 
 -- the answer of `check`: the first row that speaks, in ascending order
 unfoldable pub checkOf : Shape → List ℕ → Answer
@@ -39,7 +39,7 @@ checkOf sh hs =
     cond (not (countsFit sh hs)) (refused 1 0)
     (cond (leb (sh .states) (sh .initial)) (refused 2 0)
     (cond (ltb (firstOutside sh hs) (count hs)) (refused 3 (firstOutside sh hs))
-    (cond (ltb (firstFalling hs) (count hs)) (refused 4 (firstFalling hs))
+    (cond (ltb (firstNotAscending hs) (count hs)) (refused 4 (firstNotAscending hs))
     accepted)))
 
 -- the meaning of 0: "A graph is admitted when checks 1 to 4 pass it"

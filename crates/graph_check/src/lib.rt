@@ -19,7 +19,7 @@ use graph::order::sum_of;
 ghost use mathlib.Core.Path.{_≡_};
 ghost use Prim.Native.Nat.{_<_};
 ghost use Rattle.graph.specs.Hops.{count};
-ghost use Rattle.graph_check.specs.Check.{countsFit, inside, firstOutside, firstFalling, checkOf};
+ghost use Rattle.graph_check.specs.Check.{countsFit, inside, firstOutside, firstNotAscending, checkOf};
 
 // Row 1.
 fn counts_fit(shape: Shape, hops: &[u16]) -> bool
@@ -62,8 +62,8 @@ fn first_outside(shape: Shape, hops: &[u16]) -> usize
 }
 
 // Row 4: the first hop not above the one before, or the number of hops. The sum of each hop is made once, and kept for the next.
-fn first_falling(hops: &[u16]) -> usize
-    ensures { λ r. ⌜ r ≡ firstFalling (now (hops .entry)) ⌝ }
+fn first_not_ascending(hops: &[u16]) -> usize
+    ensures { λ r. ⌜ r ≡ firstNotAscending (now (hops .entry)) ⌝ }
 {
     let n = hop_count(hops);
     if n == 0 {
@@ -97,7 +97,7 @@ pub fn check(shape: Shape, hops: &[u16]) -> Answer
     if outside < n {
         return refuse(3, outside);
     }
-    let falling = first_falling(hops);
+    let falling = first_not_ascending(hops);
     if falling < n {
         return refuse(4, falling);
     }

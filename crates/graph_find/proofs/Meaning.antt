@@ -18,7 +18,7 @@ use Rattle.graph.proofs.Places.{Place, is-yes, has-place}
 use Rattle.graph.proofs.Lookup.{lower-within, lower-law, lower-at}
 use Rattle.graph_check.proofs.Checked.{admitted-check}
 use Rattle.graph_find.specs.declared.Finding.{Finding}
-use Rattle.graph_find.specs.Finding.{findOf, Finds}
+use Rattle.graph_find.specs.Find.{findOf, Finds}
 use Rattle.graph_find.proofs.Places.{lower-counts}
 
 -- "with any number but 0 every other figure in the answer is 0"
@@ -82,8 +82,8 @@ module _ {sh : Shape} {hs : List ℕ} (ok : Admitted sh hs) (s a t : ℕ) where
     go p (inr (inl l)) = omega (arith, ok .range .label-in (p .at) (p .within), p .label-is)
     go p (inr (inr l)) = omega (arith, ok .range .to-in (p .at) (p .within), p .to-is)
 
-  pub find-finds : Finds sh hs s a t finding
-  find-finds = record {
+  pub find-correct : Finds sh hs s a t finding
+  find-correct = record {
     has-found = found-exactly-when-had;
     found-within = found-below-count;
     found-there = found-stands-there;

@@ -14,7 +14,7 @@ use Rattle.base_bounded.proofs.Bools.{lt-or-le}
 use Rattle.base_bounded.proofs.Quantifiers.{tally-same}
 use Rattle.base_bounded.proofs.Tallies.{tally-full}
 use Rattle.graph.proofs.Lookup.{lower-within, lower-law}
-use Rattle.graph_find.specs.Finding.{hopsBefore}
+use Rattle.graph_find.specs.Find.{hopsBefore}
 
 -- of the numbers below n, m come before m
 tally-below : (n : ℕ) {m : ℕ} → m ≤ n → tally n (λ (j : ℕ). ltb j m) ≡ m

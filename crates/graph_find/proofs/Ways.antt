@@ -14,13 +14,13 @@ use Rattle.graph.specs.declared.Found.{Found}
 use Rattle.graph_check.proofs.Checked.{check-admitted}
 use Rattle.graph.proofs.Lookup.{placed-has, found-lower}
 use Rattle.graph_find.specs.declared.Finding.{Finding}
-use Rattle.graph_find.specs.Finding.{hopsBefore, narrowed, findOf}
-use Rattle.graph_find.proofs.Narrowed.{hops-before-narrowed, has-narrowed}
+use Rattle.graph_find.specs.Find.{hopsBefore, saturated, findOf}
+use Rattle.graph_find.proofs.Saturated.{hops-before-saturated, has-saturated}
 use Rattle.graph_find.proofs.Places.{lower-counts}
 
 -- what is returned for what the search answers
-abbrev pub told : Answer → Found → Finding
-told answer r = record { answer = answer; found = cond (isAt r) 1 0; place = foundPlace r }
+abbrev pub findingOf : Answer → Found → Finding
+findingOf answer r = record { answer = answer; found = cond (isAt r) 1 0; place = foundPlace r }
 
 module _ (sh : Shape) (hs : List ℕ) {answer : Answer} (p : answer ≡ checkOf sh hs) where
   pub find-admitted : answer .number ≡ 0 → Admitted sh hs
@@ -32,21 +32,21 @@ module _ (sh : Shape) (hs : List ℕ) {answer : Answer} (p : answer ≡ checkOf 
     find-refused n = rw (← p, ne-eqb _ _ n)
 
     -- h is the hop that is sought, by the numbers of 16 bits
-    module _ (zero : answer .number ≡ 0) {x y z : ℕ} (u : x ≡ narrowed s) (v : y ≡ narrowed a) (w : z ≡ narrowed t)
+    module _ (zero : answer .number ≡ 0) {x y z : ℕ} (u : x ≡ saturated s) (v : y ≡ saturated a) (w : z ≡ saturated t)
         {h : Hop} (e : h ≡ hopOf x y z) {r : Found} (f : r ≡ placed hs h) where
       ok : Admitted sh hs
       ok = find-admitted zero
 
-      answers : r ≡ placed hs (hopOf (narrowed s) (narrowed a) (narrowed t))
+      answers : r ≡ placed hs (hopOf (saturated s) (saturated a) (saturated t))
       answers = rw (← u, ← v, ← w, ← e) f
 
       has-told : isAt r ≡ has hs s a t
-      has-told = ap isAt answers ∙ placed-has hs _ (ok .ascending) ∙ has-narrowed ok s a t
+      has-told = ap isAt answers ∙ placed-has hs _ (ok .ascending) ∙ has-saturated ok s a t
 
       place-told : foundPlace r ≡ hopsBefore hs s a t
       place-told =
-          ap foundPlace answers ∙ found-lower hs _ ∙ lower-counts hs (ok .ascending) _ _ _ ∙ hops-before-narrowed ok s a t
+          ap foundPlace answers ∙ found-lower hs _ ∙ lower-counts hs (ok .ascending) _ _ _ ∙ hops-before-saturated ok s a t
 
-      pub find-told : {g : Found} → r ≡ g → told answer g ≡ findOf sh hs s a t
+      pub find-found : {g : Found} → r ≡ g → findingOf answer g ≡ findOf sh hs s a t
       unfolding findOf
-      find-told q = rw (← q, ← p, eq-eqb _ _ zero, has-told, place-told)
+      find-found q = rw (← q, ← p, eq-eqb _ _ zero, has-told, place-told)

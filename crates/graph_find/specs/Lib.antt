@@ -1,1 +1,1 @@
-pub mod Finding  -- whether a graph has a hop and where it stands or would stand, and what that means
+pub mod Find  -- whether a graph has a hop and where it stands or would stand, and what that means

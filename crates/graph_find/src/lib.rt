@@ -9,7 +9,7 @@ use graph::Shape;
 use graph::hops::hop_of;
 use graph_check::check;
 ghost use mathlib.Core.Path.{_≡_};
-ghost use Rattle.graph_find.specs.Finding.{narrowed, findOf};
+ghost use Rattle.graph_find.specs.Find.{saturated, findOf};
 
 // What `find` returns: check's answer; 1 or 0, whether the graph has the hop; and the hop's place, or where it would stand (0 and 0 with a refusal).
 pub struct Finding {
@@ -22,8 +22,8 @@ pub struct Finding {
 const LARGEST: u32 = 65535;
 
 // The number in 16 bits: as it is, or the largest for one that does not fit.
-fn narrow(x: u32) -> u16
-    ensures { λ r. ⌜ r ≡ narrowed x ⌝ }
+fn saturate(x: u32) -> u16
+    ensures { λ r. ⌜ r ≡ saturated x ⌝ }
 {
     if x < LARGEST {
         return x as u16;
@@ -43,7 +43,7 @@ pub fn find(shape: Shape, hops: &[u16], from: u32, label: u32, to: u32) -> Findi
             place: 0,
         };
     }
-    let sought = hop_of(narrow(from), narrow(label), narrow(to));
+    let sought = hop_of(saturate(from), saturate(label), saturate(to));
     let found = graph::search::find(hops, sought);
     match found {
         Found::At(at) => Finding {

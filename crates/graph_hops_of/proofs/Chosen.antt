@@ -11,7 +11,7 @@ use Rattle.graph.specs.declared.Shape.{Shape}
 use Rattle.graph.specs.declared.Answer.{Answer}
 use Rattle.base_bounded.proofs.Bools.{and-left, and-right}
 use Rattle.graph_check.proofs.Checked.{check-admitted}
-use Rattle.graph_hops_of.specs.Outgoing.{bothPass, chosen}
+use Rattle.graph_hops_of.specs.HopsOf.{bothPass, chosen}
 
 abbrev picked : Bool → Bool → Bool → ℕ
 picked x y z = cond x (cond y 1 (cond z 2 0)) 0
@@ -66,6 +66,6 @@ module _ (side s : ℕ) (sh1 : Shape) (h1 : List ℕ) (sh2 : Shape) (h2 : List �
   told true false false p q r = (λ e. absurd (omega arith), λ e. absurd (omega arith))
   told false y z p q r = (λ e. absurd (omega arith), λ e. absurd (omega arith))
 
-  pub chosen-shows : (chosen side s sh1 h1 sh2 h2 ≡ 1 → Shows sh1 h1) × (chosen side s sh1 h1 sh2 h2 ≡ 2 → Shows sh2 h2)
+  pub chosen-hops : (chosen side s sh1 h1 sh2 h2 ≡ 1 → Shows sh1 h1) × (chosen side s sh1 h1 sh2 h2 ≡ 2 → Shows sh2 h2)
   unfolding chosen
-  chosen-shows = told _ _ _ refl refl refl
+  chosen-hops = told _ _ _ refl refl refl

@@ -11,7 +11,7 @@ use lib.Dec.{eqb}
 use Rattle.graph.specs.Hops.{numberPlace}
 use Rattle.graph.specs.Search.{firstOf, pastOf}
 use Rattle.graph_hops_of.specs.declared.Span.{Span}
-use Rattle.graph_hops_of.specs.Outgoing.{outgoing, noSpan, spanIn}
+use Rattle.graph_hops_of.specs.HopsOf.{outgoing, noSpan, spanIn}
 
 -- a part from one place up to another
 abbrev span : ℕ → ℕ → Span
@@ -33,9 +33,9 @@ module _ (hs : List ℕ) (s : ℕ) where
       take (cond x noSpan (span (firstOf hs s) (pastOf hs s)) .length) (drop (cond x noSpan (span (firstOf hs s) (pastOf hs s)) .start) hs)
 
   -- the outgoing hops are as many numbers of the table as the length says, from the start on
-  pub span-shows : outgoing hs s ≡ take (spanIn hs s .length) (drop (spanIn hs s .start) hs)
+  pub span-hops : outgoing hs s ≡ take (spanIn hs s .length) (drop (spanIn hs s .start) hs)
   unfolding spanIn
-  span-shows = go (eqb (firstOf hs s) (pastOf hs s)) refl where
+  span-hops = go (eqb (firstOf hs s) (pastOf hs s)) refl where
     none : (n : ℕ) → n - n ≡ 0
     none n = omega arith
 

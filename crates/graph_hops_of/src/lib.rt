@@ -13,11 +13,11 @@ use graph_check::check;
 ghost use mathlib.Core.Path.{_≡_};
 ghost use Prim.Native.Nat.{_<_, _≤_};
 ghost use denote.Ref.{ptr};
-ghost use Rattle.graph.specs.Hops.{count, standsAt};
+ghost use Rattle.graph.specs.Hops.{count, partAddress};
 ghost use Rattle.graph.specs.Order.{Ascending};
 ghost use Rattle.graph.specs.Search.{firstOf};
 ghost use Rattle.graph.specs.Answers.{most-hops};
-ghost use Rattle.graph_hops_of.specs.Outgoing.{bothPass, chosen, outgoing, shown, shownAt, noSpan, spanIn, spanOf};
+ghost use Rattle.graph_hops_of.specs.HopsOf.{bothPass, chosen, outgoing, hopsOfSide, hopsOfAddress, noSpan, spanIn, spanOf};
 
 // Where a part stands in its table, in numbers; 0 and 0 for an empty part.
 pub struct Span {
@@ -54,7 +54,7 @@ fn out_of<'a>(hops: &'a [u16], state: u32) -> &'a [u16]
     requires ascending { ⌜ Ascending (now hops) ⌝ }
     requires state { ⌜ state < 65535 ⌝ }
     ensures shows { λ r. ⌜ now r ≡ outgoing (now (hops .entry)) state ⌝ }
-    ensures stands { λ r. ⌜ ptr r ≡ standsAt (hops .entry) (firstOf (now (hops .entry)) state) ⌝ }
+    ensures stands { λ r. ⌜ ptr r ≡ partAddress (hops .entry) (firstOf (now (hops .entry)) state) ⌝ }
 {
     let s = state as u16;
     let first = first_of(hops, s);
@@ -72,9 +72,9 @@ pub fn hops_of<'a>(
     hops2: &'a [u16],
 ) -> &'a [u16]
     ensures shows { λ r. ⌜ now r ≡
-        shown (chosen side state shape1 (now (hops1 .entry)) shape2 (now (hops2 .entry))) state (now (hops1 .entry)) (now (hops2 .entry)) ⌝ }
+        hopsOfSide (chosen side state shape1 (now (hops1 .entry)) shape2 (now (hops2 .entry))) state (now (hops1 .entry)) (now (hops2 .entry)) ⌝ }
     ensures stands { λ r. ⌜ ptr r ≡
-        shownAt (chosen side state shape1 (now (hops1 .entry)) shape2 (now (hops2 .entry))) state (hops1 .entry) (hops2 .entry) ⌝ }
+        hopsOfAddress (chosen side state shape1 (now (hops1 .entry)) shape2 (now (hops2 .entry))) state (hops1 .entry) (hops2 .entry) ⌝ }
 {
     let which = choose(side, state, shape1, hops1, shape2, hops2);
     if which == 1 {

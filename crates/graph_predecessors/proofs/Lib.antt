@@ -1,1 +1,1 @@
-pub mod Ends  -- what stands in the table among the hops into a state
+pub mod PredecessorIndex  -- what stands in the table among the hops into a state

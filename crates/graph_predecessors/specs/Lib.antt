@@ -1,1 +1,1 @@
-pub mod Ends  -- the table of places by where their hops end
+pub mod PredecessorIndex  -- the table of places by where their hops end

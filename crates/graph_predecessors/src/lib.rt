@@ -14,8 +14,8 @@ ghost use Prim.Native.Nat.{_<_};
 ghost use lib.ListN.{getD};
 ghost use Rattle.graph.specs.Hops.{count};
 ghost use Rattle.graph.specs.Answers.{most-hops};
-ghost use Rattle.graph_successors.specs.Starts.{Ready};
-ghost use Rattle.graph_predecessors.specs.Ends.{Counted, Begins, Filled};
+ghost use Rattle.graph_successors.specs.SuccessorIndex.{Indexable};
+ghost use Rattle.graph_predecessors.specs.PredecessorIndex.{InDegrees, PredecessorStarts, PredecessorPlaces};
 
 // The place that stands in the table at k.
 pub fn place_at(places: &[u16; MOST_HOPS], k: usize) -> usize
@@ -27,8 +27,8 @@ pub fn place_at(places: &[u16; MOST_HOPS], k: usize) -> usize
 
 // How many hops end in each state.
 fn ends_of(hops: &[u16]) -> [u16; STARTS]
-    requires { ⌜ Ready (now hops) ⌝ }
-    ensures { λ r. ⌜ Counted (now (hops .entry)) (count (now (hops .entry))) r ⌝ }
+    requires { ⌜ Indexable (now hops) ⌝ }
+    ensures { λ r. ⌜ InDegrees (now (hops .entry)) (count (now (hops .entry))) r ⌝ }
 {
     let n = hop_count(hops);
     let mut ends = [0u16; STARTS];
@@ -42,9 +42,9 @@ fn ends_of(hops: &[u16]) -> [u16; STARTS]
 }
 
 // Where the hops into each state begin: counted, and added up.
-pub fn begins_of(hops: &[u16]) -> [u16; STARTS]
-    requires { ⌜ Ready (now hops) ⌝ }
-    ensures { λ r. ⌜ Begins (now (hops .entry)) r ⌝ }
+pub fn predecessor_starts(hops: &[u16]) -> [u16; STARTS]
+    requires { ⌜ Indexable (now hops) ⌝ }
+    ensures { λ r. ⌜ PredecessorStarts (now (hops .entry)) r ⌝ }
 {
     let mut begins = ends_of(hops);
     let mut at = 0;
@@ -60,9 +60,9 @@ pub fn begins_of(hops: &[u16]) -> [u16; STARTS]
 
 // Each place in its slot, `next` being where the next hop into each state goes: at first, where they begin. It comes by value, to be moved on here.
 fn fill(hops: &[u16], mut next: [u16; STARTS]) -> [u16; MOST_HOPS]
-    requires ready { ⌜ Ready (now hops) ⌝ }
-    requires begins { ⌜ Begins (now hops) next ⌝ }
-    ensures { λ r. ⌜ Filled (now (hops .entry)) (count (now (hops .entry))) r ⌝ }
+    requires ready { ⌜ Indexable (now hops) ⌝ }
+    requires begins { ⌜ PredecessorStarts (now hops) next ⌝ }
+    ensures { λ r. ⌜ PredecessorPlaces (now (hops .entry)) (count (now (hops .entry))) r ⌝ }
 {
     let n = hop_count(hops);
     let mut places = [0u16; MOST_HOPS];
@@ -79,9 +79,9 @@ fn fill(hops: &[u16], mut next: [u16; STARTS]) -> [u16; MOST_HOPS]
 
 // Each place in its slot.
 pub fn places_of(hops: &[u16], begins: &[u16; STARTS]) -> [u16; MOST_HOPS]
-    requires ready { ⌜ Ready (now hops) ⌝ }
-    requires begins { ⌜ Begins (now hops) (now begins) ⌝ }
-    ensures { λ r. ⌜ Filled (now (hops .entry)) (count (now (hops .entry))) r ⌝ }
+    requires ready { ⌜ Indexable (now hops) ⌝ }
+    requires begins { ⌜ PredecessorStarts (now hops) (now begins) ⌝ }
+    ensures { λ r. ⌜ PredecessorPlaces (now (hops .entry)) (count (now (hops .entry))) r ⌝ }
 {
     fill(hops, *begins)
 }

@@ -15,11 +15,11 @@ use Rattle.graph.specs.Search.{firstOf}
 use Rattle.graph.specs.declared.Shape.{Shape}
 use Rattle.base_bounded.proofs.Bools.{lt-or-le}
 use Rattle.graph.proofs.Lookup.{first-law, first-within}
-use Rattle.graph_successors.specs.Starts.{Table, Ready}
+use Rattle.graph_successors.specs.SuccessorIndex.{SuccessorIndex, Indexable}
 
 -- an admitted graph has a table
-pub admitted-ready : {sh : Shape} {hs : List ℕ} → Admitted sh hs → Ready hs
-admitted-ready a =
+pub admitted-indexable : {sh : Shape} {hs : List ℕ} → Admitted sh hs → Indexable hs
+admitted-indexable a =
     record {
       ascending = a .ascending;
       hops-most = a .hops-most;
@@ -56,8 +56,8 @@ module _ (hs : List ℕ) (up : Ascending hs) where
     go (inr l) = l
 
 -- what the table says of a state
-pub start-is : (hs st : List ℕ) → Table hs st → (x : ℕ) {y r : ℕ} → x ≡ y → y ≤ most-states → r ≡ getD st x 0 → r ≡ firstOf hs y
-unfolding Table
+pub start-is : (hs st : List ℕ) → SuccessorIndex hs st → (x : ℕ) {y r : ℕ} → x ≡ y → y ≤ most-states → r ≡ getD st x 0 → r ≡ firstOf hs y
+unfolding SuccessorIndex
 start-is hs st t x {y} q l e = e ∙ rw q (t y l)
 
 -- one place more of a range

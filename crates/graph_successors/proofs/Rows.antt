@@ -10,14 +10,14 @@ use borrow.Author.Tests.{ltb-true, ltb-false, lt-ltb, le-ltb}
 use lib.ListN.{getD}
 use Rattle.graph.specs.Hops.{count, from, label, hopOf, hopAt, is, labelled}
 use Rattle.graph.specs.Order.{before, Ascending}
-use Rattle.graph.specs.Search.{Bracket, Ended, firstOf, pastOf, labelledFrom, labelledPast}
+use Rattle.graph.specs.Search.{Bracket, AbsentFrom, firstOf, pastOf, labelledFrom, labelledPast}
 use Rattle.graph.specs.Answers.{most-states}
 use Rattle.graph.specs.declared.Hop.{Hop}
 use Rattle.base_bounded.proofs.Bools.{clash, lt-or-le, no-test}
 use Rattle.graph.proofs.Places.{is-from, labelled-yes, labelled-parts}
 use Rattle.graph.proofs.Ordered.{Below, before-below, below-before}
 use Rattle.graph.proofs.Lookup.{lower-law, lower-within, lower-rises, first-law, first-within, first-past, range-holds}
-use Rattle.graph_successors.specs.Starts.{Table}
+use Rattle.graph_successors.specs.SuccessorIndex.{SuccessorIndex}
 use Rattle.graph_successors.proofs.Firsts.{start-is}
 
 module _ (hs : List ℕ) (up : Ascending hs) where
@@ -45,20 +45,20 @@ module _ (hs : List ℕ) (up : Ascending hs) where
       go (inr (e, m)) = omega (arith, past)
 
   -- and stands behind none of them
-  pub row-ended : (h : Hop) {hi : ℕ} → hi ≡ firstOf hs (h .from + 1) → Ended hs h hi
-  unfolding Ended pastOf
-  row-ended h {hi} q j l k =
+  pub row-absent : (h : Hop) {hi : ℕ} → hi ≡ firstOf hs (h .from + 1) → AbsentFrom hs h hi
+  unfolding AbsentFrom pastOf
+  row-absent h {hi} q j l k =
       no-test (is hs (h .from) (h .label) (h .to) j)
       (λ e. let (a, b) = range-holds hs up (h .from) k (is-from hs (h .from) (h .label) (h .to) j e) in omega arith)
 
 -- the same by the table
-pub table-bracket : (hs st : List ℕ) → Ascending hs → Table hs st → (h : Hop) {s lo hi : ℕ} → s ≡ h .from → h .from < most-states → lo ≡ getD st s 0 →
+pub index-bracket : (hs st : List ℕ) → Ascending hs → SuccessorIndex hs st → (h : Hop) {s lo hi : ℕ} → s ≡ h .from → h .from < most-states → lo ≡ getD st s 0 →
     hi ≡ getD st (s + 1) 0 → Bracket hs h lo hi
-table-bracket hs st up t h {s} e l p q =
+index-bracket hs st up t h {s} e l p q =
     row-bracket hs up h (start-is hs st t s e (omega arith) p) (start-is hs st t (s + 1) (ap (λ (k : ℕ). k + 1) e) (omega arith) q)
 
-pub table-ended : (hs st : List ℕ) → Ascending hs → Table hs st → (h : Hop) {s hi : ℕ} → s ≡ h .from → h .from < most-states → hi ≡ getD st (s + 1) 0 → Ended hs h hi
-table-ended hs st up t h {s} e l q = row-ended hs up h (start-is hs st t (s + 1) (ap (λ (k : ℕ). k + 1) e) (omega arith) q)
+pub index-absent : (hs st : List ℕ) → Ascending hs → SuccessorIndex hs st → (h : Hop) {s hi : ℕ} → s ≡ h .from → h .from < most-states → hi ≡ getD st (s + 1) 0 → AbsentFrom hs h hi
+index-absent hs st up t h {s} e l q = row-absent hs up h (start-is hs st t (s + 1) (ap (λ (k : ℕ). k + 1) e) (omega arith) q)
 
 -- the hops of s labelled a
 module _ (hs : List ℕ) (up : Ascending hs) (s a : ℕ) where

@@ -19,7 +19,7 @@ ghost use Prim.Native.Nat.{_+_, _<_, _≤_};
 ghost use Rattle.graph.specs.Answers.{most-states};
 ghost use lib.ListN.{getD};
 ghost use Rattle.graph.specs.Search.{lower, placed, firstOf, labelledFrom, labelledPast};
-ghost use Rattle.graph_successors.specs.Starts.{Table, Ready};
+ghost use Rattle.graph_successors.specs.SuccessorIndex.{SuccessorIndex, Indexable};
 
 // How many places the table has: one for each state that can be, and one past the last.
 pub const STARTS: usize = MOST_STATES + 1;
@@ -41,7 +41,7 @@ pub fn start_of(starts: &[u16; STARTS], s: usize) -> usize
 
 // Where the hops of the states after s begin, `at` being where those of s do.
 fn pass(hops: &[u16], at: usize, s: usize) -> usize
-    requires ready { ⌜ Ready (now hops) ⌝ }
+    requires ready { ⌜ Indexable (now hops) ⌝ }
     requires first { ⌜ at ≡ firstOf (now hops) s ⌝ }
     ensures { λ r. ⌜ r ≡ firstOf (now (hops .entry)) (s + 1) ⌝ }
 {
@@ -58,8 +58,8 @@ fn pass(hops: &[u16], at: usize, s: usize) -> usize
 
 // The table: a place for each state that can be, and one past the last.
 pub fn starts_of(hops: &[u16]) -> [u16; STARTS]
-    requires { ⌜ Ready (now hops) ⌝ }
-    ensures { λ r. ⌜ Table (now (hops .entry)) r ⌝ }
+    requires { ⌜ Indexable (now hops) ⌝ }
+    ensures { λ r. ⌜ SuccessorIndex (now (hops .entry)) r ⌝ }
 {
     let mut starts = [0u16; STARTS];
     let mut at = 0;
@@ -74,8 +74,8 @@ pub fn starts_of(hops: &[u16]) -> [u16; STARTS]
 
 // The first place whose hop is not before h, searched for among the hops of its state.
 fn lower_row(hops: &[u16], starts: &[u16; STARTS], h: Hop) -> usize
-    requires ready { ⌜ Ready (now hops) ⌝ }
-    requires table { ⌜ Table (now hops) (now starts) ⌝ }
+    requires ready { ⌜ Indexable (now hops) ⌝ }
+    requires table { ⌜ SuccessorIndex (now hops) (now starts) ⌝ }
     requires state { ⌜ h .from < most-states ⌝ }
     ensures { λ r. ⌜ r ≡ lower (now (hops .entry)) h ⌝ }
 {
@@ -85,8 +85,8 @@ fn lower_row(hops: &[u16], starts: &[u16; STARTS], h: Hop) -> usize
 
 // Where the hop stands or would stand, searched for among the hops of its state.
 pub fn find_row(hops: &[u16], starts: &[u16; STARTS], h: Hop) -> Found
-    requires ready { ⌜ Ready (now hops) ⌝ }
-    requires table { ⌜ Table (now hops) (now starts) ⌝ }
+    requires ready { ⌜ Indexable (now hops) ⌝ }
+    requires table { ⌜ SuccessorIndex (now hops) (now starts) ⌝ }
     requires state { ⌜ h .from < most-states ⌝ }
     ensures { λ r. ⌜ r ≡ placed (now (hops .entry)) h ⌝ }
 {
@@ -96,8 +96,8 @@ pub fn find_row(hops: &[u16], starts: &[u16; STARTS], h: Hop) -> Found
 
 // The first place of the hops of s labelled a, and the one past the last. The silent ones are its first.
 pub fn labelled_from(hops: &[u16], starts: &[u16; STARTS], s: u16, a: Label) -> usize
-    requires ready { ⌜ Ready (now hops) ⌝ }
-    requires table { ⌜ Table (now hops) (now starts) ⌝ }
+    requires ready { ⌜ Indexable (now hops) ⌝ }
+    requires table { ⌜ SuccessorIndex (now hops) (now starts) ⌝ }
     requires state { ⌜ s < most-states ⌝ }
     ensures { λ r. ⌜ r ≡ labelledFrom (now (hops .entry)) s (a .0) ⌝ }
 {
@@ -108,8 +108,8 @@ pub fn labelled_from(hops: &[u16], starts: &[u16; STARTS], s: u16, a: Label) -> 
 }
 
 pub fn labelled_past(hops: &[u16], starts: &[u16; STARTS], s: u16, a: Label) -> usize
-    requires ready { ⌜ Ready (now hops) ⌝ }
-    requires table { ⌜ Table (now hops) (now starts) ⌝ }
+    requires ready { ⌜ Indexable (now hops) ⌝ }
+    requires table { ⌜ SuccessorIndex (now hops) (now starts) ⌝ }
     requires state { ⌜ s < most-states ⌝ }
     requires label { ⌜ a .0 < 65535 ⌝ }
     ensures { λ r. ⌜ r ≡ labelledPast (now (hops .entry)) s (a .0) ⌝ }

@@ -9,7 +9,7 @@ use Rattle.base_bounded.specs.Quantifiers.{any, tally, total}
 use Rattle.graph.specs.Hops.{hopOf}
 use Rattle.graph.specs.declared.Shape.{Shape}
 use Rattle.graph.proofs.Ordered.{alike-itself, before-alike}
-use Rattle.graph_find.specs.Finding.{hopsBefore, findOf}
+use Rattle.graph_find.specs.Find.{hopsBefore, findOf}
 use Rattle.base_fixpoint.specs.Pairs.{Pairs}
 use Rattle.mark_worklist.specs.Due.{fell, standing, reached, shaken, due, testsIn, testsUpTo, testsOf}
 use Rattle.mark_entry_fast.specs.Fast.{countedOf}

@@ -9,7 +9,7 @@ use Rattle.base_bounded.specs.Quantifiers.{any, least}
 use Rattle.graph.specs.Hops.{numbers-a-hop, count, from, label, to, hopOf, same, is, labelled, has}
 use Rattle.graph.specs.declared.Shape.{Shape}
 use Rattle.graph.proofs.Ordered.{before-alike}
-use Rattle.graph_check.specs.Check.{countsFit, inside, firstOutside, rises, firstFalling, checkOf}
+use Rattle.graph_check.specs.Check.{countsFit, inside, firstOutside, ascendsAt, firstNotAscending, checkOf}
 use Rattle.lines_ignored.specs.Unlined.{Unlined}
 
 module _ {hs hs' : List ℕ} (un : Unlined hs hs') where
@@ -38,8 +38,8 @@ module _ {hs hs' : List ℕ} (un : Unlined hs hs') where
   unfolding has
   has-same = λ d. λ (s a t : ℕ). any (count-same d) (λ (i : ℕ). is-same s a t i d)
 
-  falling-same : firstFalling hs ≡ firstFalling hs'
-  unfolding firstFalling rises
+  falling-same : firstNotAscending hs ≡ firstNotAscending hs'
+  unfolding firstNotAscending ascendsAt
   falling-same = λ d. least (count-same d) (λ (i : ℕ). not (eqb i 0 || before-alike (un .alike (i - 1)) (un .alike i) d))
 
   module _ (sh : Shape) where

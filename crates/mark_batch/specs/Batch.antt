@@ -7,7 +7,7 @@ use mathlib.Core.List.{List}
 use Rattle.graph.specs.Hops.{count, from, label, to}
 use Rattle.graph.specs.declared.Shape.{Shape}
 use Rattle.graph_check.specs.Check.{Admitted}
-use Rattle.graph_successors.specs.Starts.{Ready}
+use Rattle.graph_successors.specs.SuccessorIndex.{Indexable}
 use Rattle.walk_topological_order.specs.Line.{Line}
 use Rattle.lts.specs.Closes.{Sense, Answered}
 use Rattle.walk_silent.specs.Silent.{HopOf}
@@ -30,5 +30,5 @@ Anything ms = Unit {0}
 -- what a sweep needs: an admitted graph in ascending order, and its silent hops in line
 pub record Sweepable (sh : Shape) (hs line : List ℕ) (n : ℕ) : Type 0 where
   pub admitted : Admitted sh hs
-  pub ready : Ready hs
+  pub ready : Indexable hs
   pub lined : Line hs line n

@@ -22,7 +22,7 @@ use mark_batch_tables::put_labels;
 ghost use Prim.Native.Nat.{_+_, _<_, _≤_};
 ghost use lib.ListN.{length};
 ghost use Rattle.graph.specs.Hops.{count};
-ghost use Rattle.graph_successors.specs.Starts.{Ready};
+ghost use Rattle.graph_successors.specs.SuccessorIndex.{Indexable};
 ghost use Rattle.base_fixpoint.specs.Pairs.{In};
 ghost use Rattle.mark_confluence.specs.Held.{heldBy};
 ghost use Rattle.mark_sweeps.specs.Sweep.{Marking, Swept};
@@ -41,7 +41,7 @@ fn close(
     sense: u32,
     words: &mut [u64; MOST_STATES],
 )
-    requires ready { ⌜ Ready (now hops) ⌝ }
+    requires ready { ⌜ Indexable (now hops) ⌝ }
     requires line { ⌜ Line (now hops) (now line) n ⌝ }
     requires capacity { ⌜ count (now hops) ≤ length (now marks) ⌝ }
     ensures { λ r. ⌜ Forth (In (heldBy (now (hops .entry)) (now (marks .entry)))) (senseOf sense .closing) (now (words .entry)) (now (words .exit)) ⌝ }
@@ -62,7 +62,7 @@ fn follow(
     sense: u32,
     words: &mut [u64; MOST_STATES],
 )
-    requires ready { ⌜ Ready (now hops) ⌝ }
+    requires ready { ⌜ Indexable (now hops) ⌝ }
     requires line { ⌜ Line (now hops) (now line) n ⌝ }
     requires capacity { ⌜ count (now hops) ≤ length (now marks) ⌝ }
     ensures { λ r. ⌜ Back (In (heldBy (now (hops .entry)) (now (marks .entry)))) (senseOf sense .after) (now (words .entry)) (now (words .exit)) ⌝ }
@@ -82,7 +82,7 @@ fn lead(
     sense: u32,
     words: &mut [u64; MOST_STATES],
 )
-    requires ready { ⌜ Ready (now hops) ⌝ }
+    requires ready { ⌜ Indexable (now hops) ⌝ }
     requires line { ⌜ Line (now hops) (now line) n ⌝ }
     requires capacity { ⌜ count (now hops) ≤ length (now marks) ⌝ }
     ensures { λ r. ⌜ Back (In (heldBy (now (hops .entry)) (now (marks .entry)))) (senseOf sense .before) (now (words .entry)) (now (words .exit)) ⌝ }

@@ -14,12 +14,12 @@ ghost use mathlib.Core.Bool.{cond};
 ghost use Prim.Native.Nat.{_<_, _≤_};
 ghost use lib.ListN.{length, set};
 ghost use Rattle.graph.specs.Hops.{count};
-ghost use Rattle.graph_successors.specs.Starts.{Ready};
+ghost use Rattle.graph_successors.specs.SuccessorIndex.{Indexable};
 ghost use Rattle.mark_batch_filter.specs.Judged.{fits, falls, Judged};
 
 // Whether every bit of where the hop at place i begins is where it ends.
 fn fits_at(hops: &[u16], froms: &[u64; MOST_STATES], answers: &[u64; MOST_STATES], i: usize) -> bool
-    requires ready { ⌜ Ready (now hops) ⌝ }
+    requires ready { ⌜ Indexable (now hops) ⌝ }
     requires place { ⌜ i < count (now hops) ⌝ }
     ensures { λ r. ⌜ r ≡ fits (now (hops .entry)) (now (froms .entry)) (now (answers .entry)) i ⌝ }
 {
@@ -35,7 +35,7 @@ fn judge_at(
     answers: &[u64; MOST_STATES],
     i: usize,
 ) -> usize
-    requires ready { ⌜ Ready (now hops) ⌝ }
+    requires ready { ⌜ Indexable (now hops) ⌝ }
     requires capacity { ⌜ count (now hops) ≤ length (now marks) ⌝ }
     requires place { ⌜ i < count (now hops) ⌝ }
     ensures marks { λ r. ⌜ now (marks .exit) ≡
@@ -60,7 +60,7 @@ pub fn judge(
     froms: &[u64; MOST_STATES],
     answers: &[u64; MOST_STATES],
 ) -> usize
-    requires ready { ⌜ Ready (now hops) ⌝ }
+    requires ready { ⌜ Indexable (now hops) ⌝ }
     requires capacity { ⌜ count (now hops) ≤ length (now marks) ⌝ }
     ensures { λ r. ⌜ Judged (now (hops .entry)) (now (marks .entry)) (now (froms .entry)) (now (answers .entry)) (now (marks .exit)) r ⌝ }
 {

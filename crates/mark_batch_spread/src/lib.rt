@@ -18,7 +18,7 @@ ghost use Prim.Native.Nat.{_<_, _≤_};
 ghost use lib.ListN.{length};
 ghost use Rattle.graph.specs.Hops.{count};
 ghost use Rattle.graph.specs.Answers.{most-states, most-hops};
-ghost use Rattle.graph_successors.specs.Starts.{Ready};
+ghost use Rattle.graph_successors.specs.SuccessorIndex.{Indexable};
 ghost use Rattle.base_fixpoint.specs.Pairs.{In};
 ghost use Rattle.lts.specs.Closes.{single, walks};
 ghost use Rattle.mark_confluence.specs.Held.{isMarked, heldBy};
@@ -58,7 +58,7 @@ pub fn gather(
     n: usize,
     words: &mut [u64; MOST_STATES],
 )
-    requires ready { ⌜ Ready (now hops) ⌝ }
+    requires ready { ⌜ Indexable (now hops) ⌝ }
     requires line { ⌜ Line (now hops) (now line) n ⌝ }
     requires capacity { ⌜ count (now hops) ≤ length (now marks) ⌝ }
     ensures { λ r. ⌜ Back (In (heldBy (now (hops .entry)) (now (marks .entry)))) walks (now (words .entry)) (now (words .exit)) ⌝ }
@@ -83,7 +83,7 @@ pub fn pass_once(
     n: usize,
     words: &mut [u64; MOST_STATES],
 )
-    requires ready { ⌜ Ready (now hops) ⌝ }
+    requires ready { ⌜ Indexable (now hops) ⌝ }
     requires line { ⌜ Line (now hops) (now line) n ⌝ }
     requires capacity { ⌜ count (now hops) ≤ length (now marks) ⌝ }
     ensures { λ r. ⌜ Forth (In (heldBy (now (hops .entry)) (now (marks .entry)))) single (now (words .entry)) (now (words .exit)) ⌝ }
@@ -108,7 +108,7 @@ pub fn pass_on(
     n: usize,
     words: &mut [u64; MOST_STATES],
 )
-    requires ready { ⌜ Ready (now hops) ⌝ }
+    requires ready { ⌜ Indexable (now hops) ⌝ }
     requires line { ⌜ Line (now hops) (now line) n ⌝ }
     requires capacity { ⌜ count (now hops) ≤ length (now marks) ⌝ }
     ensures { λ r. ⌜ Forth (In (heldBy (now (hops .entry)) (now (marks .entry)))) walks (now (words .entry)) (now (words .exit)) ⌝ }

@@ -26,7 +26,7 @@ ghost use lib.ListN.{length};
 ghost use Rattle.base_outputs.specs.Output.{onFront};
 ghost use Rattle.graph.specs.Hops.{count};
 ghost use Rattle.graph.specs.Answers.{most-hops};
-ghost use Rattle.graph_successors.specs.Starts.{Ready, Tabled};
+ghost use Rattle.graph_successors.specs.SuccessorIndex.{Indexable, Indexed};
 ghost use Rattle.walk_silent.specs.Silent.{ringless};
 ghost use Rattle.mark_confluence.specs.Held.{marksOf};
 ghost use Rattle.mark_sweeps.specs.Sweep.{Marking, Swept};
@@ -74,7 +74,7 @@ fn due_after(
     was: &mut [u64; WORD_BITS],
     touched: &[u64; MOST_STATES],
 ) -> u64
-    requires ready { ⌜ Ready (now hops) ⌝ }
+    requires ready { ⌜ Indexable (now hops) ⌝ }
     requires capacity { ⌜ count (now hops) ≤ length (now marks) ⌝ }
 {
     let n = hop_count(hops);
@@ -314,7 +314,7 @@ pub fn mark_by_sweeps(
     sense: u32,
     marks: &mut [u8],
 )
-    requires tabled { ⌜ Tabled shape (now hops) (now starts) ⌝ }
+    requires tabled { ⌜ Indexed shape (now hops) (now starts) ⌝ }
     requires free { ⌜ ringless shape (now hops) .number ≡ 0 ⌝ }
     requires capacity { ⌜ count (now hops) ≤ length (now marks) ⌝ }
     ensures { λ r. ⌜ now (marks .exit) ≡

@@ -23,7 +23,7 @@ ghost use lib.ListN.{getD, set, replicate};
 ghost use Rattle.graph.specs.Hops.{count, from, label, to};
 ghost use Rattle.graph.specs.Answers.{most-states};
 ghost use Rattle.graph_check.specs.Check.{Admitted};
-ghost use Rattle.graph_successors.specs.Starts.{Ready};
+ghost use Rattle.graph_successors.specs.SuccessorIndex.{Indexable};
 ghost use Rattle.base_bitset.specs.Bits.{word-bits};
 ghost use Rattle.mark_batch_tables.specs.Trials.{Keyed, Still, Answering};
 
@@ -45,7 +45,7 @@ fn put_bit(words: &mut [u64; MOST_STATES], s: u16, b: usize)
 
 // Bit b where the hop at place base + b ends, for each b below m.
 pub fn put_ends(hops: &[u16], base: usize, m: usize, words: &mut [u64; MOST_STATES])
-    requires ready { ⌜ Ready (now hops) ⌝ }
+    requires ready { ⌜ Indexable (now hops) ⌝ }
     requires batch { ⌜ m ≤ word-bits ⌝ }
     requires within { ⌜ base + m ≤ count (now hops) ⌝ }
     ensures { λ r. ⌜ Keyed (to (now (hops .entry))) base m (now (words .exit)) ⌝ }
@@ -60,7 +60,7 @@ pub fn put_ends(hops: &[u16], base: usize, m: usize, words: &mut [u64; MOST_STAT
 
 // Bit b where the hop at place base + b begins.
 pub fn put_froms(hops: &[u16], base: usize, m: usize, words: &mut [u64; MOST_STATES])
-    requires ready { ⌜ Ready (now hops) ⌝ }
+    requires ready { ⌜ Indexable (now hops) ⌝ }
     requires batch { ⌜ m ≤ word-bits ⌝ }
     requires within { ⌜ base + m ≤ count (now hops) ⌝ }
     ensures { λ r. ⌜ Keyed (from (now (hops .entry))) base m (now (words .exit)) ⌝ }

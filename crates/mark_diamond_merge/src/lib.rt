@@ -24,7 +24,7 @@ ghost use Rattle.graph.specs.Answers.{most-states};
 ghost use Rattle.graph.specs.declared.Found.the-variants.{At};
 ghost use Rattle.mark_confluence.specs.Rounds.{closing, hopAnswers};
 ghost use Rattle.mark_confluence.specs.Held.{heldBy};
-ghost use Rattle.graph_successors.specs.Starts.{Table, Ready};
+ghost use Rattle.graph_successors.specs.SuccessorIndex.{SuccessorIndex, Indexable};
 ghost use Rattle.mark_diamond_merge.specs.Row.{Row};
 ghost use Rattle.mark_diamond_merge.specs.Found.{markedAt};
 
@@ -38,7 +38,7 @@ pub struct Rest {
 // Whether the hops labelled a that `few` begins with are far fewer than those labelled b that `many` begins with: the two are counted side by side, one for
 // each eight. Each way of asking gives the same answer; `mark_diamond_search` chooses by this.
 pub fn is_fewer(hops: &[u16], few: Rest, a: Label, many: Rest, b: Label) -> bool
-    requires ready { ⌜ Ready (now hops) ⌝ }
+    requires ready { ⌜ Indexable (now hops) ⌝ }
     requires row { ⌜ few .past ≤ count (now hops) ⌝ }
     requires other { ⌜ many .past ≤ count (now hops) ⌝ }
 {
@@ -82,8 +82,8 @@ pub fn row_answers(
     a: Label,
     s3: OldState,
 ) -> bool
-    requires ready { ⌜ Ready (now hops) ⌝ }
-    requires table { ⌜ Table (now hops) (now starts) ⌝ }
+    requires ready { ⌜ Indexable (now hops) ⌝ }
+    requires table { ⌜ SuccessorIndex (now hops) (now starts) ⌝ }
     requires capacity { ⌜ count (now hops) ≤ length (now marks) ⌝ }
     requires row { ⌜ Row (now hops) (rest .state .0) (a .0) (rest .at) (rest .past) ⌝ }
     requires state { ⌜ s3 .0 < most-states ⌝ }

@@ -27,14 +27,14 @@ ghost use Rattle.graph.specs.Hops.{count};
 ghost use Rattle.graph.specs.Answers.{most-states};
 ghost use Rattle.mark_confluence.specs.Rounds.{answered, closesAt};
 ghost use Rattle.mark_confluence.specs.Held.{heldBy};
-ghost use Rattle.graph_successors.specs.Starts.{Table, Ready};
+ghost use Rattle.graph_successors.specs.SuccessorIndex.{SuccessorIndex, Indexable};
 ghost use Rattle.mark_diamond_retest.specs.Again.{Unshed};
 
 // Y of the hop at place j against a silent hop to s2. The walk that `mark_diamond` goes side by side would pass over most of s2's hops here, so the like hop and
 // the place of the label are found by halving.
 fn passes(hops: &[u16], starts: &[u16; STARTS], marks: &[u8], s2: OldState, j: usize) -> bool
-    requires ready { ⌜ Ready (now hops) ⌝ }
-    requires table { ⌜ Table (now hops) (now starts) ⌝ }
+    requires ready { ⌜ Indexable (now hops) ⌝ }
+    requires table { ⌜ SuccessorIndex (now hops) (now starts) ⌝ }
     requires capacity { ⌜ count (now hops) ≤ length (now marks) ⌝ }
     requires place { ⌜ j < count (now hops) ⌝ }
     requires asked { ⌜ s2 .0 < most-states ⌝ }
@@ -69,8 +69,8 @@ pub fn closes_again(
     shed: &[u8; MOST_STATES],
     i: usize,
 ) -> bool
-    requires ready { ⌜ Ready (now hops) ⌝ }
-    requires table { ⌜ Table (now hops) (now starts) ⌝ }
+    requires ready { ⌜ Indexable (now hops) ⌝ }
+    requires table { ⌜ SuccessorIndex (now hops) (now starts) ⌝ }
     requires capacity { ⌜ count (now hops) ≤ length (now marks) ⌝ }
     requires place { ⌜ i < count (now hops) ⌝ }
     requires others { ⌜ Unshed (now hops) (now marks) (now shed) i ⌝ }

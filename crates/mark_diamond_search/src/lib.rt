@@ -26,13 +26,13 @@ ghost use Rattle.graph.specs.Hops.{count, has};
 ghost use Rattle.graph.specs.Answers.{most-states};
 ghost use Rattle.mark_confluence.specs.Rounds.{closing, hopAnswers};
 ghost use Rattle.mark_confluence.specs.Held.{heldBy};
-ghost use Rattle.graph_successors.specs.Starts.{Table, Ready};
+ghost use Rattle.graph_successors.specs.SuccessorIndex.{SuccessorIndex, Indexable};
 ghost use Rattle.mark_diamond_merge.specs.Row.{Row};
 
 // Whether the silent hop from x to y is marked.
 fn holds(hops: &[u16], starts: &[u16; STARTS], marks: &[u8], x: OldState, y: OldState) -> bool
-    requires ready { ⌜ Ready (now hops) ⌝ }
-    requires table { ⌜ Table (now hops) (now starts) ⌝ }
+    requires ready { ⌜ Indexable (now hops) ⌝ }
+    requires table { ⌜ SuccessorIndex (now hops) (now starts) ⌝ }
     requires capacity { ⌜ count (now hops) ≤ length (now marks) ⌝ }
     requires state { ⌜ x .0 < most-states ⌝ }
     ensures { λ r. ⌜ r ≡ heldBy (now (hops .entry)) (now (marks .entry)) (x .0) (y .0) ⌝ }
@@ -51,8 +51,8 @@ pub fn is_closed(
     s3: OldState,
     s4: OldState,
 ) -> bool
-    requires ready { ⌜ Ready (now hops) ⌝ }
-    requires table { ⌜ Table (now hops) (now starts) ⌝ }
+    requires ready { ⌜ Indexable (now hops) ⌝ }
+    requires table { ⌜ SuccessorIndex (now hops) (now starts) ⌝ }
     requires capacity { ⌜ count (now hops) ≤ length (now marks) ⌝ }
     requires state { ⌜ s3 .0 < most-states ⌝ }
     ensures { λ r. ⌜ r ≡ closing (heldBy (now (hops .entry)) (now (marks .entry))) (s3 .0) (s4 .0) ⌝ }
@@ -72,8 +72,8 @@ fn few_answer(
     a: Label,
     s3: OldState,
 ) -> bool
-    requires ready { ⌜ Ready (now hops) ⌝ }
-    requires table { ⌜ Table (now hops) (now starts) ⌝ }
+    requires ready { ⌜ Indexable (now hops) ⌝ }
+    requires table { ⌜ SuccessorIndex (now hops) (now starts) ⌝ }
     requires capacity { ⌜ count (now hops) ≤ length (now marks) ⌝ }
     requires row { ⌜ Row (now hops) (rest .state .0) (a .0) (rest .at) (rest .past) ⌝ }
     requires state { ⌜ s3 .0 < most-states ⌝ }
@@ -95,8 +95,8 @@ fn few_answer(
 
 // Whether s2 has a hop labelled a to s4.
 pub fn leads_to(hops: &[u16], starts: &[u16; STARTS], s2: OldState, a: Label, s4: OldState) -> bool
-    requires ready { ⌜ Ready (now hops) ⌝ }
-    requires table { ⌜ Table (now hops) (now starts) ⌝ }
+    requires ready { ⌜ Indexable (now hops) ⌝ }
+    requires table { ⌜ SuccessorIndex (now hops) (now starts) ⌝ }
     requires state { ⌜ s2 .0 < most-states ⌝ }
     ensures { λ r. ⌜ r ≡ has (now (hops .entry)) (s2 .0) (a .0) (s4 .0) ⌝ }
 {
@@ -115,8 +115,8 @@ fn ends_answer(
     a: Label,
     s3: OldState,
 ) -> bool
-    requires ready { ⌜ Ready (now hops) ⌝ }
-    requires table { ⌜ Table (now hops) (now starts) ⌝ }
+    requires ready { ⌜ Indexable (now hops) ⌝ }
+    requires table { ⌜ SuccessorIndex (now hops) (now starts) ⌝ }
     requires capacity { ⌜ count (now hops) ≤ length (now marks) ⌝ }
     requires asked { ⌜ s2 .0 < most-states ⌝ }
     requires state { ⌜ s3 .0 < most-states ⌝ }
@@ -151,8 +151,8 @@ fn long_answer(
     a: Label,
     s3: OldState,
 ) -> bool
-    requires ready { ⌜ Ready (now hops) ⌝ }
-    requires table { ⌜ Table (now hops) (now starts) ⌝ }
+    requires ready { ⌜ Indexable (now hops) ⌝ }
+    requires table { ⌜ SuccessorIndex (now hops) (now starts) ⌝ }
     requires capacity { ⌜ count (now hops) ≤ length (now marks) ⌝ }
     requires row { ⌜ Row (now hops) (rest .state .0) (a .0) (rest .at) (rest .past) ⌝ }
     requires asked { ⌜ rest .state .0 < most-states ⌝ }
@@ -200,8 +200,8 @@ pub fn hop_answers(
     a: Label,
     s3: OldState,
 ) -> bool
-    requires ready { ⌜ Ready (now hops) ⌝ }
-    requires table { ⌜ Table (now hops) (now starts) ⌝ }
+    requires ready { ⌜ Indexable (now hops) ⌝ }
+    requires table { ⌜ SuccessorIndex (now hops) (now starts) ⌝ }
     requires capacity { ⌜ count (now hops) ≤ length (now marks) ⌝ }
     requires row { ⌜ Row (now hops) (rest .state .0) (a .0) (rest .at) (rest .past) ⌝ }
     requires asked { ⌜ rest .state .0 < most-states ⌝ }

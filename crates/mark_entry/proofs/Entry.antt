@@ -6,12 +6,12 @@ use lib.ListN.{length}
 use borrow.Author.Tests.{eq-eqb, ne-eqb, le-leb, lt-leb}
 use Rattle.base_outputs.specs.Output.{onFront}
 use Rattle.graph.specs.Hops.{count}
-use Rattle.graph.specs.Answers.{accepted, refused, andThen, roomFor}
+use Rattle.graph.specs.Answers.{accepted, refused, andThen, capacityAnswer}
 use Rattle.graph_check.specs.Check.{checkOf, Admitted}
 use Rattle.graph.specs.declared.Shape.{Shape}
 use Rattle.graph.specs.declared.Answer.{Answer}
 use Rattle.graph_check.proofs.Checked.{check-admitted}
-use Rattle.graph.proofs.Accepts.{then-first, then-next, both-accept, room-accepts}
+use Rattle.graph.proofs.Accepts.{then-first, then-next, both-accept, capacity-accepts}
 use Rattle.walk_silent.specs.Silent.{ringless}
 use Rattle.mark_senses.specs.Senses.{senseAnswer}
 use Rattle.mark_entry.specs.Mark.{marksMade, markAnswer, markOutput}
@@ -19,28 +19,28 @@ use Rattle.mark_entry.specs.Mark.{marksMade, markAnswer, markOutput}
 -- rows 5 and 6 of an admitted graph: the ways out of the code, in order
 module _ (sh : Shape) (hs : List ℕ) (capacity : ℕ) {d : Answer} (f : d ≡ ringless sh hs) where
   abbrev later : Answer
-  later = andThen (ringless sh hs) (roomFor (count hs) capacity)
+  later = andThen (ringless sh hs) (capacityAnswer (count hs) capacity)
 
   pub later-ringed : (d .number ≡ 0 → ⊥) → d ≡ later
   later-ringed n = f ∙ sym (then-first (ringless sh hs) _ (rw f at n))
 
   module _ (y : d .number ≡ 0) where
-    last : roomFor (count hs) capacity ≡ later
+    last : capacityAnswer (count hs) capacity ≡ later
     last = sym (then-next (ringless sh hs) _ (rw f at y))
 
     pub later-narrow : capacity < count hs → refused 6 0 ≡ later
     later-narrow l = narrow ∙ last where
-      narrow : refused 6 0 ≡ roomFor (count hs) capacity
+      narrow : refused 6 0 ≡ capacityAnswer (count hs) capacity
       narrow = rw (lt-leb (count hs) capacity l)
 
     pub later-accepts : count hs ≤ capacity → accepted ≡ later
     later-accepts l = wide ∙ last where
-      wide : accepted ≡ roomFor (count hs) capacity
+      wide : accepted ≡ capacityAnswer (count hs) capacity
       wide = rw (le-leb (count hs) capacity l)
 
 module _ (sh : Shape) (hs : List ℕ) (k : ℕ) (out : List ℕ) where
   abbrev behind-sense : Answer
-  behind-sense = andThen (ringless sh hs) (roomFor (count hs) (length out))
+  behind-sense = andThen (ringless sh hs) (capacityAnswer (count hs) (length out))
 
   -- the ways out of the entry: rows 1 to 4, row 19, and the later ones
   module _ {c : Answer} (e : c ≡ checkOf sh hs) where
@@ -73,7 +73,7 @@ module _ (sh : Shape) (hs : List ℕ) (k : ℕ) (out : List ℕ) where
     mark-ringless = both-accept (ringless sh hs) _ later-accepted .0
 
     pub mark-capacity : count hs ≤ length out
-    mark-capacity = room-accepts (count hs) (length out) (both-accept (ringless sh hs) _ later-accepted .1) .1
+    mark-capacity = capacity-accepts (count hs) (length out) (both-accept (ringless sh hs) _ later-accepted .1) .1
 
     -- what stands in the output afterwards
     pub output-marked : {ms : List ℕ} → ms ≡ onFront (marksMade sh hs k) out → ms ≡ markOutput sh hs k out

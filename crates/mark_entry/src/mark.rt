@@ -17,8 +17,8 @@ ghost use Prim.Native.Nat.{_≤_};
 ghost use lib.ListN.{length};
 ghost use Rattle.base_outputs.specs.Output.{onFront};
 ghost use Rattle.graph.specs.Hops.{count};
-ghost use Rattle.graph.specs.Answers.{andThen, roomFor};
-ghost use Rattle.graph_successors.specs.Starts.{Tabled};
+ghost use Rattle.graph.specs.Answers.{andThen, capacityAnswer};
+ghost use Rattle.graph_successors.specs.SuccessorIndex.{Indexed};
 ghost use Rattle.walk_silent.specs.Silent.{ringless};
 ghost use Rattle.mark_confluence.specs.Held.{marksOf};
 ghost use Rattle.mark_senses.specs.Senses.{markedBy};
@@ -26,8 +26,8 @@ ghost use Rattle.mark_entry.specs.Mark.{markAnswer, markOutput};
 
 // Rows 5 and 6 of an admitted graph, by its table of first places.
 pub fn later_answer(shape: Shape, hops: &[u16], starts: &[u16; STARTS], capacity: usize) -> Answer
-    requires { ⌜ Tabled shape (now hops) (now starts) ⌝ }
-    ensures { λ r. ⌜ r ≡ andThen (ringless shape (now (hops .entry))) (roomFor (count (now (hops .entry))) capacity) ⌝ }
+    requires { ⌜ Indexed shape (now hops) (now starts) ⌝ }
+    ensures { λ r. ⌜ r ≡ andThen (ringless shape (now (hops .entry))) (capacityAnswer (count (now (hops .entry))) capacity) ⌝ }
 {
     let ringed = ring_answer(shape, hops, starts);
     if ringed.number != 0 {
@@ -58,7 +58,7 @@ pub fn mark_answer(shape: Shape, hops: &[u16], sense: u32, marks: &[u8]) -> Answ
 // Marks in the sense with the number: 1 in rounds that test only what is due, any other by sweeps. Each entry that marks has this
 // choice to itself: in one function the two would share a frame, and sense 1 would take the stack of the others.
 fn mark_in(shape: Shape, hops: &[u16], starts: &[u16; STARTS], sense: u32, marks: &mut [u8])
-    requires tabled { ⌜ Tabled shape (now hops) (now starts) ⌝ }
+    requires tabled { ⌜ Indexed shape (now hops) (now starts) ⌝ }
     requires free { ⌜ ringless shape (now hops) .number ≡ 0 ⌝ }
     requires capacity { ⌜ count (now hops) ≤ length (now marks) ⌝ }
     ensures { λ r. ⌜ now (marks .exit) ≡

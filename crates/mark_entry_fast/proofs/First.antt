@@ -5,7 +5,7 @@ use mathlib.Core.List.{List}
 use lib.ListN.{length}
 use Rattle.base_outputs.specs.Output.{onFront}
 use Rattle.graph.specs.Hops.{count}
-use Rattle.graph.specs.Answers.{accepted, andThen, roomFor}
+use Rattle.graph.specs.Answers.{accepted, andThen, capacityAnswer}
 use Rattle.graph.specs.declared.Shape.{Shape}
 use Rattle.graph.specs.declared.Answer.{Answer}
 use Rattle.graph_check.specs.Check.{checkOf}
@@ -26,7 +26,7 @@ first-passes = sense-passes 1 refl
 
 module _ (sh : Shape) (hs : List ℕ) where
   module _ (out : List ℕ) where
-    pub first-later : {c : Answer} → c ≡ checkOf sh hs → c .number ≡ 0 → {d : Answer} → d ≡ andThen (ringless sh hs) (roomFor (count hs) (length out)) →
+    pub first-later : {c : Answer} → c ≡ checkOf sh hs → c .number ≡ 0 → {d : Answer} → d ≡ andThen (ringless sh hs) (capacityAnswer (count hs) (length out)) →
         d ≡ markAnswer sh hs 1 out
     first-later e z f = mark-later sh hs 1 out e z (sym first-passes) refl f
 

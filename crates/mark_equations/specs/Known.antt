@@ -7,7 +7,7 @@ use mathlib.Core.Path.{_≡_}
 use lib.ListN.{length, getD}
 use Rattle.graph.specs.Hops.{count, from, label, to}
 use Rattle.graph.specs.Answers.{most-labels, most-hops}
-use Rattle.graph_successors.specs.Starts.{Table, Ready}
+use Rattle.graph_successors.specs.SuccessorIndex.{SuccessorIndex, Indexable}
 use Rattle.mark_confluence.specs.Rounds.{survives}
 
 -- where the answer for k rounds and the hop at place i stands: one after the other for the hops, then for the next number of rounds
@@ -29,8 +29,8 @@ Right hs m = (j : ℕ) (v : Bool) → getD m j 0 ≡ wordFor v → value hs j �
 
 -- what each of X, Y and Z asks: an admitted hop list, the first places of its states, and a table with room for k rounds
 pub record Prepared (hs st m : List ℕ) (k : ℕ) : Type 0 where
-  pub ready : Ready hs
+  pub ready : Indexable hs
   pub label-in : (i : ℕ) → i < count hs → label hs i < most-labels
-  pub table : Table hs st
+  pub table : SuccessorIndex hs st
   pub capacity : answerPlace k most-hops ≤ length m
   pub right : Right hs m

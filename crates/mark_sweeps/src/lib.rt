@@ -19,12 +19,12 @@ ghost use Rattle.graph.specs.Hops.{count};
 ghost use Rattle.mark_confluence.specs.Rounds.{marked};
 ghost use Rattle.mark_confluence.specs.Held.{marksOf};
 ghost use Rattle.mark_sweeps.specs.Sweep.{Marking, Swept, Stands, StandsTo};
-ghost use Rattle.graph_successors.specs.Starts.{Table, Ready};
+ghost use Rattle.graph_successors.specs.SuccessorIndex.{SuccessorIndex, Indexable};
 
 // Takes the mark of the hop at place i if it does not close; returns how many marks went.
 fn test_at(hops: &[u16], starts: &[u16; STARTS], marks: &mut [u8], i: usize) -> usize
-    requires ready { ⌜ Ready (now hops) ⌝ }
-    requires table { ⌜ Table (now hops) (now starts) ⌝ }
+    requires ready { ⌜ Indexable (now hops) ⌝ }
+    requires table { ⌜ SuccessorIndex (now hops) (now starts) ⌝ }
     requires marking { ⌜ Marking (now hops) (marked (now hops)) (now marks) ⌝ }
     requires place { ⌜ i < count (now hops) ⌝ }
     ensures { λ r. ⌜ Swept (now (hops .entry)) (marked (now (hops .entry))) (Stands (now (hops .entry)) i) (now (marks .entry)) (now (marks .exit)) r ⌝ }
@@ -41,8 +41,8 @@ fn test_at(hops: &[u16], starts: &[u16; STARTS], marks: &mut [u8], i: usize) -> 
 
 // One sweep; returns how many marks went.
 fn sweep(hops: &[u16], starts: &[u16; STARTS], marks: &mut [u8]) -> usize
-    requires ready { ⌜ Ready (now hops) ⌝ }
-    requires table { ⌜ Table (now hops) (now starts) ⌝ }
+    requires ready { ⌜ Indexable (now hops) ⌝ }
+    requires table { ⌜ SuccessorIndex (now hops) (now starts) ⌝ }
     requires marking { ⌜ Marking (now hops) (marked (now hops)) (now marks) ⌝ }
     ensures { λ r. ⌜ Swept (now (hops .entry)) (marked (now (hops .entry))) (StandsTo (now (hops .entry)) (count (now (hops .entry))))
         (now (marks .entry)) (now (marks .exit)) r ⌝ }
@@ -59,8 +59,8 @@ fn sweep(hops: &[u16], starts: &[u16; STARTS], marks: &mut [u8]) -> usize
 
 // Sweeps until one takes nothing.
 fn settle(hops: &[u16], starts: &[u16; STARTS], marks: &mut [u8])
-    requires ready { ⌜ Ready (now hops) ⌝ }
-    requires table { ⌜ Table (now hops) (now starts) ⌝ }
+    requires ready { ⌜ Indexable (now hops) ⌝ }
+    requires table { ⌜ SuccessorIndex (now hops) (now starts) ⌝ }
     requires marking { ⌜ Marking (now hops) (marked (now hops)) (now marks) ⌝ }
     ensures { λ r. ⌜ now (marks .exit) ≡ onFront (marksOf (now (hops .entry)) (marked (now (hops .entry)))) (now (marks .entry)) ⌝ }
 {
@@ -72,7 +72,7 @@ fn settle(hops: &[u16], starts: &[u16; STARTS], marks: &mut [u8])
 
 // Marks by sweeps: the part of `mark` behind the refusals.
 pub fn mark_all(hops: &[u16], marks: &mut [u8])
-    requires ready { ⌜ Ready (now hops) ⌝ }
+    requires ready { ⌜ Indexable (now hops) ⌝ }
     requires capacity { ⌜ count (now hops) ≤ length (now marks) ⌝ }
     ensures { λ r. ⌜ now (marks .exit) ≡ onFront (marksOf (now (hops .entry)) (marked (now (hops .entry)))) (now (marks .entry)) ⌝ }
 {

@@ -9,8 +9,8 @@
 // `graph_predecessors` for the index.
 use graph::MOST_HOPS;
 use graph::MOST_STATES;
-use graph_predecessors::begins_of;
 use graph_predecessors::places_of;
+use graph_predecessors::predecessor_starts;
 use graph_successors::STARTS;
 use mark_confluence::start_marks;
 use mark_worklist_next::leaving_of;
@@ -26,7 +26,7 @@ ghost use Rattle.base_outputs.specs.Output.{onFront};
 ghost use Rattle.graph.specs.Hops.{count};
 ghost use Rattle.mark_confluence.specs.Rounds.{marked};
 ghost use Rattle.mark_confluence.specs.Held.{marksOf};
-ghost use Rattle.graph_successors.specs.Starts.{Table, Ready};
+ghost use Rattle.graph_successors.specs.SuccessorIndex.{SuccessorIndex, Indexable};
 ghost use Rattle.mark_worklist.specs.Due.{testsOf};
 ghost use Rattle.mark_worklist_push.specs.Queue.{Queue};
 ghost use Rattle.mark_worklist_loop.specs.Falling.{AfterSome};
@@ -43,15 +43,15 @@ fn later_rounds(
     lost: usize,
     tests: usize,
 ) -> usize
-    requires ready { ⌜ Ready (now hops) ⌝ }
-    requires table { ⌜ Table (now hops) (now starts) ⌝ }
+    requires ready { ⌜ Indexable (now hops) ⌝ }
+    requires table { ⌜ SuccessorIndex (now hops) (now starts) ⌝ }
     requires capacity { ⌜ count (now hops) ≤ length (now marks) ⌝ }
     requires queue { ⌜ Queue (now hops) (now flags) (now queue) 0 ⌝ }
     requires after { ⌜ AfterSome (now hops) (now marks) (now marks) (now fallen) lost tests ⌝ }
     ensures tests { λ r. ⌜ r ≡ testsOf (now (hops .entry)) ⌝ }
     ensures writes { λ r. ⌜ now (marks .exit) ≡ onFront (marksOf (now (hops .entry)) (marked (now (hops .entry)))) (now (marks .entry)) ⌝ }
 {
-    let begins = begins_of(hops);
+    let begins = predecessor_starts(hops);
     let places = places_of(hops, &begins);
     let leaving = leaving_of(hops, marks);
     let mut left = lost;
@@ -79,8 +79,8 @@ fn later_rounds(
 
 // Marks by rounds, by the table of first places, which the refusals made already; returns the number of tests.
 pub fn mark_rounds(hops: &[u16], starts: &[u16; STARTS], marks: &mut [u8]) -> usize
-    requires ready { ⌜ Ready (now hops) ⌝ }
-    requires table { ⌜ Table (now hops) (now starts) ⌝ }
+    requires ready { ⌜ Indexable (now hops) ⌝ }
+    requires table { ⌜ SuccessorIndex (now hops) (now starts) ⌝ }
     requires capacity { ⌜ count (now hops) ≤ length (now marks) ⌝ }
     ensures tests { λ r. ⌜ r ≡ testsOf (now (hops .entry)) ⌝ }
     ensures writes { λ r. ⌜ now (marks .exit) ≡ onFront (marksOf (now (hops .entry)) (marked (now (hops .entry)))) (now (marks .entry)) ⌝ }

@@ -21,7 +21,7 @@ ghost use Prim.Native.Nat.{_<_, _≤_};
 ghost use lib.ListN.{length};
 ghost use Rattle.graph.specs.Hops.{count};
 ghost use Rattle.graph.specs.Answers.{most-hops};
-ghost use Rattle.graph_successors.specs.Starts.{Ready};
+ghost use Rattle.graph_successors.specs.SuccessorIndex.{Indexable};
 ghost use Rattle.mark_worklist_push.specs.Queue.{Tables, Leaving, Queue, Noted, Trying, ClosedBy, ClosedByAny, Listed};
 
 // A state with so few hops more than lead to s4 is gone over by its own: that asks for no search where none of them is marked.
@@ -29,7 +29,7 @@ const FEW: usize = 16;
 
 // The states that a marked hop leaves: 1 for each of them. Marks only fall, so what is said of another state stays true.
 pub fn leaving_of(hops: &[u16], marks: &[u8]) -> [u8; MOST_STATES]
-    requires ready { ⌜ Ready (now hops) ⌝ }
+    requires ready { ⌜ Indexable (now hops) ⌝ }
     requires capacity { ⌜ count (now hops) ≤ length (now marks) ⌝ }
     ensures { λ r. ⌜ Leaving (now (hops .entry)) (now (marks .entry)) r ⌝ }
 {

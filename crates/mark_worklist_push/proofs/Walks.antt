@@ -21,8 +21,8 @@ use Rattle.graph.proofs.Lookup.{at-place, gap-has, one-place, first-within}
 use Rattle.graph_successors.proofs.Firsts.{start-is}
 use Rattle.graph_successors.proofs.Rows.{labelled-holds, labelled-only, silent-first}
 use Rattle.graph.specs.Answers.{most-states, most-hops}
-use Rattle.graph_predecessors.specs.Ends.{beginOf, Begins, Filled}
-use Rattle.graph_predecessors.proofs.Ends.{place-in}
+use Rattle.graph_predecessors.specs.PredecessorIndex.{predecessorStart, PredecessorStarts, PredecessorPlaces}
+use Rattle.graph_predecessors.proofs.PredecessorIndex.{place-in}
 use Rattle.mark_confluence.specs.Rounds.{FirstPoint}
 use Rattle.mark_confluence.specs.Held.{isMarked}
 use Rattle.mark_worklist_push.specs.Queue.{Tables, Leaving, Queue, Wanted, Noted, Only, Joining, Like, Answering, Trying, Asked, Point, ClosedBy, ClosedByAny}
@@ -100,9 +100,9 @@ module _ (hs ms : List ℕ) where
     pub into-at : (y : ℕ) {m : ℕ} {fs new qs : List ℕ} {r : ℕ} → m ≡ getD ps y 0 → Noted hs ms (Like hs j m) fs new qs r → Noted hs ms (Into y) fs new qs r
     into-at y e g = rw e at g
 
-    pub into-all : Filled hs (count hs) ps → p < count hs → {lo hi k : ℕ} → lo ≡ beginOf hs (to hs p) → hi ≡ beginOf hs (to hs p + 1) → hi ≤ k → k ≤ hi →
+    pub into-all : PredecessorPlaces hs (count hs) ps → p < count hs → {lo hi k : ℕ} → lo ≡ predecessorStart hs (to hs p) → hi ≡ predecessorStart hs (to hs p + 1) → hi ≤ k → k ≤ hi →
         {fs new qs : List ℕ} {r : ℕ} → Noted hs ms (Walked Into lo k) fs new qs r → Noted hs ms (Answering hs j p) fs new qs r
-    unfolding Filled
+    unfolding PredecessorPlaces
     into-all fl l {lo} {hi} {k} a b u v g = noted-same hs ms g on (λ x m w. back x (w .inside)) where
       on : (x : ℕ) → Walked Into lo k x → Answering hs j p x
       on x (y, c, d, (e, (f, h))) =
@@ -172,9 +172,9 @@ module _ (hs ms : List ℕ) where
     abbrev pub Tries : ℕ → ℕ → Type 0
     Tries y x = Trying hs (getD ps y 0) p x
 
-    pub tries-all : Filled hs (count hs) ps → p < count hs → {lo hi k : ℕ} → lo ≡ beginOf hs (from hs p) → hi ≡ beginOf hs (from hs p + 1) → hi ≤ k → k ≤ hi →
+    pub tries-all : PredecessorPlaces hs (count hs) ps → p < count hs → {lo hi k : ℕ} → lo ≡ predecessorStart hs (from hs p) → hi ≡ predecessorStart hs (from hs p + 1) → hi ≤ k → k ≤ hi →
         {fs new qs : List ℕ} {r : ℕ} → Noted hs ms (Walked Tries lo k) fs new qs r → Noted hs ms (ClosedBy hs p) fs new qs r
-    unfolding Filled
+    unfolding PredecessorPlaces
     tries-all fl l {lo} {hi} {k} a b u v g = noted-same hs ms g on (λ x m w. back x (w .inside)) where
       on : (x : ℕ) → Walked Tries lo k x → ClosedBy hs p x
       on x (y, c, d, (e, f)) =
@@ -226,8 +226,8 @@ module _ (hs : List ℕ) where
       none (inr (z, g)) = n z g
 
 -- where the hops into a state begin, as the table says it
-pub begin-is : (hs bs : List ℕ) → Begins hs bs → {x r : ℕ} (y : ℕ) → x ≡ y → y ≤ most-states → r ≡ getD bs x 0 → r ≡ beginOf hs y
-unfolding Begins
+pub begin-is : (hs bs : List ℕ) → PredecessorStarts hs bs → {x r : ℕ} (y : ℕ) → x ≡ y → y ≤ most-states → r ≡ getD bs x 0 → r ≡ predecessorStart hs y
+unfolding PredecessorStarts
 begin-is hs bs t y q l e = e ∙ (rw q (t y l))
 
 -- no place that the tables give is past the hops

@@ -8,8 +8,8 @@ use mathlib.Core.Logic.{_⊎_}
 use lib.ListN.{length, getD}
 use Rattle.base_bounded.specs.Quantifiers.{tally}
 use Rattle.graph.specs.Hops.{count, from, label, to, has}
-use Rattle.graph_successors.specs.Starts.{Table, Ready}
-use Rattle.graph_predecessors.specs.Ends.{Begins, Filled}
+use Rattle.graph_successors.specs.SuccessorIndex.{SuccessorIndex, Indexable}
+use Rattle.graph_predecessors.specs.PredecessorIndex.{PredecessorStarts, PredecessorPlaces}
 use Rattle.mark_confluence.specs.Rounds.{FirstPoint}
 use Rattle.mark_confluence.specs.Held.{isMarked}
 
@@ -19,10 +19,10 @@ Among xs n i = (k : ℕ) × (k < n) × (getD xs k 0 ≡ i)
 
 -- a hop list with its tables: where the hops out of a state begin, where those into it do, and their places
 pub record Tables (hs st bs ps : List ℕ) : Type 0 where
-  pub ready : Ready hs
-  pub table : Table hs st
-  pub begins : Begins hs bs
-  pub filled : Filled hs (count hs) ps
+  pub ready : Indexable hs
+  pub table : SuccessorIndex hs st
+  pub begins : PredecessorStarts hs bs
+  pub filled : PredecessorPlaces hs (count hs) ps
 
 -- the states that a marked hop leaves have their byte: none leaves another
 unfoldable pub Leaving : List ℕ → List ℕ → List ℕ → Type 0

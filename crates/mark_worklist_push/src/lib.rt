@@ -25,7 +25,7 @@ ghost use Prim.Native.Nat.{_<_, _≤_};
 ghost use lib.ListN.{length};
 ghost use Rattle.graph.specs.Hops.{count, label};
 ghost use Rattle.graph.specs.Answers.{most-states};
-ghost use Rattle.graph_successors.specs.Starts.{Table, Ready};
+ghost use Rattle.graph_successors.specs.SuccessorIndex.{SuccessorIndex, Indexable};
 ghost use Rattle.mark_worklist_push.specs.Queue.{Tables, Queue, Noted, Only, Joining, Like, Answering, Trying, Asked, Point};
 
 // Queues the silent hop at place i if it is marked, and not queued yet; returns how long the queue is.
@@ -37,7 +37,7 @@ fn note(
     n: usize,
     i: usize,
 ) -> usize
-    requires ready { ⌜ Ready (now hops) ⌝ }
+    requires ready { ⌜ Indexable (now hops) ⌝ }
     requires capacity { ⌜ count (now hops) ≤ length (now marks) ⌝ }
     requires queue { ⌜ Queue (now hops) (now flags) (now queue) n ⌝ }
     requires place { ⌜ i < count (now hops) ⌝ }
@@ -66,8 +66,8 @@ fn note_pair(
     s1: OldState,
     s2: OldState,
 ) -> usize
-    requires ready { ⌜ Ready (now hops) ⌝ }
-    requires table { ⌜ Table (now hops) (now starts) ⌝ }
+    requires ready { ⌜ Indexable (now hops) ⌝ }
+    requires table { ⌜ SuccessorIndex (now hops) (now starts) ⌝ }
     requires capacity { ⌜ count (now hops) ≤ length (now marks) ⌝ }
     requires queue { ⌜ Queue (now hops) (now flags) (now queue) n ⌝ }
     requires state { ⌜ s1 .0 < most-states ⌝ }
@@ -91,8 +91,8 @@ fn note_like(
     j: usize,
     m: usize,
 ) -> usize
-    requires ready { ⌜ Ready (now hops) ⌝ }
-    requires table { ⌜ Table (now hops) (now starts) ⌝ }
+    requires ready { ⌜ Indexable (now hops) ⌝ }
+    requires table { ⌜ SuccessorIndex (now hops) (now starts) ⌝ }
     requires capacity { ⌜ count (now hops) ≤ length (now marks) ⌝ }
     requires queue { ⌜ Queue (now hops) (now flags) (now queue) n ⌝ }
     requires tried { ⌜ j < count (now hops) ⌝ }
@@ -181,8 +181,8 @@ pub fn note_into(
 
 // Whether s4 is an s4 of s2 for a hop labelled a: document 01's first point.
 fn is_point(hops: &[u16], starts: &[u16; STARTS], s2: OldState, a: Label, s4: OldState) -> bool
-    requires ready { ⌜ Ready (now hops) ⌝ }
-    requires table { ⌜ Table (now hops) (now starts) ⌝ }
+    requires ready { ⌜ Indexable (now hops) ⌝ }
+    requires table { ⌜ SuccessorIndex (now hops) (now starts) ⌝ }
     requires state { ⌜ s2 .0 < most-states ⌝ }
     ensures { λ r. ⌜ Point (now (hops .entry)) (s2 .0) (a .0) (s4 .0) r ⌝ }
 {
@@ -209,8 +209,8 @@ fn note_answered(
     j: usize,
     p: usize,
 ) -> usize
-    requires ready { ⌜ Ready (now hops) ⌝ }
-    requires table { ⌜ Table (now hops) (now starts) ⌝ }
+    requires ready { ⌜ Indexable (now hops) ⌝ }
+    requires table { ⌜ SuccessorIndex (now hops) (now starts) ⌝ }
     requires capacity { ⌜ count (now hops) ≤ length (now marks) ⌝ }
     requires queue { ⌜ Queue (now hops) (now flags) (now queue) n ⌝ }
     requires place { ⌜ i < count (now hops) ⌝ }
@@ -249,8 +249,8 @@ pub fn note_out(
     j: usize,
     p: usize,
 ) -> usize
-    requires ready { ⌜ Ready (now hops) ⌝ }
-    requires table { ⌜ Table (now hops) (now starts) ⌝ }
+    requires ready { ⌜ Indexable (now hops) ⌝ }
+    requires table { ⌜ SuccessorIndex (now hops) (now starts) ⌝ }
     requires capacity { ⌜ count (now hops) ≤ length (now marks) ⌝ }
     requires queue { ⌜ Queue (now hops) (now flags) (now queue) n ⌝ }
     requires tried { ⌜ j < count (now hops) ⌝ }

@@ -22,7 +22,7 @@ ghost use Rattle.graph.specs.Hops.{count};
 ghost use Rattle.graph.specs.Answers.{most-hops};
 ghost use Rattle.mark_confluence.specs.Rounds.{closesAt};
 ghost use Rattle.mark_confluence.specs.Held.{heldBy};
-ghost use Rattle.graph_successors.specs.Starts.{Table, Ready};
+ghost use Rattle.graph_successors.specs.SuccessorIndex.{SuccessorIndex, Indexable};
 ghost use Rattle.mark_diamond_retest.specs.Again.{Unshed};
 ghost use Rattle.mark_worklist.specs.Due.{due};
 ghost use Rattle.mark_worklist_push.specs.Queue.{Listed};
@@ -31,7 +31,7 @@ ghost use Rattle.mark_worklist_round.specs.Testing.{Lists, Spared, Shed,
 // Lists the silent hops: the first round tests them all. Returns how many there are. Each place is put behind the list, and stays in it if it is silent, so
 // that nothing hangs on a branch that cannot be foreseen.
 pub fn list_silent(hops: &[u16], queue: &mut [u16; MOST_HOPS]) -> usize
-    requires ready { ⌜ Ready (now hops) ⌝ }
+    requires ready { ⌜ Indexable (now hops) ⌝ }
     requires capacity { ⌜ most-hops ≤ length (now queue) ⌝ }
     ensures lists { λ r. ⌜ Lists (count (now (hops .entry))) (due (now (hops .entry)) 0) (now (queue .exit)) r ⌝ }
     ensures capacity { λ r. ⌜ most-hops ≤ length (now (queue .exit)) ⌝ }
@@ -51,7 +51,7 @@ pub fn list_silent(hops: &[u16], queue: &mut [u16; MOST_HOPS]) -> usize
 
 // The states that a fallen hop leaves: 1 for each of them. Of the hops tried only those to such a state can have lost an answer.
 pub fn shed_of(hops: &[u16], fallen: &[u16; MOST_HOPS], n: usize) -> [u8; MOST_STATES]
-    requires ready { ⌜ Ready (now hops) ⌝ }
+    requires ready { ⌜ Indexable (now hops) ⌝ }
     requires most { ⌜ n ≤ most-hops ⌝ }
     requires listed { ⌜ Listed (now hops) (now fallen) n ⌝ }
     ensures { λ r. ⌜ Shed (now (hops .entry)) (now (fallen .entry)) n r ⌝ }
@@ -75,8 +75,8 @@ fn stands(
     first: bool,
     i: usize,
 ) -> bool
-    requires ready { ⌜ Ready (now hops) ⌝ }
-    requires table { ⌜ Table (now hops) (now starts) ⌝ }
+    requires ready { ⌜ Indexable (now hops) ⌝ }
+    requires table { ⌜ SuccessorIndex (now hops) (now starts) ⌝ }
     requires capacity { ⌜ count (now hops) ≤ length (now marks) ⌝ }
     requires place { ⌜ i < count (now hops) ⌝ }
     requires others { ⌜ (first ≡ false → Unshed (now hops) (now marks) (now shed) i) ⌝ }
@@ -101,8 +101,8 @@ pub fn test_due(
     flags: &mut [u8; MOST_HOPS],
     fallen: &mut [u16; MOST_HOPS],
 ) -> usize
-    requires ready { ⌜ Ready (now hops) ⌝ }
-    requires table { ⌜ Table (now hops) (now starts) ⌝ }
+    requires ready { ⌜ Indexable (now hops) ⌝ }
+    requires table { ⌜ SuccessorIndex (now hops) (now starts) ⌝ }
     requires marks { ⌜ count (now hops) ≤ length (now marks) ⌝ }
     requires spared { ⌜ Spared (now hops) (now marks) (now shed) first (now queue) n ⌝ }
     requires flags { ⌜ count (now hops) ≤ length (now flags) ⌝ }

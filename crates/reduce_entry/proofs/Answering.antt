@@ -9,7 +9,7 @@ use borrow.Author.Tests.{ne-eqb, le-leb, lt-leb, ltb-true, ltb-false}
 use lib.ListN.{length}
 use lib.Dec.{eqb, ltb}
 use Rattle.base_outputs.specs.Output.{onFront, written}
-use Rattle.graph.specs.Answers.{accepted, refused, andThen, roomFor}
+use Rattle.graph.specs.Answers.{accepted, refused, andThen, capacityAnswer}
 use Rattle.graph_check.specs.Check.{checkOf}
 use Rattle.graph.specs.Hops.{flat}
 use Rattle.graph.specs.declared.Shape.{Shape}
@@ -17,7 +17,7 @@ use Rattle.graph.specs.declared.Answer.{Answer}
 use Rattle.base_bounded.proofs.Bools.{clash, or-yes, lt-or-le}
 use Rattle.graph_check.proofs.Checked.{check-admitted}
 use Rattle.walk_silent.specs.Silent.{ringless}
-use Rattle.graph.proofs.Accepts.{then-first, then-next, both-accept, room-accepts}
+use Rattle.graph.proofs.Accepts.{then-first, then-next, both-accept, capacity-accepts}
 use Rattle.mark_senses.specs.Senses.{senseAnswer}
 use Rattle.reduce_representatives.specs.Tables.{Reducible}
 use Rattle.reduce_entry.specs.Reduce.{reduceAnswer, reduction, reduceOf, markedMap, markedHops, mapOutput, shortOutput}
@@ -25,7 +25,7 @@ use Rattle.reduce_entry.specs.Refusal.{refusal, laterAnswer}
 
 -- row 6 of both outputs
 abbrev capacity : Shape → List ℕ → ℕ → ℕ → Answer
-capacity sh hs m n = andThen (roomFor (sh .states) m) (roomFor (length hs) n)
+capacity sh hs m n = andThen (capacityAnswer (sh .states) m) (capacityAnswer (length hs) n)
 
 -- rows 5 and 6
 abbrev ringed : Shape → List ℕ → ℕ → ℕ → Answer
@@ -90,17 +90,17 @@ module _ (sh : Shape) (hs : List ℕ) (k m n : ℕ) where
     freed : (ringless sh hs .number ≡ 0) × (capacity sh hs m n .number ≡ 0)
     freed = both-accept (ringless sh hs) (capacity sh hs m n) (sensed .1)
 
-    roomed : (roomFor (sh .states) m .number ≡ 0) × (roomFor (length hs) n .number ≡ 0)
-    roomed = both-accept (roomFor (sh .states) m) (roomFor (length hs) n) (freed .1)
+    roomed : (capacityAnswer (sh .states) m .number ≡ 0) × (capacityAnswer (length hs) n .number ≡ 0)
+    roomed = both-accept (capacityAnswer (sh .states) m) (capacityAnswer (length hs) n) (freed .1)
 
     pub reduce-reducible : Reducible sh hs
     reduce-reducible = record { admitted = check-admitted sh hs (checked .0); free = freed .0 }
 
     pub reduce-map-capacity : sh .states ≤ m
-    reduce-map-capacity = room-accepts (sh .states) m (roomed .0) .1
+    reduce-map-capacity = capacity-accepts (sh .states) m (roomed .0) .1
 
     pub reduce-short-capacity : length hs ≤ n
-    reduce-short-capacity = room-accepts (length hs) n (roomed .1) .1
+    reduce-short-capacity = capacity-accepts (length hs) n (roomed .1) .1
 
     pub reduce-accepted : reduceAnswer sh hs k m n ≡ accepted
     unfolding reduceAnswer

@@ -8,7 +8,7 @@ use lib.ListN.{length}
 use lib.Dec.{eqb}
 use Rattle.base_outputs.specs.Output.{written}
 use Rattle.graph.specs.Hops.{flat}
-use Rattle.graph.specs.Answers.{andThen, roomFor}
+use Rattle.graph.specs.Answers.{andThen, capacityAnswer}
 use Rattle.graph_check.specs.Check.{checkOf}
 use Rattle.graph.specs.declared.Hop.{Hop}
 use Rattle.graph.specs.declared.Shape.{Shape}
@@ -39,7 +39,7 @@ markedShape sh hs k = shortShape sh hs (markedBy k sh hs)
 unfoldable pub reduceAnswer : Shape → List ℕ → ℕ → ℕ → ℕ → Answer
 reduceAnswer sh hs k map-capacity short-capacity =
     andThen (checkOf sh hs)
-    (andThen (senseAnswer k) (andThen (ringless sh hs) (andThen (roomFor (sh .states) map-capacity) (roomFor (length hs) short-capacity))))
+    (andThen (senseAnswer k) (andThen (ringless sh hs) (andThen (capacityAnswer (sh .states) map-capacity) (capacityAnswer (length hs) short-capacity))))
 
 -- "with any number but 0 every other figure in the answer is 0"
 abbrev pub noShape : Shape

@@ -20,7 +20,7 @@ ghost use lib.ListN.{length};
 ghost use Rattle.base_outputs.specs.Output.{onFront};
 ghost use Rattle.graph.specs.Hops.{count, flat};
 ghost use Rattle.graph.specs.Answers.{accepted};
-ghost use Rattle.graph_successors.specs.Starts.{Table, Tabled};
+ghost use Rattle.graph_successors.specs.SuccessorIndex.{SuccessorIndex, Indexed};
 ghost use Rattle.walk_silent.specs.Silent.{ringless};
 ghost use Rattle.mark_confluence.specs.Held.{marksOf};
 ghost use Rattle.mark_senses.specs.Senses.{markedBy};
@@ -37,7 +37,7 @@ fn later_answer(
     entries: usize,
     numbers: usize,
 ) -> Answer
-    requires { ⌜ Tabled shape (now hops) (now starts) ⌝ }
+    requires { ⌜ Indexed shape (now hops) (now starts) ⌝ }
     ensures { λ r. ⌜ r ≡ laterAnswer shape (now (hops .entry)) sense entries numbers ⌝ }
 {
     let sensed = sense_answer(sense);
@@ -75,7 +75,7 @@ pub fn reduce_answer(
 // Marks in the sense with the number: 1 in rounds that test only what is due, any other by sweeps; for `reduce` and for the repeated reduction. `mark` makes
 // the choice for itself: in one function for all, sense 1 would take stack of the others'.
 pub fn mark_in(shape: Shape, hops: &[u16], starts: &[u16; STARTS], sense: u32, marks: &mut [u8])
-    requires tabled { ⌜ Tabled shape (now hops) (now starts) ⌝ }
+    requires tabled { ⌜ Indexed shape (now hops) (now starts) ⌝ }
     requires free { ⌜ ringless shape (now hops) .number ≡ 0 ⌝ }
     requires capacity { ⌜ count (now hops) ≤ length (now marks) ⌝ }
     ensures { λ r. ⌜ now (marks .exit) ≡
@@ -98,7 +98,7 @@ fn accepted_reduction(
     short: &mut [u16],
 ) -> Reduction
     requires reducible { ⌜ Reducible shape (now hops) ⌝ }
-    requires table { ⌜ Table (now hops) (now starts) ⌝ }
+    requires table { ⌜ SuccessorIndex (now hops) (now starts) ⌝ }
     requires map_capacity { ⌜ shape .states ≤ length (now map) ⌝ }
     requires short_capacity { ⌜ length (now hops) ≤ length (now short) ⌝ }
     ensures returned { λ r. ⌜ r ≡ reduction shape (now (hops .entry)) sense accepted ⌝ }

@@ -12,7 +12,7 @@ use Rattle.base_bounded.specs.Quantifiers.{tabulate}
 use Rattle.base_bounded.proofs.Quantifiers.{length-tabulate, getD-tabulate}
 use Rattle.base_outputs.specs.Output.{onFront}
 use Rattle.graph.specs.Hops.{numberPlace, count, flat, between}
-use Rattle.graph.specs.Answers.{most-hops, most-numbers, andThen, roomFor, refused}
+use Rattle.graph.specs.Answers.{most-hops, most-numbers, andThen, capacityAnswer, refused}
 use Rattle.graph.specs.declared.Shape.{Shape}
 use Rattle.graph.specs.declared.Answer.{Answer}
 use Rattle.graph.proofs.Accepts.{both-accept}
@@ -66,7 +66,7 @@ same-text a {t} {u} f = go (eqb (a .number) 0) refl where
   go true e = f (eqb-true (a .number) 0 e)
   go false e = refl
 
-capacity-text : (n r : ℕ) → n ≤ r → (t : List ℕ) → unlessRefused (roomFor n r) t ≡ t
+capacity-text : (n r : ℕ) → n ≤ r → (t : List ℕ) → unlessRefused (capacityAnswer n r) t ≡ t
 unfolding unlessRefused
 capacity-text n r l t = rw (le-leb n r l)
 
@@ -131,9 +131,9 @@ module _ (b : List ℕ) where
       unlessRefused (readAnswer b (length old)) t ≡ unlessRefused (formatAnswer b) (unlessRefused (checkOf (shapeIn b) (hopListIn b)) t)
   unfolding readAnswer
   read-text old t l =
-      then-text (formatAnswer b) (andThen (checkOf (shapeIn b) (hopListIn b)) (roomFor (numberPlace (hopsIn b)) (length old))) t ∙
+      then-text (formatAnswer b) (andThen (checkOf (shapeIn b) (hopListIn b)) (capacityAnswer (numberPlace (hopsIn b)) (length old))) t ∙
       same-text (formatAnswer b)
-      (λ y. then-text (checkOf (shapeIn b) (hopListIn b)) (roomFor (numberPlace (hopsIn b)) (length old)) t ∙
+      (λ y. then-text (checkOf (shapeIn b) (hopListIn b)) (capacityAnswer (numberPlace (hopsIn b)) (length old)) t ∙
       same-text (checkOf (shapeIn b) (hopListIn b)) (λ z. capacity-text (numberPlace (hopsIn b)) (length old) (omega (arith, hops-fit z, count-hop-list b)) t))
 
   module _ (old : List ℕ) (l : most-numbers ≤ length old) {x : Contents} (e : x ≡ readOf b (length old)) where
@@ -167,9 +167,9 @@ module _ (b : List ℕ) where
       gives : x ≡ contentsOf b
       gives = chosen true (eq-eqb _ 0 speaks-not)
 
-      both : (formatAnswer b .number ≡ 0) × (andThen (checkOf (shapeIn b) (hopListIn b)) (roomFor (numberPlace (hopsIn b)) (length old)) .number ≡ 0)
+      both : (formatAnswer b .number ≡ 0) × (andThen (checkOf (shapeIn b) (hopListIn b)) (capacityAnswer (numberPlace (hopsIn b)) (length old)) .number ≡ 0)
       unfolding readAnswer
-      both = both-accept (formatAnswer b) (andThen (checkOf (shapeIn b) (hopListIn b)) (roomFor (numberPlace (hopsIn b)) (length old))) speaks-not
+      both = both-accept (formatAnswer b) (andThen (checkOf (shapeIn b) (hopListIn b)) (capacityAnswer (numberPlace (hopsIn b)) (length old))) speaks-not
 
       checked : checkOf (shapeIn b) (hopListIn b) .number ≡ 0
       checked = both-accept (checkOf (shapeIn b) (hopListIn b)) _ (both .1) .0

@@ -17,7 +17,7 @@ ghost use mathlib.Core.Path.{_≡_};
 ghost use Prim.Native.Nat.{_≤_};
 ghost use lib.ListN.{length};
 ghost use Rattle.graph_check.specs.Check.{Admitted};
-ghost use Rattle.graph_successors.specs.Starts.{Table};
+ghost use Rattle.graph_successors.specs.SuccessorIndex.{SuccessorIndex};
 ghost use Rattle.reduce_representatives.specs.Tables.{Reducible};
 ghost use Rattle.base_outputs.specs.Output.{onFront};
 ghost use Rattle.report_text.specs.Text.{Put};
@@ -32,7 +32,7 @@ pub const MOST_TEXT: usize = 13 + 14 * MOST_STATES + 19 + 25 * MOST_HOPS;
 // The report of a graph that every row lets pass: it is marked once, and reduced along the marks.
 fn print_reduced(shape: Shape, hops: &[u16], starts: &[u16; STARTS], out: &mut [u8]) -> usize
     requires reducible { ⌜ Reducible shape (now hops) ⌝ }
-    requires table { ⌜ Table (now hops) (now starts) ⌝ }
+    requires table { ⌜ SuccessorIndex (now hops) (now starts) ⌝ }
     requires capacity { ⌜ most-text ≤ length (now out) ⌝ }
     ensures { λ r. ⌜ Put (now (out .entry)) 0 (reportOf shape (now (hops .entry))) r (now (out .exit)) ⌝ }
 {

@@ -3,7 +3,7 @@ use mathlib.Core.Path.{_≡_, refl}
 use Rattle.base_bounded.specs.Quantifiers.{all, any, least, tabulate, tally, total}
 use Rattle.graph.specs.Hops.{flat, is, labelled, has}
 use Rattle.graph.specs.Order.{before}
-use Rattle.graph_check.specs.Check.{checkOf, countsFit, inside, firstOutside, rises, firstFalling}
+use Rattle.graph_check.specs.Check.{checkOf, countsFit, inside, firstOutside, ascendsAt, firstNotAscending}
 use Rattle.walk_reach.specs.Reaching.{leadsBy}
 use Rattle.walk_silent.specs.Silent.{onRing, lowestOnRing, ringless}
 use Rattle.base_fixpoint.specs.Approximants.{approximant}
@@ -21,12 +21,12 @@ use Rattle.audit_faults.specs.Faults.{initialFault, kept, lostFaults, offers, b
 use Rattle.audit_faults.specs.First.{firstInitial, lostPlace, firstLost, madeUpPlace, madeUpState, firstMadeUp, firstFault}
 use Rattle.audit_admitted.specs.Fitting.{firstHigh, mapFits, auditAnswer}
 use Rattle.audit_entry.specs.Auditing.{auditOf}
-use Rattle.graph_find.specs.Finding.{hopsBefore, findOf}
+use Rattle.graph_find.specs.Find.{hopsBefore, findOf}
 use Rattle.test_worked.specs.Table.{tableOf, table, outcomeOf, fallsIn}
 
 pub given : tableOf table ≡ table
 unfolding
-    all any least tabulate tally total flat is labelled has before checkOf countsFit inside firstOutside rises firstFalling leadsBy onRing lowestOnRing ringless
+    all any least tabulate tally total flat is labelled has before checkOf countsFit inside firstOutside ascendsAt firstNotAscending leadsBy onRing lowestOnRing ringless
     approximant survives marked closes tried answered answers hopAnswers answer closing setAt comes takes meets takesTo answersFrom answeredIn closesIn markedIn isSense senseOf senseAnswer marksOf markOf markAnswer fell standing reached shaken due testsIn testsUpTo testsOf countedOf markedFrom resting onward followed repOf newOf mapOf
     insert collected gathered shortHops shortShape mapList initialFault kept lostFaults offers backed matched madeUp madeUpFaults faultsOf firstInitial lostPlace firstLost madeUpPlace madeUpState firstMadeUp firstFault reduceAnswer reduceOf firstHigh mapFits auditAnswer auditOf hopsBefore findOf outcomeOf fallsIn
 given = refl

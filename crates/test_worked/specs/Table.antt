@@ -20,7 +20,7 @@ use Rattle.audit_faults.specs.First.{fault, noFault}
 use Rattle.audit_faults.specs.declared.Fault.{Fault}
 use Rattle.audit_entry.specs.Auditing.{auditOf}
 use Rattle.audit_entry.specs.declared.Audit.{Audit}
-use Rattle.graph_find.specs.Finding.{findOf}
+use Rattle.graph_find.specs.Find.{findOf}
 use Rattle.graph_find.specs.declared.Finding.{Finding}
 
 -- a hop as document 01 writes it; a state count, a label count and an initial state, and the same with initial state 0

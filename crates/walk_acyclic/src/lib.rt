@@ -22,7 +22,7 @@ ghost use lib.ListN.{length};
 ghost use Rattle.graph.specs.Answers.{most-states, most-hops};
 ghost use Rattle.graph.specs.Hops.{count};
 ghost use Rattle.graph_check.specs.Check.{Admitted};
-ghost use Rattle.graph_successors.specs.Starts.{Tabled};
+ghost use Rattle.graph_successors.specs.SuccessorIndex.{Indexed};
 ghost use Rattle.walk_acyclic.specs.Ranks.{endsNoted, Ranks, Ranked};
 
 // Whether every silent hop of v leads to a ranked state. The silent hops are the first of its hops.
@@ -33,7 +33,7 @@ pub fn ends_ranked(
     v: OldState,
     ranked: &[u8],
 ) -> bool
-    requires tabled { ⌜ Tabled shape (now hops) (now starts) ⌝ }
+    requires tabled { ⌜ Indexed shape (now hops) (now starts) ⌝ }
     requires capacity { ⌜ shape .states ≤ length (now ranked) ⌝ }
     requires state { ⌜ v .0 < shape .states ⌝ }
     ensures { λ r. ⌜ r ≡ endsNoted (now (hops .entry)) (now (ranked .entry)) (v .0) ⌝ }
@@ -62,7 +62,7 @@ fn rank_one(
     v: OldState,
     ranked: &mut [u8],
 ) -> usize
-    requires tabled { ⌜ Tabled shape (now hops) (now starts) ⌝ }
+    requires tabled { ⌜ Indexed shape (now hops) (now starts) ⌝ }
     requires state { ⌜ v .0 < shape .states ⌝ }
     requires ranks { ⌜ Ranks (now hops) (shape .states) (now ranked) ⌝ }
     ensures { λ r. ⌜ Ranked (now (hops .entry)) (shape .states) (now (ranked .entry)) (now (ranked .exit)) r ⌝ }
@@ -80,7 +80,7 @@ fn rank_one(
 
 // Goes once through the states, downward; returns how many it ranked.
 fn rank_once(shape: Shape, hops: &[u16], starts: &[u16; STARTS], ranked: &mut [u8]) -> usize
-    requires tabled { ⌜ Tabled shape (now hops) (now starts) ⌝ }
+    requires tabled { ⌜ Indexed shape (now hops) (now starts) ⌝ }
     requires ranks { ⌜ Ranks (now hops) (shape .states) (now ranked) ⌝ }
     ensures { λ r. ⌜ Ranked (now (hops .entry)) (shape .states) (now (ranked .entry)) (now (ranked .exit)) r ⌝ }
 {
@@ -160,7 +160,7 @@ fn climb(
     entered: &mut [u8; MOST_STATES],
     via: &mut [u16; MOST_STATES],
 ) -> OldState
-    requires tabled { ⌜ Tabled shape (now hops) (now starts) ⌝ }
+    requires tabled { ⌜ Indexed shape (now hops) (now starts) ⌝ }
     requires capacity { ⌜ shape .states ≤ length (now ranked) ⌝ }
     requires state { ⌜ v .0 < shape .states ⌝ }
     ensures { λ r. ⌜ r .0 < shape .states ⌝ }
@@ -193,7 +193,7 @@ fn rank_from(
     via: &mut [u16; MOST_STATES],
     ranked: &mut [u8],
 ) -> usize
-    requires tabled { ⌜ Tabled shape (now hops) (now starts) ⌝ }
+    requires tabled { ⌜ Indexed shape (now hops) (now starts) ⌝ }
     requires state { ⌜ v .0 < shape .states ⌝ }
     requires ranks { ⌜ Ranks (now hops) (shape .states) (now ranked) ⌝ }
     ensures { λ r. ⌜ Ranked (now (hops .entry)) (shape .states) (now (ranked .entry)) (now (ranked .exit)) r ⌝ }
@@ -224,7 +224,7 @@ fn rank_from(
 // Ranks every state that can be: by one pass and, where that leaves states, by a search from each that is left; returns how many states
 // that ranked.
 pub fn rank_all(shape: Shape, hops: &[u16], starts: &[u16; STARTS], ranked: &mut [u8]) -> usize
-    requires tabled { ⌜ Tabled shape (now hops) (now starts) ⌝ }
+    requires tabled { ⌜ Indexed shape (now hops) (now starts) ⌝ }
     requires ranks { ⌜ Ranks (now hops) (shape .states) (now ranked) ⌝ }
     ensures { λ r. ⌜ Ranked (now (hops .entry)) (shape .states) (now (ranked .entry)) (now (ranked .exit)) r ⌝ }
 {

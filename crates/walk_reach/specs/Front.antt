@@ -11,7 +11,7 @@ use lib.Dec.{eqb}
 use Rattle.base_bounded.specs.Quantifiers.{tally, tabulate}
 use Rattle.graph.specs.Hops.{count}
 use Rattle.graph.specs.declared.Shape.{Shape}
-use Rattle.graph_successors.specs.Starts.{Tabled}
+use Rattle.graph_successors.specs.SuccessorIndex.{Indexed}
 use Rattle.walk_reach.specs.Reaching.{ChosenOf, leadsBy, chosenIn}
 
 -- state t is noted
@@ -34,7 +34,7 @@ tailWith seen tail t = cond (noted seen t) tail (tail + 1)
 
 -- an admitted graph with its table, and a byte for each of its hops
 pub record Chosen (sh : Shape) (hs st bytes : List ℕ) : Type 0 where
-  pub tabled : Tabled sh hs st
+  pub tabled : Indexed sh hs st
   pub byte-a-hop : count hs ≤ length bytes
 
 -- working space for a search over n states

@@ -24,7 +24,7 @@ ghost use lib.ListN.{length};
 ghost use Rattle.base_bounded.specs.Quantifiers.{any};
 ghost use Rattle.graph.specs.Hops.{count};
 ghost use Rattle.graph_check.specs.Check.{Admitted};
-ghost use Rattle.graph_successors.specs.Starts.{Tabled};
+ghost use Rattle.graph_successors.specs.SuccessorIndex.{Indexed};
 ghost use Rattle.walk_reach.specs.Front.{Space};
 ghost use Rattle.walk_silent.specs.Silent.{onRing, lowestOnRing, ringless};
 ghost use Rattle.walk_silent.specs.Chosen.{SilentChosen};
@@ -86,7 +86,7 @@ fn is_on_ring(
 
 // The lowest state on a ring, or the state count: by a search from each state that is not ranked.
 fn lowest_unranked(shape: Shape, hops: &[u16], starts: &[u16; STARTS], ranked: &[u8]) -> usize
-    requires tabled { ⌜ Tabled shape (now hops) (now starts) ⌝ }
+    requires tabled { ⌜ Indexed shape (now hops) (now starts) ⌝ }
     requires ranks { ⌜ Ranks (now hops) (shape .states) (now ranked) ⌝ }
     ensures { λ r. ⌜ r ≡ lowestOnRing shape (now (hops .entry)) ⌝ }
 {
@@ -115,7 +115,7 @@ fn lowest_unranked(shape: Shape, hops: &[u16], starts: &[u16; STARTS], ranked: &
 
 // The lowest state on a ring, or the state count: a graph without rings is ranked whole, which costs it no search.
 pub fn lowest_on_ring(shape: Shape, hops: &[u16], starts: &[u16; STARTS]) -> usize
-    requires { ⌜ Tabled shape (now hops) (now starts) ⌝ }
+    requires { ⌜ Indexed shape (now hops) (now starts) ⌝ }
     ensures { λ r. ⌜ r ≡ lowestOnRing shape (now (hops .entry)) ⌝ }
 {
     let mut ranked = [0u8; MOST_STATES];
@@ -128,7 +128,7 @@ pub fn lowest_on_ring(shape: Shape, hops: &[u16], starts: &[u16; STARTS]) -> usi
 
 // The answer of row 5, by the table of first places, which whoever asks made and needs again.
 pub fn ring_answer(shape: Shape, hops: &[u16], starts: &[u16; STARTS]) -> Answer
-    requires { ⌜ Tabled shape (now hops) (now starts) ⌝ }
+    requires { ⌜ Indexed shape (now hops) (now starts) ⌝ }
     ensures { λ r. ⌜ r ≡ ringless shape (now (hops .entry)) ⌝ }
 {
     let s = lowest_on_ring(shape, hops, starts);

@@ -21,7 +21,7 @@ ghost use lib.ListN.{length};
 ghost use Rattle.graph.specs.Hops.{count, labelled};
 ghost use Rattle.base_bounded.specs.Quantifiers.{tally};
 ghost use Rattle.walk_silent.specs.Silent.{ringless};
-ghost use Rattle.graph_successors.specs.Starts.{Tabled};
+ghost use Rattle.graph_successors.specs.SuccessorIndex.{Indexed};
 ghost use Rattle.walk_topological_order.specs.Line.{Line};
 ghost use Rattle.walk_topological_order.specs.Lined.{turned, Put, Lined, Tried, Only, Passed};
 
@@ -40,7 +40,7 @@ fn put_row(
     line: &mut [u16; MOST_HOPS],
     n: usize,
 ) -> usize
-    requires tabled { ⌜ Tabled shape (now hops) (now starts) ⌝ }
+    requires tabled { ⌜ Indexed shape (now hops) (now starts) ⌝ }
     requires state { ⌜ v .0 < shape .states ⌝ }
     requires fits { ⌜ n + tally (count (now hops)) (labelled (now hops) (v .0) 0) ≤ count (now hops) ⌝ }
     requires capacity { ⌜ count (now hops) ≤ length (now line) ⌝ }
@@ -71,7 +71,7 @@ fn place_one(
     line: &mut [u16; MOST_HOPS],
     at: Counts,
 ) -> Counts
-    requires tabled { ⌜ Tabled shape (now hops) (now starts) ⌝ }
+    requires tabled { ⌜ Indexed shape (now hops) (now starts) ⌝ }
     requires state { ⌜ v .0 < shape .states ⌝ }
     requires lined { ⌜ Lined (now hops) (shape .states) (now placed) (now line) at ⌝ }
     ensures lined { λ r. ⌜ Lined (now (hops .entry)) (shape .states) (now (placed .exit)) (now (line .exit)) r ⌝ }
@@ -113,7 +113,7 @@ fn place_each(
     line: &mut [u16; MOST_HOPS],
     at: Counts,
 ) -> Counts
-    requires tabled { ⌜ Tabled shape (now hops) (now starts) ⌝ }
+    requires tabled { ⌜ Indexed shape (now hops) (now starts) ⌝ }
     requires free { ⌜ ringless shape (now hops) .number ≡ 0 ⌝ }
     requires lined { ⌜ Lined (now hops) (shape .states) (now placed) (now line) at ⌝ }
     ensures { λ r. ⌜ Passed (now (hops .entry)) (shape .states) at (now (placed .exit)) (now (line .exit)) r ⌝ }
@@ -136,7 +136,7 @@ pub fn line_of(
     starts: &[u16; STARTS],
     line: &mut [u16; MOST_HOPS],
 ) -> usize
-    requires tabled { ⌜ Tabled shape (now hops) (now starts) ⌝ }
+    requires tabled { ⌜ Indexed shape (now hops) (now starts) ⌝ }
     requires free { ⌜ ringless shape (now hops) .number ≡ 0 ⌝ }
     requires capacity { ⌜ count (now hops) ≤ length (now line) ⌝ }
     ensures { λ r. ⌜ Line (now (hops .entry)) (now (line .exit)) r ⌝ }

@@ -5,13 +5,13 @@ use Prim.Native.Nat.{ℕ}
 use native.Mathlib.Omega.{arith}
 use lib.ListN.{length-replicate}
 use Rattle.graph.specs.Answers.{most-states, most-hops}
-use Rattle.graph_successors.proofs.Firsts.{admitted-ready}
+use Rattle.graph_successors.proofs.Firsts.{admitted-indexable}
 use Rattle.audit_unmatched.proofs.Backing.{fresh-start}
 use Rattle.audit_unmatched.proofs.all_made_up.Statement.{statement}
 use Rattle.audit_unmatched.proofs.all_made_up.Tie as tie
 
 starts-of-requires : tie.Need-starts-of-requires
-starts-of-requires c κs = admitted-ready (c .before .before .before .pre .0 .admitted)
+starts-of-requires c κs = admitted-indexable (c .before .before .before .pre .0 .admitted)
 
 silent-bytes-requires : tie.Need-silent-bytes-requires
 silent-bytes-requires c κs = c .before .before .before .before .pre .0 .admitted .hops-most

@@ -3,7 +3,7 @@ use borrow.Author.Needs.{needs}
 use mathlib.Core.Path.{ap}
 use lib.ListN.{length}
 use Rattle.graph_find.specs.declared.Finding.{Finding}
-use Rattle.graph_find.specs.Finding.{findOf}
+use Rattle.graph_find.specs.Find.{findOf}
 use Rattle.c_answer.specs.Numbers.{shapeOf}
 use Rattle.c_answer.proofs.Answers.{returned-of}
 use Rattle.c_answer.proofs.Told.{told-of}

@@ -2,7 +2,7 @@
 use borrow.Author.Needs.{needs}
 use Rattle.c_hops_of.specs.Numbers.{spanNumbers}
 use lib.ListN.{length}
-use Rattle.graph_hops_of.specs.Outgoing.{chosen, spanOf}
+use Rattle.graph_hops_of.specs.HopsOf.{chosen, spanOf}
 use Rattle.c_answer.specs.Numbers.{shapeOf}
 use Rattle.c_answer.proofs.Answers.{returned-of}
 use Rattle.c_answer.proofs.Told.{told-of}

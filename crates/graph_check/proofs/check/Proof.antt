@@ -35,8 +35,8 @@ returns-3 c =
     c .refuse3 .ensures ∙
     check-range _ _ (c .before .before .before .before .before .before .before .counts-fit .ensures) (c .before .before .before .before .before .before .if1 .left) (c .before .before .before .before .if2 .left) (c .before .before .first-outside .ensures) (omega arith)
 
-first-falling-requires : tie.Need-first-falling-requires
-first-falling-requires c κs = search needs
+first-not-ascending-requires : tie.Need-first-not-ascending-requires
+first-not-ascending-requires c κs = search needs
 
 refuse-requires-4 : tie.Need-refuse-requires-4
 refuse-requires-4 c κs = search needs
@@ -45,7 +45,7 @@ returns-4 : tie.Need-returns-4
 returns-4 c =
     c .refuse4 .ensures ∙
     check-order _ _ (c .before .before .before .before .before .before .before .before .before .counts-fit .ensures) (c .before .before .before .before .before .before .before .before .if1 .left) (c .before .before .before .before .before .before .if2 .left) (c .before .before .before .before .first-outside .ensures) (omega arith)
-    (c .before .before .first-falling .ensures) (omega arith)
+    (c .before .before .first-not-ascending .ensures) (omega arith)
 
 accept-requires : tie.Need-accept-requires
 accept-requires c κs = search needs
@@ -54,7 +54,7 @@ returns-5 : tie.Need-returns-5
 returns-5 c =
     c .accept .ensures ∙
     check-accepts _ _ (c .before .before .before .before .before .before .before .before .before .counts-fit .ensures) (c .before .before .before .before .before .before .before .before .if1 .left) (c .before .before .before .before .before .before .if2 .left) (c .before .before .before .before .first-outside .ensures) (omega arith)
-    (c .before .before .first-falling .ensures) (omega arith)
+    (c .before .before .first-not-ascending .ensures) (omega arith)
 
 pub check-spec : {M : Type 1} → statement M
 check-spec =
@@ -69,7 +69,7 @@ check-spec =
     first-outside-requires
     refuse-requires-3
     returns-3
-    first-falling-requires
+    first-not-ascending-requires
     refuse-requires-4
     returns-4
     accept-requires

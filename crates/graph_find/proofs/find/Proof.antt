@@ -3,8 +3,8 @@ use borrow.Author.Needs.{needs}
 use mathlib.Core.Path.{_≡_}
 use Rattle.graph.specs.declared.Found.{Found}
 use Rattle.graph.specs.declared.Found.the-variants.{At, Gap}
-use Rattle.graph_find.specs.Finding.{findOf}
-use Rattle.graph_find.proofs.Ways.{told, find-refused, find-admitted, find-told}
+use Rattle.graph_find.specs.Find.{findOf}
+use Rattle.graph_find.proofs.Ways.{findingOf, find-refused, find-admitted, find-found}
 use Rattle.graph_find.proofs.find.Statement.{statement}
 use Rattle.graph_find.proofs.find.Tie as tie
 
@@ -14,14 +14,14 @@ check-requires c κs = search needs
 returns : tie.Need-returns
 returns c = find-refused _ _ (c .before .before .check .ensures) _ _ _ (c .if1 .taken)
 
-narrow-requires : tie.Need-narrow-requires
-narrow-requires c κs = search needs
+saturate-requires : tie.Need-saturate-requires
+saturate-requires c κs = search needs
 
-narrow-requires-2 : tie.Need-narrow-requires-2
-narrow-requires-2 c κs = search needs
+saturate-requires-2 : tie.Need-saturate-requires-2
+saturate-requires-2 c κs = search needs
 
-narrow-requires-3 : tie.Need-narrow-requires-3
-narrow-requires-3 c κs = search needs
+saturate-requires-3 : tie.Need-saturate-requires-3
+saturate-requires-3 c κs = search needs
 
 hop-of-requires : tie.Need-hop-of-requires
 hop-of-requires c κs = search needs
@@ -40,11 +40,11 @@ module _ (c : tie.After-find) where
   start = checked .before .before
 
   searched : (r : Found) → c .find .result ≡ r →
-      told (checked .check .result) r ≡ findOf (start .args .shape) (start .args .hops .now) (start .args .from) (start .args .label) (start .args .to)
+      findingOf (checked .check .result) r ≡ findOf (start .args .shape) (start .args .hops .now) (start .args .from) (start .args .label) (start .args .to)
   searched r d =
       let n = c .before .before .before .before in
-      find-told _ _ (checked .check .ensures) _ _ _ (n .before .if1 .left) (n .narrow .ensures) (c .before .before .before .narrow2 .ensures)
-      (c .before .before .narrow3 .ensures) (c .before .hop-of .ensures) (c .find .ensures) d
+      find-found _ _ (checked .check .ensures) _ _ _ (n .before .if1 .left) (n .saturate .ensures) (c .before .before .before .saturate2 .ensures)
+      (c .before .before .saturate3 .ensures) (c .before .hop-of .ensures) (c .find .ensures) d
 
 enum-known-found : tie.Need-enum-known-found
 enum-known-found c = search needs
@@ -64,9 +64,9 @@ find-spec =
     (tie.spec
     check-requires
     returns
-    narrow-requires
-    narrow-requires-2
-    narrow-requires-3
+    saturate-requires
+    saturate-requires-2
+    saturate-requires-3
     hop-of-requires
     find-requires
     enum-known-found

@@ -3,8 +3,8 @@ use borrow.Author.Needs.{needs}
 use mathlib.Core.Path.{sym, _∙_}
 use native.Mathlib.Omega.{arith}
 use borrow.Author.Tests.{eq-eqb, ne-eqb}
-use Rattle.graph_hops_of.specs.Outgoing.{shown, shownAt}
-use Rattle.graph_hops_of.proofs.Chosen.{chosen-shows}
+use Rattle.graph_hops_of.specs.HopsOf.{hopsOfSide, hopsOfAddress}
+use Rattle.graph_hops_of.proofs.Chosen.{chosen-hops}
 use Rattle.graph_hops_of.proofs.hops_of.Statement.{statement}
 use Rattle.graph_hops_of.proofs.hops_of.Tie as tie
 
@@ -13,11 +13,11 @@ choose-requires c κs = search needs
 
 out-of-requires : tie.Need-out-of-requires
 out-of-requires c κs =
-    let t = chosen-shows _ _ _ _ _ _ .0 (sym (c .before .choose .ensures) ∙ c .if1 .taken) in
+    let t = chosen-hops _ _ _ _ _ _ .0 (sym (c .before .choose .ensures) ∙ c .if1 .taken) in
     (t .admitted .ascending, omega (arith, t .present, t .admitted .states-most))
 
 returns : tie.Need-returns
-unfolding shown shownAt
+unfolding hopsOfSide hopsOfAddress
 returns c =
     let e = c .before .before .choose .ensures in
     let f = eq-eqb _ 1 (c .before .if1 .taken) in
@@ -25,11 +25,11 @@ returns c =
 
 out-of-requires-2 : tie.Need-out-of-requires-2
 out-of-requires-2 c κs =
-    let t = chosen-shows _ _ _ _ _ _ .1 (sym (c .before .before .choose .ensures) ∙ c .if2 .taken) in
+    let t = chosen-hops _ _ _ _ _ _ .1 (sym (c .before .before .choose .ensures) ∙ c .if2 .taken) in
     (t .admitted .ascending, omega (arith, t .present, t .admitted .states-most))
 
 returns-2 : tie.Need-returns-2
-unfolding shown shownAt
+unfolding hopsOfSide hopsOfAddress
 returns-2 c =
     let e = c .before .before .before .choose .ensures in
     let f = ne-eqb _ 1 (c .before .before .if1 .left) in
@@ -40,7 +40,7 @@ part-requires : tie.Need-part-requires
 part-requires c κs = search needs
 
 returns-3 : tie.Need-returns-3
-unfolding shown shownAt
+unfolding hopsOfSide hopsOfAddress
 returns-3 c =
     let e = c .before .before .before .choose .ensures in
     let f = ne-eqb _ 1 (c .before .before .if1 .left) in

@@ -3,8 +3,8 @@ use borrow.Author.Needs.{needs}
 use mathlib.Core.Path.{sym, _∙_}
 use native.Mathlib.Omega.{arith}
 use borrow.Author.Tests.{eq-eqb, ne-eqb}
-use Rattle.graph_hops_of.specs.Outgoing.{spanOf}
-use Rattle.graph_hops_of.proofs.Chosen.{chosen-shows}
+use Rattle.graph_hops_of.specs.HopsOf.{spanOf}
+use Rattle.graph_hops_of.proofs.Chosen.{chosen-hops}
 use Rattle.graph_hops_of.proofs.span_of.Statement.{statement}
 use Rattle.graph_hops_of.proofs.span_of.Tie as tie
 
@@ -13,7 +13,7 @@ choose-requires c κs = search needs
 
 span-in-requires : tie.Need-span-in-requires
 span-in-requires c κs =
-    let t = chosen-shows _ _ _ _ _ _ .0 (sym (c .before .choose .ensures) ∙ c .if1 .taken) in
+    let t = chosen-hops _ _ _ _ _ _ .0 (sym (c .before .choose .ensures) ∙ c .if1 .taken) in
     (t .admitted .ascending, (t .admitted .hops-most, omega (arith, t .present, t .admitted .states-most)))
 
 returns : tie.Need-returns
@@ -22,7 +22,7 @@ returns c = rw (← c .before .before .choose .ensures, eq-eqb _ 1 (c .before .i
 
 span-in-requires-2 : tie.Need-span-in-requires-2
 span-in-requires-2 c κs =
-    let t = chosen-shows _ _ _ _ _ _ .1 (sym (c .before .before .choose .ensures) ∙ c .if2 .taken) in
+    let t = chosen-hops _ _ _ _ _ _ .1 (sym (c .before .before .choose .ensures) ∙ c .if2 .taken) in
     (t .admitted .ascending, (t .admitted .hops-most, omega (arith, t .present, t .admitted .states-most)))
 
 returns-2 : tie.Need-returns-2

@@ -8,7 +8,7 @@ use Rattle.base_bounded.specs.Slots.{keyCount}
 use Rattle.base_bounded.proofs.Slots.{key-count-none, key-count-within, key-count-step}
 use Rattle.graph.specs.Hops.{count, to}
 use Rattle.graph.specs.Answers.{most-states}
-use Rattle.graph_predecessors.specs.Ends.{Counted}
+use Rattle.graph_predecessors.specs.PredecessorIndex.{InDegrees}
 use Rattle.graph_predecessors.proofs.ends_of.Statement.{statement}
 use Rattle.graph_predecessors.proofs.ends_of.Tie as tie
 
@@ -77,7 +77,7 @@ loop-again c =
     )
 
 returns : tie.Need-returns Inv-loop μ-loop
-unfolding Counted
+unfolding InDegrees
 returns c =
     let v = c .before .loop in let q : v .j ≡ count (c .before .before .before .before .args .hops .now) = omega arith in
     λ s l. rw (← q) (omega (arith, v .inv .3 s l))

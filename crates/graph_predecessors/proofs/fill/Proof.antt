@@ -9,20 +9,20 @@ use Rattle.base_bounded.specs.Slots.{keyCount, slot}
 use Rattle.base_bounded.proofs.Slots.{key-count-none, key-count-step, slot-next, slot-step}
 use Rattle.graph.specs.Hops.{count, to}
 use Rattle.graph.specs.Answers.{most-states, most-hops}
-use Rattle.graph_successors.specs.Starts.{Ready}
-use Rattle.graph_predecessors.specs.Ends.{beginOf, Begins, Filled}
+use Rattle.graph_successors.specs.SuccessorIndex.{Indexable}
+use Rattle.graph_predecessors.specs.PredecessorIndex.{predecessorStart, PredecessorStarts, PredecessorPlaces}
 use Rattle.graph_predecessors.proofs.fill.Statement.{statement}
 use Rattle.graph_predecessors.proofs.fill.Tie as tie
 
 -- what the table has for the next hop into the end of the hop at place j is its slot
-next-slot : (hs xs : List ℕ) → Ready hs → {j s k : ℕ} → j < count hs → s ≡ to hs j → k ≡ getD xs s 0 →
-    ((t : ℕ) → t ≤ most-states → getD xs t 0 ≡ beginOf hs t + keyCount (to hs) j t) → (k ≡ slot (to hs) (count hs) j) × (k < most-hops)
+next-slot : (hs xs : List ℕ) → Indexable hs → {j s k : ℕ} → j < count hs → s ≡ to hs j → k ≡ getD xs s 0 →
+    ((t : ℕ) → t ≤ most-states → getD xs t 0 ≡ predecessorStart hs t + keyCount (to hs) j t) → (k ≡ slot (to hs) (count hs) j) × (k < most-hops)
 next-slot hs xs r {j} {s} l q e f = slot-next (to hs) (count hs) l (r .hops-most) q (e ∙ f s (omega (arith, r .to-in j l)))
 
 abbrev Inv-loop : tie.InvT-loop
 Inv-loop hops next₀ n places₀ j₀ next places j =
     (n ≡ count hops) × (j ≤ n) × (length next ≡ most-states + 1) × (length places ≡ most-hops) ×
-    ((s : ℕ) → s ≤ most-states → getD next s 0 ≡ beginOf hops s + keyCount (to hops) j s) × Filled hops j places
+    ((s : ℕ) → s ≤ most-states → getD next s 0 ≡ predecessorStart hops s + keyCount (to hops) j s) × PredecessorPlaces hops j places
 
 abbrev μ-loop : tie.MeasureT-loop
 μ-loop hops next₀ n places₀ j₀ next places j = n - j
@@ -31,7 +31,7 @@ hop-count-requires : tie.Need-hop-count-requires Inv-loop μ-loop
 hop-count-requires c κs = search needs
 
 loop-holds : tie.Need-loop-holds Inv-loop μ-loop
-unfolding Begins Filled
+unfolding PredecessorStarts PredecessorPlaces
 loop-holds c =
     let st = c .before .before in (
       c .hop-count .ensures,
@@ -107,7 +107,7 @@ loop-less : tie.Need-loop-less Inv-loop μ-loop
 loop-less c = omega arith
 
 loop-again : tie.Need-loop-again Inv-loop μ-loop
-unfolding Filled
+unfolding PredecessorPlaces
 loop-again c =
     let st = c .before .before .before .before .before .before .before in
     let v = c .before .before .before .before .loop in
@@ -119,7 +119,7 @@ loop-again c =
       omega arith,
       simp length-set (v .inv .2),
       simp length-set (v .inv .3),
-      (λ s m. key-count-step (to hs) (beginOf hs) (v .next) (v .j) (omega (arith, st .pre .0 .to-in (v .j) l)) q refl s (v .inv .4 s m)),
+      (λ s m. key-count-step (to hs) (predecessorStart hs) (v .next) (v .j) (omega (arith, st .pre .0 .to-in (v .j) l)) q refl s (v .inv .4 s m)),
       slot-step (to hs) (count hs) (λ (i : ℕ). i) (v .places) l k (omega arith) refl (v .inv .5),
     )
 

@@ -1,6 +1,6 @@
 -- `graph_successors::find_row` meets its contract: the places of a state's hops bracket the search, and none of them stands behind. Assumes nothing.
 use borrow.Author.Needs.{needs}
-use Rattle.graph_successors.proofs.Rows.{table-bracket, table-ended}
+use Rattle.graph_successors.proofs.Rows.{index-bracket, index-absent}
 use Rattle.graph_successors.proofs.find_row.Statement.{statement}
 use Rattle.graph_successors.proofs.find_row.Tie as tie
 
@@ -22,8 +22,8 @@ find-between-requires c κs =
     let s = c .before .before .wide .ensures in (
       st .pre .0 .ascending,
       (
-        table-bracket _ _ (st .pre .0 .ascending) (st .pre .1 .0) _ s (st .pre .1 .1) (c .before .start-of .ensures) (c .start-of2 .ensures),
-        table-ended _ _ (st .pre .0 .ascending) (st .pre .1 .0) _ s (st .pre .1 .1) (c .start-of2 .ensures),
+        index-bracket _ _ (st .pre .0 .ascending) (st .pre .1 .0) _ s (st .pre .1 .1) (c .before .start-of .ensures) (c .start-of2 .ensures),
+        index-absent _ _ (st .pre .0 .ascending) (st .pre .1 .0) _ s (st .pre .1 .1) (c .start-of2 .ensures),
       ),
     )
 

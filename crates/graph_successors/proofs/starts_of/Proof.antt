@@ -6,7 +6,7 @@ use lib.ListN.{length, getD, length-set, length-replicate}
 use Rattle.graph.specs.Search.{firstOf}
 use Rattle.graph.specs.Answers.{most-states}
 use Rattle.graph.proofs.Lookup.{first-within}
-use Rattle.graph_successors.specs.Starts.{Table}
+use Rattle.graph_successors.specs.SuccessorIndex.{SuccessorIndex}
 use Rattle.graph_successors.proofs.Firsts.{first-is, filled-more}
 use Rattle.graph_successors.proofs.starts_of.Statement.{statement}
 use Rattle.graph_successors.proofs.starts_of.Tie as tie
@@ -53,7 +53,7 @@ loop-again c =
     (simp length-set (v .0), omega arith, c .pass .ensures, filled-more (firstOf (c .before .before .before .before .args .hops .now)) (c .before .before .loop .starts) (omega arith) (v .2) (v .3))
 
 returns : tie.Need-returns Inv-loop μ-loop
-unfolding Table
+unfolding SuccessorIndex
 returns c = λ t l. c .before .loop .inv .3 t (omega arith)
 
 pub starts-of-spec : {M : Type 1} → statement M

@@ -4,7 +4,7 @@ use native.Mathlib.Omega.{arith}
 use lib.ListN.{length-replicate}
 use borrow.Author.Needs.{needs}
 use Rattle.graph.specs.Answers.{most-hops}
-use Rattle.graph_successors.proofs.Firsts.{admitted-ready}
+use Rattle.graph_successors.proofs.Firsts.{admitted-indexable}
 use Rattle.mark_confluence.specs.Held.{everyPair}
 use Rattle.mark_confluence.proofs.Marks.{marks-over}
 use Rattle.mark_sweeps.proofs.Settling.{first-marking}
@@ -25,7 +25,7 @@ settle-requires : tie.Need-settle-requires
 settle-requires c κs =
     let st = c .before .before .before .before .before .before .before .before .before .before in
     let a = st .pre .0 .admitted in (
-      record { admitted = a; ready = admitted-ready a; lined = c .before .before .before .before .before .before .line-of .ensures },
+      record { admitted = a; ready = admitted-indexable a; lined = c .before .before .before .before .before .before .line-of .ensures },
       first-marking _ _ (in-silent (senseOf (st .args .sense)) (st .args .shape) (st .args .hops .now)) _ _ (st .pre .1 .1) (c .before .before .before .before .start-marks .ensures),
     )
 

@@ -14,7 +14,7 @@ use Rattle.mark_confluence.specs.Rounds.{closing, answers, tried}
 use Rattle.mark_confluence.specs.Held.{heldBy}
 use Rattle.mark_diamond.specs.Walk.{Skipped}
 use Rattle.graph_successors.proofs.Firsts.{start-is}
-use Rattle.graph_successors.proofs.Rows.{row-ended}
+use Rattle.graph_successors.proofs.Rows.{row-absent}
 use Rattle.mark_diamond.proofs.Rows.{own-in, Walk, walk-start, walk-past, walk-row, walk-skip, walk-pass, likeAt, Beside, beside-start, beside-next, like-has, answered-stays, tried-before, tried-done, tried-fails, tried-next}
 use Rattle.mark_diamond.proofs.closes_at.Statement.{statement}
 use Rattle.mark_diamond.proofs.closes_at.Tie as tie
@@ -112,7 +112,7 @@ find-ahead-requires c κs =
     let lp = c .before .before .before .before .before .before .before .loop in
     let hs = st .args .hops .now in (
       st .pre .0 .ascending,
-      (rw (like c) (lp .inv .1 (lp .j) (le-refl _) (c .before .before .before .before .before .before .loop-test .taken)), rw (like c) (row-ended hs (st .pre .0 .ascending) (likeAt hs (to hs (st .args .i)) (lp .j)) (lp .inv .0 .past-is))),
+      (rw (like c) (lp .inv .1 (lp .j) (le-refl _) (c .before .before .before .before .before .before .loop-test .taken)), rw (like c) (row-absent hs (st .pre .0 .ascending) (likeAt hs (to hs (st .args .i)) (lp .j)) (lp .inv .0 .past-is))),
     )
 
 place-of-requires : tie.Need-place-of-requires Inv-loop μ-loop

@@ -8,7 +8,7 @@ use Rattle.graph.specs.Hops.{to, hopOf}
 use Rattle.mark_confluence.specs.Rounds.{closing}
 use Rattle.mark_confluence.specs.Held.{heldBy}
 use Rattle.graph_successors.proofs.Firsts.{start-is, range-more}
-use Rattle.graph_successors.proofs.Rows.{row-ended}
+use Rattle.graph_successors.proofs.Rows.{row-absent}
 use Rattle.mark_confluence.proofs.Closing.{closing-is, closing-same}
 use Rattle.mark_diamond_merge.proofs.Rows.{row-answers, row-ends}
 use Rattle.mark_diamond_merge.proofs.Along.{Along, along-start, along-next, found-marked, found-closes}
@@ -73,7 +73,7 @@ find-ahead-requires c κs =
       st .pre .0 .ascending,
       (
         rw (c .hop-of .ensures, c .before .before .before .before .to-at .ensures) (lp .inv .2 (lp .k) (omega arith) (omega arith, omega arith)),
-        rw (c .hop-of .ensures) (row-ended (st .args .hops .now) (st .pre .0 .ascending) (hopOf _ 0 _) end),
+        rw (c .hop-of .ensures) (row-absent (st .args .hops .now) (st .pre .0 .ascending) (hopOf _ 0 _) end),
       ),
     )
 

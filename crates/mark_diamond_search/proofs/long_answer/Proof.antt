@@ -8,13 +8,13 @@ use lib.ListN.{getD}
 use Rattle.graph.specs.Hops.{count}
 use Rattle.graph.specs.Answers.{most-states}
 use Rattle.graph.proofs.Lookup.{first-within}
-use Rattle.graph_successors.specs.Starts.{Table, Ready}
+use Rattle.graph_successors.specs.SuccessorIndex.{SuccessorIndex, Indexable}
 use Rattle.graph_successors.proofs.Firsts.{start-is}
 use Rattle.mark_diamond_search.proofs.long_answer.Statement.{statement}
 use Rattle.mark_diamond_search.proofs.long_answer.Tie as tie
 
 -- the place past the hops of s is one of the list, or past its last
-past-in : (hs st : List ℕ) → Ready hs → Table hs st → {s t past : ℕ} → s < most-states → t ≡ s → past ≡ getD st (t + 1) 0 → past ≤ count hs
+past-in : (hs st : List ℕ) → Indexable hs → SuccessorIndex hs st → {s t past : ℕ} → s < most-states → t ≡ s → past ≡ getD st (t + 1) 0 → past ≤ count hs
 past-in hs st ready table {s} l q e =
     omega (arith, start-is hs st table _ (ap (λ (x : ℕ). x + 1) q) (omega arith) e, first-within hs (ready .ascending) (s + 1))
 

@@ -1,7 +1,7 @@
 -- `mark_entry_fast::mark_fast` meets its contract: acceptance gives what marking needs. Assumes nothing.
 use borrow.Author.Needs.{needs}
 use Rattle.graph_check.proofs.Checked.{check-admitted}
-use Rattle.graph_successors.proofs.Firsts.{admitted-ready}
+use Rattle.graph_successors.proofs.Firsts.{admitted-indexable}
 use Rattle.mark_entry.proofs.Entry.{mark-refused, mark-capacity, output-same}
 use Rattle.mark_entry_fast.proofs.First.{first-later, first-marked}
 use Rattle.mark_entry_fast.proofs.Counting.{counted-refused, counted-done}
@@ -17,7 +17,7 @@ returns c =
     (counted-refused _ _ _ d (c .if1 .taken), output-same _ _ _ _ (rw d at (c .if1 .taken)))
 
 starts-of-requires : tie.Need-starts-of-requires
-starts-of-requires c κs = admitted-ready (check-admitted _ _ (rw (c .before .before .check .ensures) at (c .if1 .left)))
+starts-of-requires c κs = admitted-indexable (check-admitted _ _ (rw (c .before .before .check .ensures) at (c .if1 .left)))
 
 later-answer-requires : tie.Need-later-answer-requires
 later-answer-requires c κs =
@@ -34,7 +34,7 @@ mark-rounds-requires c κs =
     let e = c .before .before .before .before .before .before .before .before .before .check .ensures in
     let z = c .before .before .before .before .before .before .before .if1 .left in
     let d = first-later _ _ (st .args .marks .now) e z (c .before .before .before .before .later-answer .ensures) in
-    (admitted-ready (check-admitted _ _ (rw e at z)), (c .before .before .before .before .before .before .starts-of .ensures, mark-capacity _ _ _ _ (rw d at (c .before .before .if2 .left))))
+    (admitted-indexable (check-admitted _ _ (rw e at z)), (c .before .before .before .before .before .before .starts-of .ensures, mark-capacity _ _ _ _ (rw d at (c .before .before .if2 .left))))
 
 same-length : tie.Need-same-length
 same-length c = search needs

@@ -22,11 +22,11 @@ Inv-loop hops starts marks₀ queue₀ flags₀ fallen₀ lost tests begins plac
 abbrev μ-loop : tie.MeasureT-loop
 μ-loop hops starts marks₀ queue₀ flags₀ fallen₀ lost tests begins places leaving left₀ sum₀ marks queue flags fallen left sum = tally (count hops) (isMarked marks) + cond (ltb 0 left) 1 0
 
-begins-of-requires : tie.Need-begins-of-requires Inv-loop μ-loop
-begins-of-requires c κs = c .before .before .pre .0
+predecessor-starts-requires : tie.Need-predecessor-starts-requires Inv-loop μ-loop
+predecessor-starts-requires c κs = c .before .before .pre .0
 
 places-of-requires : tie.Need-places-of-requires Inv-loop μ-loop
-places-of-requires c κs = (c .before .before .before .before .pre .0, c .before .begins-of .ensures)
+places-of-requires c κs = (c .before .before .before .before .pre .0, c .before .predecessor-starts .ensures)
 
 leaving-of-requires : tie.Need-leaving-of-requires Inv-loop μ-loop
 leaving-of-requires c κs =
@@ -36,7 +36,7 @@ leaving-of-requires c κs =
 loop-holds : tie.Need-loop-holds Inv-loop μ-loop
 loop-holds c =
     let st = c .before .before .before .before .before .before .before in
-    (refl, record { ready = st .pre .0; table = st .pre .1 .0; begins = c .before .before .before .before .begins-of .ensures; filled = c .before .before .places-of .ensures }, c .leaving-of .ensures, st .pre .1 .1 .1 .0, st .pre .1 .1 .1 .1)
+    (refl, record { ready = st .pre .0; table = st .pre .1 .0; begins = c .before .before .before .before .predecessor-starts .ensures; filled = c .before .before .places-of .ensures }, c .leaving-of .ensures, st .pre .1 .1 .1 .0, st .pre .1 .1 .1 .1)
 
 next-due-requires : tie.Need-next-due-requires Inv-loop μ-loop
 unfolding Listed
@@ -138,7 +138,7 @@ later-rounds-spec =
     (tie.spec
     Inv-loop
     μ-loop
-    begins-of-requires
+    predecessor-starts-requires
     places-of-requires
     leaving-of-requires
     loop-holds

@@ -5,8 +5,8 @@ use native.Mathlib.Omega.{arith}
 use borrow.Author.Needs.{needs}
 use Rattle.base_bounded.proofs.Slots.{key-start-step, key-start-within}
 use Rattle.graph.specs.Hops.{count, from, to}
-use Rattle.graph_predecessors.specs.Ends.{beginOf}
-use Rattle.graph_predecessors.proofs.Ends.{place-in}
+use Rattle.graph_predecessors.specs.PredecessorIndex.{predecessorStart}
+use Rattle.graph_predecessors.proofs.PredecessorIndex.{place-in}
 use Rattle.mark_worklist_push.specs.Queue.{Noted}
 use Rattle.mark_worklist_push.proofs.Walks.{Walked, walk-none, walk-more, Tries, tries-at, tries-all, begin-is}
 use Rattle.mark_worklist_next.proofs.note_fallen.Statement.{statement}
@@ -14,7 +14,7 @@ use Rattle.mark_worklist_next.proofs.note_fallen.Tie as tie
 
 abbrev Inv-loop : tie.InvT-loop
 Inv-loop hops starts begins places leaving marks flags₀ queue₀ n p s3 past length₀ k₀ flags queue length k =
-    (k₀ ≡ beginOf hops (from hops p)) × (past ≡ beginOf hops (from hops p + 1)) × (k₀ ≤ k) × (k ≤ past) ×
+    (k₀ ≡ predecessorStart hops (from hops p)) × (past ≡ predecessorStart hops (from hops p + 1)) × (k₀ ≤ k) × (k ≤ past) ×
     Noted hops marks (Walked (Tries hops marks places p) k₀ k) flags₀ flags queue length
 
 abbrev μ-loop : tie.MeasureT-loop

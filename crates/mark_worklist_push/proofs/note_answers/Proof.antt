@@ -5,8 +5,8 @@ use native.Mathlib.Omega.{arith}
 use borrow.Author.Needs.{needs}
 use Rattle.base_bounded.proofs.Slots.{key-start-step, key-start-within}
 use Rattle.graph.specs.Hops.{count, to}
-use Rattle.graph_predecessors.specs.Ends.{beginOf}
-use Rattle.graph_predecessors.proofs.Ends.{place-in}
+use Rattle.graph_predecessors.specs.PredecessorIndex.{predecessorStart}
+use Rattle.graph_predecessors.proofs.PredecessorIndex.{place-in}
 use Rattle.mark_worklist_push.specs.Queue.{Noted}
 use Rattle.mark_worklist_push.proofs.Walks.{Walked, walk-none, walk-more, Into, into-at, into-all, begin-is}
 use Rattle.mark_worklist_push.proofs.note_answers.Statement.{statement}
@@ -14,7 +14,7 @@ use Rattle.mark_worklist_push.proofs.note_answers.Tie as tie
 
 abbrev Inv-loop : tie.InvT-loop
 Inv-loop hops starts begins places marks flags₀ queue₀ n j p s4 past length₀ k₀ flags queue length k =
-    (k₀ ≡ beginOf hops (to hops p)) × (past ≡ beginOf hops (to hops p + 1)) × (k₀ ≤ k) × (k ≤ past) ×
+    (k₀ ≡ predecessorStart hops (to hops p)) × (past ≡ predecessorStart hops (to hops p + 1)) × (k₀ ≤ k) × (k ≤ past) ×
     Noted hops marks (Walked (Into hops marks places j p) k₀ k) flags₀ flags queue length
 
 abbrev μ-loop : tie.MeasureT-loop

@@ -1,12 +1,12 @@
 -- `shrink_step::look` meets its contract: a mark stands exactly where a hop of the marked set does. Assumes nothing.
-use Rattle.graph_successors.proofs.Firsts.{admitted-ready}
+use Rattle.graph_successors.proofs.Firsts.{admitted-indexable}
 use Rattle.shrink_step.proofs.Looking.{some-told}
 use borrow.Author.Needs.{needs}
 use Rattle.shrink_step.proofs.look.Statement.{statement}
 use Rattle.shrink_step.proofs.look.Tie as tie
 
 starts-of-requires : tie.Need-starts-of-requires
-starts-of-requires c κs = admitted-ready (c .before .before .pre .0 .admitted)
+starts-of-requires c κs = admitted-indexable (c .before .before .pre .0 .admitted)
 
 mark-in-requires : tie.Need-mark-in-requires
 mark-in-requires c κs = search needs

@@ -1,6 +1,6 @@
 -- `graph::search::find` meets its contract: the whole list brackets every hop, and none stands behind it. Assumes nothing.
 use borrow.Author.Needs.{needs}
-use Rattle.graph.proofs.Lookup.{whole-bracket, whole-ended}
+use Rattle.graph.proofs.Lookup.{whole-bracket, whole-absent}
 use Rattle.graph.proofs.search.find.Statement.{statement}
 use Rattle.graph.proofs.search.find.Tie as tie
 
@@ -8,7 +8,7 @@ hop-count-requires : tie.Need-hop-count-requires
 hop-count-requires c κs = search needs
 
 find-between-requires : tie.Need-find-between-requires
-find-between-requires c κs = (c .before .before .pre, (whole-bracket _ _ (c .hop-count .ensures), whole-ended _ _ (c .hop-count .ensures)))
+find-between-requires c κs = (c .before .before .pre, (whole-bracket _ _ (c .hop-count .ensures), whole-absent _ _ (c .hop-count .ensures)))
 
 returns : tie.Need-returns
 returns c = search needs

@@ -10,7 +10,7 @@ use Rattle.graph.specs.Sum.{sumOf, Narrow}
 use Rattle.graph.specs.Search.{Bracket}
 use Rattle.graph.specs.declared.Hop.{Hop}
 use Rattle.graph.proofs.Sums.{sums-met}
-use Rattle.graph.proofs.Lookup.{raise, cut, lower-met, sum-bracket, sums-is, find-told, find-end}
+use Rattle.graph.proofs.Lookup.{raise, cut, lower-met, sum-bracket, sums-is, find-found, find-end}
 use Rattle.graph.proofs.search.find_ahead.Statement.{statement}
 use Rattle.graph.proofs.search.find_ahead.Tie as tie
 
@@ -38,8 +38,8 @@ sum-of-requires-2 c κs = search needs
 is-below-requires : tie.Need-is-below-requires Inv-loop μ-loop
 is-below-requires c κs = search needs
 
-told-requires : tie.Need-told-requires Inv-loop μ-loop
-told-requires c κs = search needs
+found-or-gap-requires : tie.Need-found-or-gap-requires Inv-loop μ-loop
+found-or-gap-requires c κs = search needs
 
 returns : tie.Need-returns Inv-loop μ-loop
 returns c =
@@ -49,7 +49,7 @@ returns c =
     let s = c .before .before .before .sum-of2 .ensures in
     let b = c .before .before .before .before .before .before .loop .inv .2 _ q in
     let at = lower-met _ _ (cut _ _ (st .pre .0) _ _ _ b (le-refl _) (omega arith) (sums-met h (c .before .before .is-below .ensures) s q (not-true _ (c .before .if1 .taken)))) (le-refl _) in
-    c .told .ensures ∙ find-told _ _ (sym at) (omega arith) (sums-is _ _ _ h s q)
+    c .found-or-gap .ensures ∙ find-found _ _ (sym at) (omega arith) (sums-is _ _ _ h s q)
 
 add-at : tie.Need-add-at Inv-loop μ-loop
 add-at c = search needs
@@ -66,13 +66,13 @@ loop-again c =
           (sums-met (c .before .before .before .hop-at .ensures) (c .before .is-below .ensures) (c .before .before .sum-of2 .ensures) q (not-false _ (c .if1 .left))),
     )
 
-told-requires-2 : tie.Need-told-requires-2 Inv-loop μ-loop
-told-requires-2 c κs = search needs
+found-or-gap-requires-2 : tie.Need-found-or-gap-requires-2 Inv-loop μ-loop
+found-or-gap-requires-2 c κs = search needs
 
 returns-2 : tie.Need-returns-2 Inv-loop μ-loop
 returns-2 c =
     let st = c .before .before .before .before .before in
-    c .told2 .ensures ∙ find-end _ _ (sym (lower-met _ _ (c .before .before .loop .inv .2 _ (c .before .before .before .sum-of .ensures)) (c .before .loop-test .left))) (c .before .loop-test .left) (st .pre .1 .1)
+    c .found-or-gap2 .ensures ∙ find-end _ _ (sym (lower-met _ _ (c .before .before .loop .inv .2 _ (c .before .before .before .sum-of .ensures)) (c .before .loop-test .left))) (c .before .loop-test .left) (st .pre .1 .1)
 
 pub find-ahead-spec : {M : Type 1} → statement M
 find-ahead-spec =
@@ -85,10 +85,10 @@ find-ahead-spec =
     hop-at-requires
     sum-of-requires-2
     is-below-requires
-    told-requires
+    found-or-gap-requires
     returns
     add-at
     loop-less
     loop-again
-    told-requires-2
+    found-or-gap-requires-2
     returns-2)

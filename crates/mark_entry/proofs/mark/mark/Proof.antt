@@ -1,7 +1,7 @@
 -- `mark_entry::mark::mark` meets its contract: acceptance gives what marking needs. Assumes nothing.
 use borrow.Author.Needs.{needs}
 use Rattle.graph_check.proofs.Checked.{check-admitted}
-use Rattle.graph_successors.proofs.Firsts.{admitted-ready}
+use Rattle.graph_successors.proofs.Firsts.{admitted-indexable}
 use Rattle.mark_entry.proofs.Entry.{mark-refused, mark-sensed, mark-later, mark-ringless, mark-capacity, output-marked, output-same}
 use Rattle.mark_entry.proofs.mark.mark.Statement.{statement}
 use Rattle.mark_entry.proofs.mark.mark.Tie as tie
@@ -23,7 +23,7 @@ returns-2 c =
     (d, output-same _ _ _ _ (rw d at (c .if2 .taken)))
 
 starts-of-requires : tie.Need-starts-of-requires
-starts-of-requires c κs = admitted-ready (check-admitted _ _ (rw (c .before .before .before .before .before .check .ensures) at (c .before .before .before .if1 .left)))
+starts-of-requires c κs = admitted-indexable (check-admitted _ _ (rw (c .before .before .before .before .before .check .ensures) at (c .before .before .before .if1 .left)))
 
 later-answer-requires : tie.Need-later-answer-requires
 later-answer-requires c κs = record { admitted = check-admitted _ _ (rw (c .before .before .before .before .before .before .before .check .ensures) at (c .before .before .before .before .before .if1 .left)); table = c .before .starts-of .ensures }

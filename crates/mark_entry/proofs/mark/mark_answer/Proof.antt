@@ -1,7 +1,7 @@
 -- `mark_entry::mark::mark_answer` meets its contract: rows 1 to 4 speak, or row 19, or the later ones do. Assumes nothing.
 use borrow.Author.Needs.{needs}
 use Rattle.graph_check.proofs.Checked.{check-admitted}
-use Rattle.graph_successors.proofs.Firsts.{admitted-ready}
+use Rattle.graph_successors.proofs.Firsts.{admitted-indexable}
 use Rattle.mark_entry.proofs.Entry.{mark-refused, mark-sensed, mark-later}
 use Rattle.mark_entry.proofs.mark.mark_answer.Statement.{statement}
 use Rattle.mark_entry.proofs.mark.mark_answer.Tie as tie
@@ -19,7 +19,7 @@ returns-2 : tie.Need-returns-2
 returns-2 c = mark-sensed _ _ _ _ (c .before .before .before .before .before .check .ensures) (c .before .before .before .if1 .left) (c .before .before .sense-answer .ensures) (c .if2 .taken)
 
 starts-of-requires : tie.Need-starts-of-requires
-starts-of-requires c κs = admitted-ready (check-admitted _ _ (rw (c .before .before .before .before .before .check .ensures) at (c .before .before .before .if1 .left)))
+starts-of-requires c κs = admitted-indexable (check-admitted _ _ (rw (c .before .before .before .before .before .check .ensures) at (c .before .before .before .if1 .left)))
 
 later-answer-requires : tie.Need-later-answer-requires
 later-answer-requires c κs = record { admitted = check-admitted _ _ (rw (c .before .before .before .before .before .before .before .check .ensures) at (c .before .before .before .before .before .if1 .left)); table = c .before .starts-of .ensures }

@@ -4,14 +4,14 @@ use Prim.Native.Nat.{ℕ, _+_, _*_}
 use native.Mathlib.Omega.{arith}
 use lib.ListN.{length-replicate}
 use Rattle.graph.specs.Answers.{most-hops}
-use Rattle.graph_successors.proofs.Firsts.{admitted-ready}
+use Rattle.graph_successors.proofs.Firsts.{admitted-indexable}
 use Rattle.mark_equations.proofs.Known.{nothing-said}
 use Rattle.mark_entry_round.specs.Question.{most-rounds}
 use Rattle.mark_entry_round.proofs.question.survives_rounds.Statement.{statement}
 use Rattle.mark_entry_round.proofs.question.survives_rounds.Tie as tie
 
 starts-of-requires : tie.Need-starts-of-requires
-starts-of-requires c κs = admitted-ready (c .before .pre .0)
+starts-of-requires c κs = admitted-indexable (c .before .pre .0)
 
 slice-aggregate-x : tie.Need-slice-aggregate-x
 slice-aggregate-x c = search needs
@@ -24,7 +24,7 @@ x-requires c κs =
       (
         s .pre .1 .1 .0,
         record {
-          ready = admitted-ready ok;
+          ready = admitted-indexable ok;
           label-in = λ i l. omega (arith, ok .range .label-in i l, ok .labels-most);
           table = c .before .before .starts-of .ensures;
           capacity = omega (arith, length-replicate {A = ℕ} ((most-rounds + 1) * most-hops) 0);

@@ -1,7 +1,7 @@
 -- `reduce_entry::entry::reduce` meets its contract: a refusal writes nothing, and acceptance gives what the reduction needs. Assumes nothing.
 use mathlib.Core.Path.{_∙_}
 use Rattle.graph_check.proofs.Checked.{check-admitted}
-use Rattle.graph_successors.proofs.Firsts.{admitted-ready}
+use Rattle.graph_successors.proofs.Firsts.{admitted-indexable}
 use Rattle.reduce_entry.proofs.Answering.{answer-checked, answer-later, reduce-reducible, reduce-map-capacity, reduce-short-capacity, refused-returns, refused-map, refused-short, accepted-returns, accepted-map, accepted-short}
 use borrow.Author.Needs.{needs}
 use Rattle.reduce_entry.proofs.entry.reduce.Statement.{statement}
@@ -23,7 +23,7 @@ returns c =
     (c .refused-reduction .ensures ∙ refused-returns _ _ _ map short d n, (refused-map _ _ _ map short d n, refused-short _ _ _ map short d n))
 
 starts-of-requires : tie.Need-starts-of-requires
-starts-of-requires c κs = admitted-ready (check-admitted _ _ (rw (c .before .before .check .ensures) at (c .if1 .left)))
+starts-of-requires c κs = admitted-indexable (check-admitted _ _ (rw (c .before .before .check .ensures) at (c .if1 .left)))
 
 later-answer-requires : tie.Need-later-answer-requires
 later-answer-requires c κs =

@@ -1,6 +1,6 @@
 -- `reduce_entry::entry::reduce_answer` meets its contract: rows 1 to 4 speak, or the later ones do. Assumes nothing.
 use Rattle.graph_check.proofs.Checked.{check-admitted}
-use Rattle.graph_successors.proofs.Firsts.{admitted-ready}
+use Rattle.graph_successors.proofs.Firsts.{admitted-indexable}
 use Rattle.reduce_entry.proofs.Answering.{answer-checked, answer-later}
 use borrow.Author.Needs.{needs}
 use Rattle.reduce_entry.proofs.entry.reduce_answer.Statement.{statement}
@@ -13,7 +13,7 @@ returns : tie.Need-returns
 returns c = answer-checked _ _ _ _ _ (c .before .before .check .ensures) (c .if1 .taken)
 
 starts-of-requires : tie.Need-starts-of-requires
-starts-of-requires c κs = admitted-ready (check-admitted _ _ (rw (c .before .before .check .ensures) at (c .if1 .left)))
+starts-of-requires c κs = admitted-indexable (check-admitted _ _ (rw (c .before .before .check .ensures) at (c .if1 .left)))
 
 later-answer-requires : tie.Need-later-answer-requires
 later-answer-requires c κs =

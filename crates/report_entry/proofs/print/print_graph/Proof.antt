@@ -1,5 +1,5 @@
 -- `report_entry::print::print_graph` meets its contract: of a graph that is admitted only row 5 is left to ask. Assumes nothing.
-use Rattle.graph_successors.proofs.Firsts.{admitted-ready}
+use Rattle.graph_successors.proofs.Firsts.{admitted-indexable}
 use Rattle.report_text.proofs.Puts.{put-same}
 use Rattle.report_entry.proofs.Lengths.{refusal-most}
 use Rattle.report_entry.proofs.Shown.{graph-refused, graph-reducible, graph-accepted, text-capacity}
@@ -8,7 +8,7 @@ use Rattle.report_entry.proofs.print.print_graph.Statement.{statement}
 use Rattle.report_entry.proofs.print.print_graph.Tie as tie
 
 starts-of-requires : tie.Need-starts-of-requires
-starts-of-requires c κs = let st = c .before .before in admitted-ready (st .pre .0)
+starts-of-requires c κs = let st = c .before .before in admitted-indexable (st .pre .0)
 
 ring-answer-requires : tie.Need-ring-answer-requires
 ring-answer-requires c κs = let st = c .before .before .before .before in record { admitted = st .pre .0; table = c .before .starts-of .ensures }

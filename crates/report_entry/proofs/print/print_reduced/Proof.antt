@@ -3,7 +3,7 @@ use native.Mathlib.Omega.{arith}
 use mathlib.Core.Path.{sym}
 use lib.ListN.{replicate}
 use Rattle.graph.specs.Answers.{most-states, most-hops, most-numbers}
-use Rattle.graph_successors.proofs.Firsts.{admitted-ready}
+use Rattle.graph_successors.proofs.Firsts.{admitted-indexable}
 use Rattle.reduce_representatives.proofs.Marked.{held-settles}
 use Rattle.reduce_entry.proofs.Marked.{left-marks}
 use Rattle.report_text.proofs.Puts.{put-same, capacity-same}
@@ -20,7 +20,7 @@ mark-rounds-requires : tie.Need-mark-rounds-requires
 mark-rounds-requires c κs =
     let st = c .before .before .before in
     let adm = st .pre .0 .admitted in
-    (admitted-ready adm, (st .pre .1 .0, omega (arith, adm .hops-most)))
+    (admitted-indexable adm, (st .pre .1 .0, omega (arith, adm .hops-most)))
 
 slice-aggregate-reduce-marked : tie.Need-slice-aggregate-reduce-marked
 slice-aggregate-reduce-marked c = search needs

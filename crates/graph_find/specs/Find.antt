@@ -37,5 +37,5 @@ pub record Finds (sh : Shape) (hs : List ℕ) (s a t : ℕ) (f : Finding) : Type
   pub outside-not : (sh .states ≤ s) ⊎ ((sh .labels ≤ a) ⊎ (sh .states ≤ t)) → f .found ≡ 0
 
 -- the number in 16 bits by which x is sought: any from 65,535 on stands behind every number of an admitted graph
-unfoldable pub narrowed : ℕ → ℕ
-narrowed x = cond (ltb x 65535) x 65535
+unfoldable pub saturated : ℕ → ℕ
+saturated x = cond (ltb x 65535) x 65535

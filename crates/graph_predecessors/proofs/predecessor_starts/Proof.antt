@@ -1,4 +1,4 @@
--- `graph_predecessors::begins_of` meets its contract: below s the table says where the hops begin, from s on still how many there are. Assumes nothing.
+-- `graph_predecessors::predecessor_starts` meets its contract: below s the table says where the hops begin, from s on still how many there are. Assumes nothing.
 use Prim.Native.Nat.{ℕ, _+_, _-_, _<_, _≤_}
 use mathlib.Core.Path.{_≡_, sym, _∙_}
 use native.Mathlib.Omega.{arith}
@@ -10,13 +10,13 @@ use Rattle.base_bounded.proofs.Slots.{key-start-zero, key-start-step, key-start
 use Rattle.graph.specs.Hops.{count, to}
 use Rattle.graph.specs.Answers.{most-states}
 use Rattle.graph_successors.proofs.Firsts.{filled-more}
-use Rattle.graph_predecessors.specs.Ends.{beginOf, Counted, Begins}
-use Rattle.graph_predecessors.proofs.begins_of.Statement.{statement}
-use Rattle.graph_predecessors.proofs.begins_of.Tie as tie
+use Rattle.graph_predecessors.specs.PredecessorIndex.{predecessorStart, InDegrees, PredecessorStarts}
+use Rattle.graph_predecessors.proofs.predecessor_starts.Statement.{statement}
+use Rattle.graph_predecessors.proofs.predecessor_starts.Tie as tie
 
 abbrev Inv-loop : tie.InvT-loop
 Inv-loop hops begins₀ at₀ s₀ begins at s =
-    (length begins ≡ most-states + 1) × (s ≤ most-states + 1) × (at ≡ beginOf hops s) × ((t : ℕ) → t < s → getD begins t 0 ≡ beginOf hops t) ×
+    (length begins ≡ most-states + 1) × (s ≤ most-states + 1) × (at ≡ predecessorStart hops s) × ((t : ℕ) → t < s → getD begins t 0 ≡ predecessorStart hops t) ×
     ((t : ℕ) → s ≤ t → t ≤ most-states → getD begins t 0 ≡ keyCount (to hops) (count hops) t)
 
 abbrev μ-loop : tie.MeasureT-loop
@@ -26,7 +26,7 @@ ends-of-requires : tie.Need-ends-of-requires Inv-loop μ-loop
 ends-of-requires c κs = search needs
 
 loop-holds : tie.Need-loop-holds Inv-loop μ-loop
-unfolding Counted
+unfolding InDegrees
 loop-holds c = (search needs, omega arith, sym (key-start-zero _ _), (λ t l. absurd (omega arith)), (λ t l m. c .ends-of .ensures t m))
 
 mul-ending : tie.Need-mul-ending Inv-loop μ-loop
@@ -45,7 +45,7 @@ add-at : tie.Need-add-at Inv-loop μ-loop
 add-at c =
     let st = c .before .before .before .before in
     let v = c .before .loop in
-    let e : v .at + getD (v .begins) (v .s) 0 ≡ beginOf (st .args .hops .now) (v .s + 1) =
+    let e : v .at + getD (v .begins) (v .s) 0 ≡ predecessorStart (st .args .hops .now) (v .s + 1) =
     omega (arith, key-start-step (to (st .args .hops .now)) (count (st .args .hops .now)) (v .s), v .inv .4 (v .s) (omega arith) (omega arith)) in
     omega (arith, key-start-within (to (st .args .hops .now)) (count (st .args .hops .now)) (v .s + 1), st .pre .hops-most)
 
@@ -62,16 +62,16 @@ loop-again c =
       simp length-set (v .inv .0),
       omega arith,
       omega (arith, key-start-step (to (st .args .hops .now)) (count (st .args .hops .now)) (v .s), v .inv .4 (v .s) (omega arith) (omega arith)),
-      filled-more (beginOf (st .args .hops .now)) (v .begins) (omega arith) (v .inv .2) (v .inv .3),
+      filled-more (predecessorStart (st .args .hops .now)) (v .begins) (omega arith) (v .inv .2) (v .inv .3),
       (λ t l m. getD-set-other (v .begins) (v .s) t (v .at) 0 (λ q. omega arith) ∙ v .inv .4 t (omega arith) m),
     )
 
 returns : tie.Need-returns Inv-loop μ-loop
-unfolding Begins
+unfolding PredecessorStarts
 returns c = λ t l. c .before .loop .inv .3 t (omega arith)
 
-pub begins-of-spec : {M : Type 1} → statement M
-begins-of-spec =
+pub predecessor-starts-spec : {M : Type 1} → statement M
+predecessor-starts-spec =
     tie.close
     (tie.spec
     Inv-loop

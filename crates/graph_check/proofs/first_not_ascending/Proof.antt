@@ -1,12 +1,12 @@
--- `graph_check::first_falling` meets its contract: the hops passed so far rise, and the sum that is kept is that of the last of them. Assumes nothing.
+-- `graph_check::first_not_ascending` meets its contract: the hops passed so far rise, and the sum that is kept is that of the last of them. Assumes nothing.
 use borrow.Author.Needs.{needs}
 use Prim.Native.Nat.{_≤_, _-_}
 use mathlib.Core.Path.{_≡_, sym, _∙_}
 use native.Mathlib.Omega.{arith}
 use Rattle.graph.specs.Hops.{count}
-use Rattle.graph_check.proofs.Rising.{Risen, sum-at, begins, goes-on, falls, ends, empty}
-use Rattle.graph_check.proofs.first_falling.Statement.{statement}
-use Rattle.graph_check.proofs.first_falling.Tie as tie
+use Rattle.graph_check.proofs.Ascending.{Risen, sum-at, begins, goes-on, falls, ends, empty}
+use Rattle.graph_check.proofs.first_not_ascending.Statement.{statement}
+use Rattle.graph_check.proofs.first_not_ascending.Tie as tie
 
 abbrev Inv-loop : tie.InvT-loop
 Inv-loop hops n last₀ i₀ last i = (n ≡ count hops) × (i ≤ n) × Risen hops i last
@@ -61,8 +61,8 @@ loop-again c = (
 returns-3 : tie.Need-returns-3 Inv-loop μ-loop
 returns-3 c = ends _ (c .before .loop .inv .0) (omega arith) (omega arith) (c .before .loop .inv .2)
 
-pub first-falling-spec : {M : Type 1} → statement M
-first-falling-spec =
+pub first-not-ascending-spec : {M : Type 1} → statement M
+first-not-ascending-spec =
     tie.close
     (tie.spec
     Inv-loop

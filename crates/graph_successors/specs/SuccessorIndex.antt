@@ -12,17 +12,17 @@ use Rattle.graph_check.specs.Check.{Admitted}
 use Rattle.graph.specs.declared.Shape.{Shape}
 
 -- the table of first places, one for each state that can be and one past the last
-unfoldable pub Table : List ℕ → List ℕ → Type 0
-Table hs st = (s : ℕ) → s ≤ most-states → getD st s 0 ≡ firstOf hs s
+unfoldable pub SuccessorIndex : List ℕ → List ℕ → Type 0
+SuccessorIndex hs st = (s : ℕ) → s ≤ most-states → getD st s 0 ≡ firstOf hs s
 
 -- what the table, and a walk by it from one end of a hop to the other, need of a hop list; `check` sees to it
-pub record Ready (hs : List ℕ) : Type 0 where
+pub record Indexable (hs : List ℕ) : Type 0 where
   pub ascending : Ascending hs
   pub hops-most : count hs ≤ most-hops
   pub from-in : (i : ℕ) → i < count hs → from hs i < most-states
   pub to-in : (i : ℕ) → i < count hs → to hs i < most-states
 
 -- an admitted graph and its table
-pub record Tabled (sh : Shape) (hs st : List ℕ) : Type 0 where
+pub record Indexed (sh : Shape) (hs st : List ℕ) : Type 0 where
   pub admitted : Admitted sh hs
-  pub table : Table hs st
+  pub table : SuccessorIndex hs st

@@ -11,7 +11,7 @@ use Rattle.base_bounded.specs.Quantifiers.{least}
 use Rattle.graph.specs.Hops.{count, hopAt}
 use Rattle.graph.specs.Sum.{sumOf, Narrow}
 use Rattle.graph.specs.declared.Hop.{Hop}
-use Rattle.graph_check.specs.Check.{rises, firstFalling}
+use Rattle.graph_check.specs.Check.{ascendsAt, firstNotAscending}
 use Rattle.base_bounded.proofs.Quantifiers.{least-none, least-more, least-found, least-done}
 use Rattle.graph.proofs.Sums.{sums-before}
 
@@ -27,16 +27,16 @@ module _ (hs : List ℕ) where
   pub record Risen (i last : ℕ) : Type 0 where
     pub some : 1 ≤ i
     pub kept : SumAt (i - 1) last
-    pub none-falls : least i (λ (j : ℕ). not (rises hs j)) ≡ i
+    pub none-falls : least i (λ (j : ℕ). not (ascendsAt hs j)) ≡ i
 
   pub begins : {last : ℕ} → SumAt 0 last → Risen 1 last
-  unfolding rises
+  unfolding ascendsAt
   begins s = record { some = omega arith; kept = s; none-falls = least-more _ 0 (least-none _) refl }
 
   module _ (i : ℕ) {last sum : ℕ} {up : Bool} (r : Risen i last) (s : SumAt i sum) (q : up ≡ ltb last sum) where
     -- the hop at place i is above the one before exactly when its sum is above the one kept
-    rises-by : up ≡ rises hs i
-    unfolding rises
+    rises-by : up ≡ ascendsAt hs i
+    unfolding ascendsAt
     rises-by = let some = r .some in rw (ne-eqb i 0 (λ z. omega arith)) (sums-before q (r .kept .made) (s .made))
 
     pub goes-on : not up ≡ false → Risen (i + 1) sum
@@ -46,15 +46,15 @@ module _ (hs : List ℕ) where
       none-falls = least-more _ i (r .none-falls) (ap not (sym rises-by) ∙ e);
     }
 
-    pub falls : i < count hs → not up ≡ true → i ≡ firstFalling hs
-    unfolding firstFalling
+    pub falls : i < count hs → not up ≡ true → i ≡ firstNotAscending hs
+    unfolding firstNotAscending
     falls l e = sym (least-found _ (count hs) l (r .none-falls) (ap not (sym rises-by) ∙ e))
 
-  pub ends : {n i last : ℕ} → n ≡ count hs → i ≤ n → n ≤ i → Risen i last → n ≡ firstFalling hs
-  unfolding firstFalling
+  pub ends : {n i last : ℕ} → n ≡ count hs → i ≤ n → n ≤ i → Risen i last → n ≡ firstNotAscending hs
+  unfolding firstNotAscending
   ends e l m r = e ∙ sym (least-done _ (omega arith) (omega arith) (r .none-falls))
 
   -- a list without hops
-  pub empty : count hs ≡ 0 → 0 ≡ firstFalling hs
-  unfolding firstFalling
+  pub empty : count hs ≡ 0 → 0 ≡ firstNotAscending hs
+  unfolding firstNotAscending
   empty e = rw e (sym (least-none _))

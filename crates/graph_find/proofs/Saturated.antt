@@ -13,28 +13,28 @@ use Rattle.graph_check.specs.Check.{Admitted}
 use Rattle.graph.specs.declared.Shape.{Shape}
 use Rattle.base_bounded.proofs.Bools.{lt-or-le}
 use Rattle.base_bounded.proofs.Quantifiers.{any-same, tally-same}
-use Rattle.graph_find.specs.Finding.{hopsBefore, narrowed}
+use Rattle.graph_find.specs.Find.{hopsBefore, saturated}
 
--- the ways out of `narrow`
-pub narrow-fits : (x : ℕ) → x < 65535 → x ≡ narrowed x
-unfolding narrowed
-narrow-fits x l = rw (lt-ltb _ _ l)
+-- the ways out of `saturate`
+pub saturate-fits : (x : ℕ) → x < 65535 → x ≡ saturated x
+unfolding saturated
+saturate-fits x l = rw (lt-ltb _ _ l)
 
-pub narrow-large : (x : ℕ) → 65535 ≤ x → 65535 ≡ narrowed x
-unfolding narrowed
-narrow-large x l = rw (le-ltb _ _ l)
+pub saturate-large : (x : ℕ) → 65535 ≤ x → 65535 ≡ saturated x
+unfolding saturated
+saturate-large x l = rw (le-ltb _ _ l)
 
 -- a number below 65,535 is compared alike
 module _ (y x : ℕ) (l : y < 65535) where
-  ltb-narrowed : ltb y (narrowed x) ≡ ltb y x
+  ltb-narrowed : ltb y (saturated x) ≡ ltb y x
   ltb-narrowed =
-      ⊎-elim (λ k. rw (← narrow-fits x k)) (λ k. rw (← narrow-large x k) (lt-ltb y 65535 l ∙ sym (lt-ltb y x (omega arith))))
+      ⊎-elim (λ k. rw (← saturate-fits x k)) (λ k. rw (← saturate-large x k) (lt-ltb y 65535 l ∙ sym (lt-ltb y x (omega arith))))
       (lt-or-le x 65535)
 
-  eqb-narrowed : eqb y (narrowed x) ≡ eqb y x
+  eqb-narrowed : eqb y (saturated x) ≡ eqb y x
   eqb-narrowed =
-      ⊎-elim (λ k. rw (← narrow-fits x k))
-      (λ k. rw (← narrow-large x k) (ne-eqb y 65535 (λ e. omega arith) ∙ sym (ne-eqb y x (λ e. omega arith))))
+      ⊎-elim (λ k. rw (← saturate-fits x k))
+      (λ k. rw (← saturate-large x k) (ne-eqb y 65535 (λ e. omega arith) ∙ sym (ne-eqb y x (λ e. omega arith))))
       (lt-or-le x 65535)
 
 module _ {sh : Shape} {hs : List ℕ} (ok : Admitted sh hs) (s a t : ℕ) where
@@ -49,19 +49,19 @@ module _ {sh : Shape} {hs : List ℕ} (ok : Admitted sh hs) (s a t : ℕ) where
     tos : to hs i < 65535
     tos = omega (arith, ok .range .to-in i l, ok .states-most)
 
-    before-narrowed : before (hopAt hs i) (hopOf (narrowed s) (narrowed a) (narrowed t)) ≡ before (hopAt hs i) (hopOf s a t)
+    before-narrowed : before (hopAt hs i) (hopOf (saturated s) (saturated a) (saturated t)) ≡ before (hopAt hs i) (hopOf s a t)
     unfolding before
     before-narrowed =
         rw (ltb-narrowed _ s froms, eqb-narrowed _ s froms, ltb-narrowed _ a labels, eqb-narrowed _ a labels, ltb-narrowed _ t tos)
 
-    is-narrowed : is hs (narrowed s) (narrowed a) (narrowed t) i ≡ is hs s a t i
+    is-narrowed : is hs (saturated s) (saturated a) (saturated t) i ≡ is hs s a t i
     unfolding is
     is-narrowed = rw (eqb-narrowed _ s froms, eqb-narrowed _ a labels, eqb-narrowed _ t tos)
 
-  pub hops-before-narrowed : hopsBefore hs (narrowed s) (narrowed a) (narrowed t) ≡ hopsBefore hs s a t
+  pub hops-before-saturated : hopsBefore hs (saturated s) (saturated a) (saturated t) ≡ hopsBefore hs s a t
   unfolding hopsBefore
-  hops-before-narrowed = tally-same _ _ (count hs) before-narrowed
+  hops-before-saturated = tally-same _ _ (count hs) before-narrowed
 
-  pub has-narrowed : has hs (narrowed s) (narrowed a) (narrowed t) ≡ has hs s a t
+  pub has-saturated : has hs (saturated s) (saturated a) (saturated t) ≡ has hs s a t
   unfolding has
-  has-narrowed = any-same _ _ (count hs) is-narrowed
+  has-saturated = any-same _ _ (count hs) is-narrowed

@@ -9,17 +9,17 @@ use Rattle.graph.specs.Hops.{count, to}
 use Rattle.graph.specs.Answers.{most-states}
 
 -- a table of how many of the first n hops end in each state
-unfoldable pub Counted : List ℕ → ℕ → List ℕ → Type 0
-Counted hs n es = (s : ℕ) → s ≤ most-states → getD es s 0 ≡ keyCount (to hs) n s
+unfoldable pub InDegrees : List ℕ → ℕ → List ℕ → Type 0
+InDegrees hs n es = (s : ℕ) → s ≤ most-states → getD es s 0 ≡ keyCount (to hs) n s
 
 -- where the hops into s begin in the table: behind all that end in a lower state
-abbrev pub beginOf : List ℕ → ℕ → ℕ
-beginOf hs s = keyStart (to hs) (count hs) s
+abbrev pub predecessorStart : List ℕ → ℕ → ℕ
+predecessorStart hs s = keyStart (to hs) (count hs) s
 
 -- the first table: where the hops into a state begin, for each state that can be, and one past the last
-unfoldable pub Begins : List ℕ → List ℕ → Type 0
-Begins hs bs = (s : ℕ) → s ≤ most-states → getD bs s 0 ≡ beginOf hs s
+unfoldable pub PredecessorStarts : List ℕ → List ℕ → Type 0
+PredecessorStarts hs bs = (s : ℕ) → s ≤ most-states → getD bs s 0 ≡ predecessorStart hs s
 
 -- the second table, over the first n hops: each place stands in the slot that its hop has by the state that it ends in
-unfoldable pub Filled : List ℕ → ℕ → List ℕ → Type 0
-Filled hs n ps = (j : ℕ) → j < n → getD ps (slot (to hs) (count hs) j) 0 ≡ j
+unfoldable pub PredecessorPlaces : List ℕ → ℕ → List ℕ → Type 0
+PredecessorPlaces hs n ps = (j : ℕ) → j < n → getD ps (slot (to hs) (count hs) j) 0 ≡ j

@@ -6,7 +6,7 @@ use mathlib.Core.Bool.{Bool, cond, _&&_}
 use mathlib.Core.List.{List, []}
 use lib.Dec.{eqb, ltb}
 use denote.Ref.{RefT, now}
-use Rattle.graph.specs.Hops.{numberPlace, between, standsAt}
+use Rattle.graph.specs.Hops.{numberPlace, between, partAddress}
 use Rattle.graph.specs.Search.{firstOf, pastOf}
 use Rattle.graph_check.specs.Check.{checkOf}
 use Rattle.graph.specs.declared.Shape.{Shape}
@@ -27,14 +27,14 @@ abbrev pub outgoing : List ℕ → ℕ → List ℕ
 outgoing hs s = between hs (firstOf hs s) (pastOf hs s)
 
 -- what the part holds
-unfoldable pub shown : ℕ → ℕ → List ℕ → List ℕ → List ℕ
-shown which s h1 h2 = cond (eqb which 1) (outgoing h1 s) (cond (eqb which 2) (outgoing h2 s) [])
+unfoldable pub hopsOfSide : ℕ → ℕ → List ℕ → List ℕ → List ℕ
+hopsOfSide which s h1 h2 = cond (eqb which 1) (outgoing h1 s) (cond (eqb which 2) (outgoing h2 s) [])
 
 -- where it stands: in the chosen table, where the state's hops begin (or would, if it has none); where no table is chosen, at the front of table 1. Document 01
 -- leaves an empty part's position free
-unfoldable pub shownAt : ℕ → ℕ → RefT (List ℕ) → RefT (List ℕ) → ℕ × ℕ
-shownAt which s t1 t2 =
-    cond (eqb which 1) (standsAt t1 (firstOf (now t1) s)) (cond (eqb which 2) (standsAt t2 (firstOf (now t2) s)) (standsAt t1 0))
+unfoldable pub hopsOfAddress : ℕ → ℕ → RefT (List ℕ) → RefT (List ℕ) → ℕ × ℕ
+hopsOfAddress which s t1 t2 =
+    cond (eqb which 1) (partAddress t1 (firstOf (now t1) s)) (cond (eqb which 2) (partAddress t2 (firstOf (now t2) s)) (partAddress t1 0))
 
 -- the same part by start and length in numbers of its table; 0 and 0 wherever it is empty, also for a state that has no hops
 abbrev pub noSpan : Span
