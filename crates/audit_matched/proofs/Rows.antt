@@ -19,7 +19,7 @@ use Rattle.base_bounded.proofs.Quantifiers.{any-found, any-at}
 use Rattle.graph.proofs.Lookup.{first-within, range-only}
 use Rattle.graph_successors.proofs.Firsts.{first-is, first-next}
 use Rattle.graph_successors.specs.SuccessorIndex.{Indexable}
-use Rattle.walk_reach.specs.Front.{noted}
+use Rattle.walk_reach.specs.Frontier.{visited}
 use Rattle.graph.specs.Map.{mapped}
 use Rattle.audit_faults.specs.Images.{Imaged}
 use Rattle.audit_matched.specs.Ticks.{seenInClass, ticks, TickedBy, TickedOn}
@@ -48,7 +48,7 @@ module _ (h1 h2 m seen : List ℕ) (r k : ℕ) where
   -- the hops of the state u
   module _ (up : Ascending h1) (u : ℕ) {v : ℕ} (ev : v ≡ mapped m u) where
     state-seen : {i : ℕ} → firstOf h1 u ≤ i → i < firstOf h1 (u + 1) → seenInClass h1 m seen r i ≡ (eqb (getD seen u 0) 1 && eqb v r)
-    unfolding pastOf seenInClass noted
+    unfolding pastOf seenInClass visited
     state-seen {i} lo hi =
         let q : from h1 i ≡ u = range-only h1 up u (omega (arith, first-within h1 up (u + 1))) lo hi in
         rw (q, ev)

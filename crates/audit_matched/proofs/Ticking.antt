@@ -21,7 +21,7 @@ use Rattle.graph.proofs.Places.{is-alike}
 use Rattle.graph.proofs.Ordered.{alike-back, alike-then, ascending-place}
 use Rattle.graph.proofs.Lookup.{at-place, gap-has}
 use Rattle.graph_successors.specs.SuccessorIndex.{Indexable}
-use Rattle.walk_reach.specs.Front.{noted}
+use Rattle.walk_reach.specs.Frontier.{visited}
 use Rattle.graph.specs.Map.{mapped}
 use Rattle.audit_faults.specs.Images.{mappedHop, nowhere, placeOf, imageOf}
 use Rattle.audit_matched.specs.Ticks.{seenInClass, ticks, TickedBy}
@@ -55,7 +55,7 @@ module _ (h1 h2 m seen : List ℕ) (r k : ℕ) where
 
   seen-map : (i : ℕ) → seenInClass h1 m seen r i ≡ true → mapped m (from h1 i) ≡ r
   unfolding seenInClass
-  seen-map i e = eqb-true _ _ (and-right (noted seen (from h1 i)) _ e)
+  seen-map i e = eqb-true _ _ (and-right (visited seen (from h1 i)) _ e)
 
   -- what the stamp of a hop that leaves r is seen as
   image-stamp : Indexable h2 → (stamps : List ℕ) → count h2 ≤ length stamps → (i : ℕ) → mapped m (from h1 i) ≡ r → (j : ℕ) → j < count h2 →

@@ -12,7 +12,7 @@ use Rattle.graph.specs.Hops.{count, from, label, to, is}
 use Rattle.graph.specs.Map.{mapped}
 use Rattle.graph.specs.declared.Shape.{Shape}
 use Rattle.graph_successors.specs.SuccessorIndex.{SuccessorIndex}
-use Rattle.walk_reach.specs.Front.{noted}
+use Rattle.walk_reach.specs.Frontier.{visited}
 use Rattle.audit_faults.specs.Images.{Auditable, Imaged}
 
 -- what ticking has at hand: the two graphs and the map, the first places of graph 1, and the places of its hops in graph 2
@@ -23,7 +23,7 @@ pub record Tickable (sh1 : Shape) (h1 st1 h2 m images : List ℕ) : Type 0 where
 
 -- the hop at place i of graph 1 leaves a state that is noted in `seen` and whose map is r
 unfoldable pub seenInClass : List ℕ → List ℕ → List ℕ → ℕ → ℕ → Bool
-seenInClass h1 m seen r i = noted seen (from h1 i) && eqb (mapped m (from h1 i)) r
+seenInClass h1 m seen r i = visited seen (from h1 i) && eqb (mapped m (from h1 i)) r
 
 -- .. and it is the hop at place j of graph 2
 unfoldable pub ticks : List ℕ → List ℕ → List ℕ → List ℕ → ℕ → ℕ → ℕ → Bool

@@ -19,9 +19,9 @@ use Rattle.base_bounded.proofs.Quantifiers.{any-found, any-at, tally-same, tall
 use Rattle.base_bounded.proofs.Least.{least-same}
 use Rattle.graph.proofs.Places.{is-yes, is-label, is-to}
 use Rattle.walk_silent.specs.Silent.{silentAt, leads}
-use Rattle.walk_silent.proofs.Leads.{noted-leads}
-use Rattle.walk_reach.specs.Reaching.{chosenIn, Chooses}
-use Rattle.walk_reach.specs.Front.{noted, reached}
+use Rattle.walk_silent.proofs.Leads.{visited-leads}
+use Rattle.walk_reach.specs.Reach.{chosenIn, Chooses}
+use Rattle.walk_reach.specs.Frontier.{visited, reachedBytes}
 use Rattle.graph.specs.Map.{mapped}
 use Rattle.audit_faults.specs.Faults.{offers, backed, matched, madeUp, madeUpFaults}
 use Rattle.audit_matched.specs.Ticks.{seenInClass, ticks, TickedBy}
@@ -30,7 +30,7 @@ use Rattle.audit_unmatched.specs.States.{unticked, Fresh, madeUpOf, made
 module _ (sh1 : Shape) (h1 h2 m : List ℕ) (ranged : InRange sh1 h1) (bytes : List ℕ) (silent : Chooses h1 (silentAt h1) bytes) (s : ℕ) (rest : List ℕ) (j : ℕ)
     (leaving : mapped m s ≡ from h2 j) where
   abbrev seen-from : List ℕ
-  seen-from = reached h1 (chosenIn bytes) (sh1 .states) s ++ rest
+  seen-from = reachedBytes h1 (chosenIn bytes) (sh1 .states) s ++ rest
 
   abbrev offer : ℕ → ℕ → Bool
   offer u i = eqb (from h1 i) u && (eqb (label h1 i) (label h2 j) && eqb (mapped m (to h1 i)) (to h2 j))
@@ -47,8 +47,8 @@ module _ (sh1 : Shape) (h1 h2 m : List ℕ) (ranged : InRange sh1 h1) (bytes : L
             let w = and-right (seenInClass h1 m seen-from (mapped m s) i) _ t in
             let below = ranged .from-in i l in
             any-found (λ (u : ℕ). leads h1 (sh1 .states) s u && offers h1 m (from h2 j) (label h2 j) (to h2 j) u) (sh1 .states) below
-            (and-yes (sym (noted-leads h1 bytes silent (sh1 .states) s rest below) ∙ and-left (noted seen-from (from h1 i)) _ v)
-            (and-yes (eq-eqb _ _ (eqb-true _ _ (and-right (noted seen-from (from h1 i)) _ v) ∙ leaving))
+            (and-yes (sym (visited-leads h1 bytes silent (sh1 .states) s rest below) ∙ and-left (visited seen-from (from h1 i)) _ v)
+            (and-yes (eq-eqb _ _ (eqb-true _ _ (and-right (visited seen-from (from h1 i)) _ v) ∙ leaving))
             (any-found (offer (from h1 i)) (count h1) l
             (and-yes (eq-eqb (from h1 i) (from h1 i) refl) (and-yes (eq-eqb _ _ (sym (is-label h2 (mapped m s) (label h1 i) (mapped m (to h1 i)) j w)))
             (eq-eqb _ _ (sym (is-to h2 (mapped m s) (label h1 i) (mapped m (to h1 i)) j w))))))))
@@ -62,7 +62,7 @@ module _ (sh1 : Shape) (h1 h2 m : List ℕ) (ranged : InRange sh1 h1) (bytes : L
             let q : from h1 i ≡ u = eqb-true _ _ (and-left (eqb (from h1 i) u) _ f) in
             any-found (ticks h1 h2 m seen-from (mapped m s) j) (count h1) l
             (and-yes
-            (and-yes (ap (noted seen-from) q ∙ noted-leads h1 bytes silent (sh1 .states) s rest b ∙ and-left (leads h1 (sh1 .states) s u) _ d)
+            (and-yes (ap (visited seen-from) q ∙ visited-leads h1 bytes silent (sh1 .states) s rest b ∙ and-left (leads h1 (sh1 .states) s u) _ d)
             (eq-eqb _ _ (ap (mapped m) q ∙ eqb-true _ _ (and-left (eqb (mapped m u) (from h2 j)) _ o) ∙ sym leaving)))
             (is-yes h2 (mapped m s) (label h1 i) (mapped m (to h1 i)) j (sym leaving) (sym (eqb-true _ _ (and-left (eqb (label h1 i) (label h2 j)) _ g)))
             (sym (eqb-true _ _ (and-right (eqb (label h1 i) (label h2 j)) _ g)))))
@@ -80,10 +80,10 @@ stamp-told false k b l = ne-eqb b k (λ e. omega arith)
 
 -- r is the map of s, and `seen` what the search from s left: then the count of what is not ticked is the count of the faults of s
 module _ (sh1 : Shape) (h1 h2 m : List ℕ) (ranged : InRange sh1 h1) (bytes : List ℕ) (silent : Chooses h1 (silentAt h1) bytes) (s : ℕ) (rest : List ℕ) {r : ℕ}
-    (er : r ≡ mapped m s) {seen : List ℕ} (es : seen ≡ reached h1 (chosenIn bytes) (sh1 .states) s ++ rest) (before after : List ℕ) (ticked : TickedBy h1 h2 m seen r (s + 1) (count h1) before after)
+    (er : r ≡ mapped m s) {seen : List ℕ} (es : seen ≡ reachedBytes h1 (chosenIn bytes) (sh1 .states) s ++ rest) (before after : List ℕ) (ticked : TickedBy h1 h2 m seen r (s + 1) (count h1) before after)
     (fresh : Fresh h2 before (s + 1)) where
   abbrev hits : ℕ → Bool
-  hits j = any (count h1) (ticks h1 h2 m (reached h1 (chosenIn bytes) (sh1 .states) s ++ rest) (mapped m s) j)
+  hits j = any (count h1) (ticks h1 h2 m (reachedBytes h1 (chosenIn bytes) (sh1 .states) s ++ rest) (mapped m s) j)
 
   abbrev loop : ℕ → Bool
   loop j = eqb (label h2 j) 0 && eqb (from h2 j) (to h2 j)

@@ -10,8 +10,8 @@ use Rattle.base_bounded.specs.Quantifiers.{least, tally}
 use Rattle.graph.specs.Hops.{count, from, label, to}
 use Rattle.graph.specs.declared.Shape.{Shape}
 use Rattle.graph_successors.specs.SuccessorIndex.{SuccessorIndex}
-use Rattle.walk_reach.specs.Front.{Space}
-use Rattle.walk_silent.specs.Chosen.{SilentChosen}
+use Rattle.walk_reach.specs.Frontier.{Space}
+use Rattle.walk_silent.specs.SilentBytes.{SilentChosen}
 use Rattle.audit_faults.specs.Faults.{madeUp}
 use Rattle.audit_matched.specs.Ticks.{Tickable}
 

@@ -6,8 +6,8 @@ use mathlib.Core.List.{List}
 use lib.Dec.{eqb}
 use Rattle.base_bounded.specs.Quantifiers.{any, least}
 use Rattle.graph.specs.declared.Shape.{Shape}
-use Rattle.walk_reach.specs.Reaching.{leadsBy}
-use Rattle.walk_silent.specs.Silent.{leads, onRing, lowestOnRing, ringless}
+use Rattle.walk_reach.specs.Reach.{leadsBy}
+use Rattle.walk_silent.specs.Silent.{leads, onRing, lowestOnRing, ringAnswer}
 use Rattle.lines_ignored.specs.Unlined.{Unlined}
 use Rattle.lines_ignored.proofs.Checks.{count-same, from-same, label-same, to-same, labelled-same}
 
@@ -31,6 +31,6 @@ module _ {hs hs' : List ℕ} (un : Unlined hs hs') where
     lowest-same = λ d. least (sh .states) (λ (s : ℕ). ring-same (sh .states) s d)
 
     -- row 5
-    pub ringless-same : ringless sh hs ≡ ringless sh hs'
-    unfolding ringless
+    pub ringless-same : ringAnswer sh hs ≡ ringAnswer sh hs'
+    unfolding ringAnswer
     ringless-same = rw lowest-same

@@ -8,7 +8,7 @@ use Rattle.graph.specs.Hops.{count, from, label, to}
 use Rattle.graph.specs.declared.Shape.{Shape}
 use Rattle.graph_check.specs.Check.{Admitted}
 use Rattle.graph_successors.specs.SuccessorIndex.{Indexable}
-use Rattle.walk_topological_order.specs.Line.{Line}
+use Rattle.walk_topological_order.specs.TopologicalOrder.{TopologicalOrder}
 use Rattle.lts.specs.Closes.{Sense, Answered}
 use Rattle.walk_silent.specs.Silent.{HopOf}
 use Rattle.base_fixpoint.specs.Pairs.{In}
@@ -31,4 +31,4 @@ Anything ms = Unit {0}
 pub record Sweepable (sh : Shape) (hs line : List ℕ) (n : ℕ) : Type 0 where
   pub admitted : Admitted sh hs
   pub ready : Indexable hs
-  pub lined : Line hs line n
+  pub lined : TopologicalOrder hs line n

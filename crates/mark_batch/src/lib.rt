@@ -28,7 +28,7 @@ ghost use Rattle.mark_confluence.specs.Held.{heldBy};
 ghost use Rattle.mark_sweeps.specs.Sweep.{Marking, Swept};
 ghost use Rattle.mark_senses.specs.Senses.{senseOf, markedBy};
 ghost use Rattle.base_bitset.specs.Bits.{word-bits};
-ghost use Rattle.walk_topological_order.specs.Line.{Line};
+ghost use Rattle.walk_topological_order.specs.TopologicalOrder.{TopologicalOrder};
 ghost use Rattle.mark_batch_spread.specs.Spread.{Back, Forth};
 ghost use Rattle.mark_batch.specs.Batch.{Sweepable, TriedIn};
 
@@ -42,7 +42,7 @@ fn close(
     words: &mut [u64; MOST_STATES],
 )
     requires ready { ⌜ Indexable (now hops) ⌝ }
-    requires line { ⌜ Line (now hops) (now line) n ⌝ }
+    requires line { ⌜ TopologicalOrder (now hops) (now line) n ⌝ }
     requires capacity { ⌜ count (now hops) ≤ length (now marks) ⌝ }
     ensures { λ r. ⌜ Forth (In (heldBy (now (hops .entry)) (now (marks .entry)))) (senseOf sense .closing) (now (words .entry)) (now (words .exit)) ⌝ }
 {
@@ -63,7 +63,7 @@ fn follow(
     words: &mut [u64; MOST_STATES],
 )
     requires ready { ⌜ Indexable (now hops) ⌝ }
-    requires line { ⌜ Line (now hops) (now line) n ⌝ }
+    requires line { ⌜ TopologicalOrder (now hops) (now line) n ⌝ }
     requires capacity { ⌜ count (now hops) ≤ length (now marks) ⌝ }
     ensures { λ r. ⌜ Back (In (heldBy (now (hops .entry)) (now (marks .entry)))) (senseOf sense .after) (now (words .entry)) (now (words .exit)) ⌝ }
 {
@@ -83,7 +83,7 @@ fn lead(
     words: &mut [u64; MOST_STATES],
 )
     requires ready { ⌜ Indexable (now hops) ⌝ }
-    requires line { ⌜ Line (now hops) (now line) n ⌝ }
+    requires line { ⌜ TopologicalOrder (now hops) (now line) n ⌝ }
     requires capacity { ⌜ count (now hops) ≤ length (now marks) ⌝ }
     ensures { λ r. ⌜ Back (In (heldBy (now (hops .entry)) (now (marks .entry)))) (senseOf sense .before) (now (words .entry)) (now (words .exit)) ⌝ }
 {

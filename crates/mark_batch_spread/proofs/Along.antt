@@ -15,7 +15,7 @@ use Rattle.base_fixpoint.specs.Pairs.{In}
 use Rattle.lts.specs.Closes.{Reach, single, walks}
 use Rattle.mark_confluence.specs.Held.{isMarked, heldBy}
 use Rattle.mark_confluence.proofs.Held.{held-says, held-yes}
-use Rattle.walk_topological_order.specs.Line.{Line}
+use Rattle.walk_topological_order.specs.TopologicalOrder.{TopologicalOrder}
 use Rattle.base_bitset.specs.Bits.{bitIn}
 use Rattle.base_bitset.proofs.Laws.{table-or, word-of}
 use Rattle.mark_batch_spread.specs.Spread.{Back, Forth}
@@ -127,7 +127,7 @@ module _ (hs ms line : List ℕ) where
   pub passed-on-none : (n : ℕ) (ws : List ℕ) → PassedOn n n ws ws
   passed-on-none n = forth-none (done-none n)
 
-  module _ {n : ℕ} (l : Line hs line n) where
+  module _ {n : ℕ} (l : TopologicalOrder hs line n) where
     -- the hop at k is marked
     module _ {k : ℕ} (h : k < n) (o : on k ≡ true) (old now next : List ℕ) where
       pub gathered-more : Gave (target k) (source k) now next → Gathered k old now → Gathered (k + 1) old next

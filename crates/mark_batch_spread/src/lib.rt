@@ -22,7 +22,7 @@ ghost use Rattle.graph_successors.specs.SuccessorIndex.{Indexable};
 ghost use Rattle.base_fixpoint.specs.Pairs.{In};
 ghost use Rattle.lts.specs.Closes.{single, walks};
 ghost use Rattle.mark_confluence.specs.Held.{isMarked, heldBy};
-ghost use Rattle.walk_topological_order.specs.Line.{Line};
+ghost use Rattle.walk_topological_order.specs.TopologicalOrder.{TopologicalOrder};
 ghost use Rattle.mark_batch_spread.specs.Spread.{Back, Forth};
 ghost use Rattle.mark_batch_spread.specs.Given.{given};
 
@@ -59,7 +59,7 @@ pub fn gather(
     words: &mut [u64; MOST_STATES],
 )
     requires ready { ⌜ Indexable (now hops) ⌝ }
-    requires line { ⌜ Line (now hops) (now line) n ⌝ }
+    requires line { ⌜ TopologicalOrder (now hops) (now line) n ⌝ }
     requires capacity { ⌜ count (now hops) ≤ length (now marks) ⌝ }
     ensures { λ r. ⌜ Back (In (heldBy (now (hops .entry)) (now (marks .entry)))) walks (now (words .entry)) (now (words .exit)) ⌝ }
 {
@@ -84,7 +84,7 @@ pub fn pass_once(
     words: &mut [u64; MOST_STATES],
 )
     requires ready { ⌜ Indexable (now hops) ⌝ }
-    requires line { ⌜ Line (now hops) (now line) n ⌝ }
+    requires line { ⌜ TopologicalOrder (now hops) (now line) n ⌝ }
     requires capacity { ⌜ count (now hops) ≤ length (now marks) ⌝ }
     ensures { λ r. ⌜ Forth (In (heldBy (now (hops .entry)) (now (marks .entry)))) single (now (words .entry)) (now (words .exit)) ⌝ }
 {
@@ -109,7 +109,7 @@ pub fn pass_on(
     words: &mut [u64; MOST_STATES],
 )
     requires ready { ⌜ Indexable (now hops) ⌝ }
-    requires line { ⌜ Line (now hops) (now line) n ⌝ }
+    requires line { ⌜ TopologicalOrder (now hops) (now line) n ⌝ }
     requires capacity { ⌜ count (now hops) ≤ length (now marks) ⌝ }
     ensures { λ r. ⌜ Forth (In (heldBy (now (hops .entry)) (now (marks .entry)))) walks (now (words .entry)) (now (words .exit)) ⌝ }
 {

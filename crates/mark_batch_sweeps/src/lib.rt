@@ -19,7 +19,7 @@ use graph_successors::wide;
 use mark_batch::batch_len;
 use mark_batch::try_batch;
 use mark_confluence::start_marks;
-use walk_topological_order::line_of;
+use walk_topological_order::order_of;
 ghost use mathlib.Core.Path.{_≡_};
 ghost use Prim.Native.Nat.{_+_, _*_, _<_, _≤_};
 ghost use lib.ListN.{length};
@@ -27,7 +27,7 @@ ghost use Rattle.base_outputs.specs.Output.{onFront};
 ghost use Rattle.graph.specs.Hops.{count};
 ghost use Rattle.graph.specs.Answers.{most-hops};
 ghost use Rattle.graph_successors.specs.SuccessorIndex.{Indexable, Indexed};
-ghost use Rattle.walk_silent.specs.Silent.{ringless};
+ghost use Rattle.walk_silent.specs.Silent.{ringAnswer};
 ghost use Rattle.mark_confluence.specs.Held.{marksOf};
 ghost use Rattle.mark_sweeps.specs.Sweep.{Marking, Swept};
 ghost use Rattle.mark_senses.specs.Senses.{senseOf, markedBy};
@@ -315,13 +315,13 @@ pub fn mark_by_sweeps(
     marks: &mut [u8],
 )
     requires tabled { ⌜ Indexed shape (now hops) (now starts) ⌝ }
-    requires free { ⌜ ringless shape (now hops) .number ≡ 0 ⌝ }
+    requires free { ⌜ ringAnswer shape (now hops) .number ≡ 0 ⌝ }
     requires capacity { ⌜ count (now hops) ≤ length (now marks) ⌝ }
     ensures { λ r. ⌜ now (marks .exit) ≡
         onFront (marksOf (now (hops .entry)) (markedBy sense shape (now (hops .entry)))) (now (marks .entry)) ⌝ }
 {
     let mut line = [0u16; MOST_HOPS];
-    let n = line_of(shape, hops, starts, &mut line);
+    let n = order_of(shape, hops, starts, &mut line);
     start_marks(hops, marks);
     settle(shape, hops, &line, n, sense, marks);
 }

@@ -12,21 +12,21 @@ use Rattle.graph.specs.declared.Shape.{Shape}
 use Rattle.graph.specs.declared.Answer.{Answer}
 use Rattle.graph_check.proofs.Checked.{check-admitted}
 use Rattle.graph.proofs.Accepts.{then-first, then-next, both-accept, capacity-accepts}
-use Rattle.walk_silent.specs.Silent.{ringless}
+use Rattle.walk_silent.specs.Silent.{ringAnswer}
 use Rattle.mark_senses.specs.Senses.{senseAnswer}
 use Rattle.mark_entry.specs.Mark.{marksMade, markAnswer, markOutput}
 
 -- rows 5 and 6 of an admitted graph: the ways out of the code, in order
-module _ (sh : Shape) (hs : List ℕ) (capacity : ℕ) {d : Answer} (f : d ≡ ringless sh hs) where
+module _ (sh : Shape) (hs : List ℕ) (capacity : ℕ) {d : Answer} (f : d ≡ ringAnswer sh hs) where
   abbrev later : Answer
-  later = andThen (ringless sh hs) (capacityAnswer (count hs) capacity)
+  later = andThen (ringAnswer sh hs) (capacityAnswer (count hs) capacity)
 
   pub later-ringed : (d .number ≡ 0 → ⊥) → d ≡ later
-  later-ringed n = f ∙ sym (then-first (ringless sh hs) _ (rw f at n))
+  later-ringed n = f ∙ sym (then-first (ringAnswer sh hs) _ (rw f at n))
 
   module _ (y : d .number ≡ 0) where
     last : capacityAnswer (count hs) capacity ≡ later
-    last = sym (then-next (ringless sh hs) _ (rw f at y))
+    last = sym (then-next (ringAnswer sh hs) _ (rw f at y))
 
     pub later-narrow : capacity < count hs → refused 6 0 ≡ later
     later-narrow l = narrow ∙ last where
@@ -40,7 +40,7 @@ module _ (sh : Shape) (hs : List ℕ) (capacity : ℕ) {d : Answer} (f : d ≡ r
 
 module _ (sh : Shape) (hs : List ℕ) (k : ℕ) (out : List ℕ) where
   abbrev behind-sense : Answer
-  behind-sense = andThen (ringless sh hs) (capacityAnswer (count hs) (length out))
+  behind-sense = andThen (ringAnswer sh hs) (capacityAnswer (count hs) (length out))
 
   -- the ways out of the entry: rows 1 to 4, row 19, and the later ones
   module _ {c : Answer} (e : c ≡ checkOf sh hs) where
@@ -69,11 +69,11 @@ module _ (sh : Shape) (hs : List ℕ) (k : ℕ) (out : List ℕ) where
     unfolding markAnswer
     later-accepted = both-accept (senseAnswer k) _ (both-accept (checkOf sh hs) _ e .1) .1
 
-    pub mark-ringless : ringless sh hs .number ≡ 0
-    mark-ringless = both-accept (ringless sh hs) _ later-accepted .0
+    pub mark-ringless : ringAnswer sh hs .number ≡ 0
+    mark-ringless = both-accept (ringAnswer sh hs) _ later-accepted .0
 
     pub mark-capacity : count hs ≤ length out
-    mark-capacity = capacity-accepts (count hs) (length out) (both-accept (ringless sh hs) _ later-accepted .1) .1
+    mark-capacity = capacity-accepts (count hs) (length out) (both-accept (ringAnswer sh hs) _ later-accepted .1) .1
 
     -- what stands in the output afterwards
     pub output-marked : {ms : List ℕ} → ms ≡ onFront (marksMade sh hs k) out → ms ≡ markOutput sh hs k out

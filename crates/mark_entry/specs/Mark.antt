@@ -8,7 +8,7 @@ use Rattle.graph.specs.Answers.{andThen, capacityAnswer}
 use Rattle.graph_check.specs.Check.{checkOf}
 use Rattle.graph.specs.declared.Shape.{Shape}
 use Rattle.graph.specs.declared.Answer.{Answer}
-use Rattle.walk_silent.specs.Silent.{ringless}
+use Rattle.walk_silent.specs.Silent.{ringAnswer}
 use Rattle.mark_confluence.specs.Held.{marksOf}
 use Rattle.mark_senses.specs.Senses.{markedBy, senseAnswer}
 
@@ -18,7 +18,7 @@ marksMade sh hs k = marksOf hs (markedBy k sh hs)
 
 -- rows 1 to 4, then 19 ("after 4 and before 5"), then 5, then 6: "marks, one a hop"
 unfoldable pub markAnswer : Shape → List ℕ → ℕ → List ℕ → Answer
-markAnswer sh hs k out = andThen (checkOf sh hs) (andThen (senseAnswer k) (andThen (ringless sh hs) (capacityAnswer (count hs) (length out))))
+markAnswer sh hs k out = andThen (checkOf sh hs) (andThen (senseAnswer k) (andThen (ringAnswer sh hs) (capacityAnswer (count hs) (length out))))
 
 -- "A refusal leaves all lent elements untouched"; "Acceptance writes the named elements and none past them"
 unfoldable pub markOutput : Shape → List ℕ → ℕ → List ℕ → List ℕ

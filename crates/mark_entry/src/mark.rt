@@ -19,7 +19,7 @@ ghost use Rattle.base_outputs.specs.Output.{onFront};
 ghost use Rattle.graph.specs.Hops.{count};
 ghost use Rattle.graph.specs.Answers.{andThen, capacityAnswer};
 ghost use Rattle.graph_successors.specs.SuccessorIndex.{Indexed};
-ghost use Rattle.walk_silent.specs.Silent.{ringless};
+ghost use Rattle.walk_silent.specs.Silent.{ringAnswer};
 ghost use Rattle.mark_confluence.specs.Held.{marksOf};
 ghost use Rattle.mark_senses.specs.Senses.{markedBy};
 ghost use Rattle.mark_entry.specs.Mark.{markAnswer, markOutput};
@@ -27,7 +27,7 @@ ghost use Rattle.mark_entry.specs.Mark.{markAnswer, markOutput};
 // Rows 5 and 6 of an admitted graph, by its table of first places.
 pub fn later_answer(shape: Shape, hops: &[u16], starts: &[u16; STARTS], capacity: usize) -> Answer
     requires { ⌜ Indexed shape (now hops) (now starts) ⌝ }
-    ensures { λ r. ⌜ r ≡ andThen (ringless shape (now (hops .entry))) (capacityAnswer (count (now (hops .entry))) capacity) ⌝ }
+    ensures { λ r. ⌜ r ≡ andThen (ringAnswer shape (now (hops .entry))) (capacityAnswer (count (now (hops .entry))) capacity) ⌝ }
 {
     let ringed = ring_answer(shape, hops, starts);
     if ringed.number != 0 {
@@ -59,7 +59,7 @@ pub fn mark_answer(shape: Shape, hops: &[u16], sense: u32, marks: &[u8]) -> Answ
 // choice to itself: in one function the two would share a frame, and sense 1 would take the stack of the others.
 fn mark_in(shape: Shape, hops: &[u16], starts: &[u16; STARTS], sense: u32, marks: &mut [u8])
     requires tabled { ⌜ Indexed shape (now hops) (now starts) ⌝ }
-    requires free { ⌜ ringless shape (now hops) .number ≡ 0 ⌝ }
+    requires free { ⌜ ringAnswer shape (now hops) .number ≡ 0 ⌝ }
     requires capacity { ⌜ count (now hops) ≤ length (now marks) ⌝ }
     ensures { λ r. ⌜ now (marks .exit) ≡
         onFront (marksOf (now (hops .entry)) (markedBy sense shape (now (hops .entry)))) (now (marks .entry)) ⌝ }

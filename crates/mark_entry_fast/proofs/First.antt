@@ -9,7 +9,7 @@ use Rattle.graph.specs.Answers.{accepted, andThen, capacityAnswer}
 use Rattle.graph.specs.declared.Shape.{Shape}
 use Rattle.graph.specs.declared.Answer.{Answer}
 use Rattle.graph_check.specs.Check.{checkOf}
-use Rattle.walk_silent.specs.Silent.{ringless}
+use Rattle.walk_silent.specs.Silent.{ringAnswer}
 use Rattle.base_fixpoint.specs.Pairs.{Pairs}
 use Rattle.mark_confluence.specs.Rounds.{marked}
 use Rattle.mark_confluence.specs.Held.{marksOf}
@@ -26,7 +26,7 @@ first-passes = sense-passes 1 refl
 
 module _ (sh : Shape) (hs : List ℕ) where
   module _ (out : List ℕ) where
-    pub first-later : {c : Answer} → c ≡ checkOf sh hs → c .number ≡ 0 → {d : Answer} → d ≡ andThen (ringless sh hs) (capacityAnswer (count hs) (length out)) →
+    pub first-later : {c : Answer} → c ≡ checkOf sh hs → c .number ≡ 0 → {d : Answer} → d ≡ andThen (ringAnswer sh hs) (capacityAnswer (count hs) (length out)) →
         d ≡ markAnswer sh hs 1 out
     first-later e z f = mark-later sh hs 1 out e z (sym first-passes) refl f
 

@@ -11,7 +11,7 @@ use Rattle.graph.specs.Answers.{accepted, refused}
 use Rattle.graph.specs.declared.Answer.{Answer}
 use Rattle.graph.specs.declared.Shape.{Shape}
 use Rattle.lts.specs.Closes.{Reach, nowhere, single, walks, Sense, r1, r2, r3, r8}
-use Rattle.walk_reach.specs.Reaching.{leadsBy}
+use Rattle.walk_reach.specs.Reach.{leadsBy}
 use Rattle.base_fixpoint.specs.Pairs.{Pairs}
 use Rattle.base_fixpoint.specs.Approximants.{approximant}
 use Rattle.mark_confluence.specs.Rounds.{Trials, tried, silentHops}

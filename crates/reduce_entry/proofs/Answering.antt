@@ -16,7 +16,7 @@ use Rattle.graph.specs.declared.Shape.{Shape}
 use Rattle.graph.specs.declared.Answer.{Answer}
 use Rattle.base_bounded.proofs.Bools.{clash, or-yes, lt-or-le}
 use Rattle.graph_check.proofs.Checked.{check-admitted}
-use Rattle.walk_silent.specs.Silent.{ringless}
+use Rattle.walk_silent.specs.Silent.{ringAnswer}
 use Rattle.graph.proofs.Accepts.{then-first, then-next, both-accept, capacity-accepts}
 use Rattle.mark_senses.specs.Senses.{senseAnswer}
 use Rattle.reduce_representatives.specs.Tables.{Reducible}
@@ -29,23 +29,23 @@ capacity sh hs m n = andThen (capacityAnswer (sh .states) m) (capacityAnswer (le
 
 -- rows 5 and 6
 abbrev ringed : Shape → List ℕ → ℕ → ℕ → Answer
-ringed sh hs m n = andThen (ringless sh hs) (capacity sh hs m n)
+ringed sh hs m n = andThen (ringAnswer sh hs) (capacity sh hs m n)
 
 -- rows 19, 5 and 6 of an admitted graph: the ways out of the code, in order
 module _ (sh : Shape) (hs : List ℕ) (k m n : ℕ) {c : Answer} (g : c ≡ senseAnswer k) where
   pub later-sensed : (c .number ≡ 0 → ⊥) → c ≡ laterAnswer sh hs k m n
   later-sensed x = g ∙ sym (then-first (senseAnswer k) (ringed sh hs m n) (rw g at x))
 
-  module _ (w : c .number ≡ 0) {d : Answer} (f : d ≡ ringless sh hs) where
+  module _ (w : c .number ≡ 0) {d : Answer} (f : d ≡ ringAnswer sh hs) where
     next : ringed sh hs m n ≡ laterAnswer sh hs k m n
     next = sym (then-next (senseAnswer k) (ringed sh hs m n) (rw g at w))
 
     pub later-ringed : (d .number ≡ 0 → ⊥) → d ≡ laterAnswer sh hs k m n
-    later-ringed x = f ∙ sym (then-first (ringless sh hs) (capacity sh hs m n) (rw f at x)) ∙ next
+    later-ringed x = f ∙ sym (then-first (ringAnswer sh hs) (capacity sh hs m n) (rw f at x)) ∙ next
 
     module _ (y : d .number ≡ 0) where
       last : capacity sh hs m n ≡ laterAnswer sh hs k m n
-      last = sym (then-next (ringless sh hs) (capacity sh hs m n) (rw f at y)) ∙ next
+      last = sym (then-next (ringAnswer sh hs) (capacity sh hs m n) (rw f at y)) ∙ next
 
       pub later-narrow : (ltb m (sh .states) || ltb n (length hs)) ≡ true → refused 6 0 ≡ laterAnswer sh hs k m n
       later-narrow t = both (lt-or-le m (sh .states)) (or-yes (ltb m (sh .states)) (ltb n (length hs)) t) ∙ last where
@@ -87,8 +87,8 @@ module _ (sh : Shape) (hs : List ℕ) (k m n : ℕ) where
     sensed : (senseAnswer k .number ≡ 0) × (ringed sh hs m n .number ≡ 0)
     sensed = both-accept (senseAnswer k) (ringed sh hs m n) (checked .1)
 
-    freed : (ringless sh hs .number ≡ 0) × (capacity sh hs m n .number ≡ 0)
-    freed = both-accept (ringless sh hs) (capacity sh hs m n) (sensed .1)
+    freed : (ringAnswer sh hs .number ≡ 0) × (capacity sh hs m n .number ≡ 0)
+    freed = both-accept (ringAnswer sh hs) (capacity sh hs m n) (sensed .1)
 
     roomed : (capacityAnswer (sh .states) m .number ≡ 0) × (capacityAnswer (length hs) n .number ≡ 0)
     roomed = both-accept (capacityAnswer (sh .states) m) (capacityAnswer (length hs) n) (freed .1)
@@ -106,7 +106,7 @@ module _ (sh : Shape) (hs : List ℕ) (k m n : ℕ) where
     unfolding reduceAnswer
     reduce-accepted =
         then-next (checkOf sh hs) (laterAnswer sh hs k m n) (checked .0) ∙ then-next (senseAnswer k) (ringed sh hs m n) (sensed .0) ∙
-        then-next (ringless sh hs) (capacity sh hs m n) (freed .0) ∙
+        then-next (ringAnswer sh hs) (capacity sh hs m n) (freed .0) ∙
         rw (le-leb (sh .states) m reduce-map-capacity, le-leb (length hs) n reduce-short-capacity)
 
 -- what is returned and written, a being the answer

@@ -13,7 +13,7 @@ use Rattle.graph_check.specs.Check.{checkOf}
 use Rattle.graph.specs.declared.Hop.{Hop}
 use Rattle.graph.specs.declared.Shape.{Shape}
 use Rattle.graph.specs.declared.Answer.{Answer}
-use Rattle.walk_silent.specs.Silent.{ringless}
+use Rattle.walk_silent.specs.Silent.{ringAnswer}
 use Rattle.mark_senses.specs.Senses.{markedBy, senseAnswer}
 use Rattle.reduce_representatives.specs.Representative.{mapOf}
 use Rattle.reduce_short_graph.specs.Short.{shortHops, shortShape, mapList}
@@ -39,7 +39,7 @@ markedShape sh hs k = shortShape sh hs (markedBy k sh hs)
 unfoldable pub reduceAnswer : Shape → List ℕ → ℕ → ℕ → ℕ → Answer
 reduceAnswer sh hs k map-capacity short-capacity =
     andThen (checkOf sh hs)
-    (andThen (senseAnswer k) (andThen (ringless sh hs) (andThen (capacityAnswer (sh .states) map-capacity) (capacityAnswer (length hs) short-capacity))))
+    (andThen (senseAnswer k) (andThen (ringAnswer sh hs) (andThen (capacityAnswer (sh .states) map-capacity) (capacityAnswer (length hs) short-capacity))))
 
 -- "with any number but 0 every other figure in the answer is 0"
 abbrev pub noShape : Shape

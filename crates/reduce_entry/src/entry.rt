@@ -21,7 +21,7 @@ ghost use Rattle.base_outputs.specs.Output.{onFront};
 ghost use Rattle.graph.specs.Hops.{count, flat};
 ghost use Rattle.graph.specs.Answers.{accepted};
 ghost use Rattle.graph_successors.specs.SuccessorIndex.{SuccessorIndex, Indexed};
-ghost use Rattle.walk_silent.specs.Silent.{ringless};
+ghost use Rattle.walk_silent.specs.Silent.{ringAnswer};
 ghost use Rattle.mark_confluence.specs.Held.{marksOf};
 ghost use Rattle.mark_senses.specs.Senses.{markedBy};
 ghost use Rattle.reduce_representatives.specs.Tables.{Reducible};
@@ -76,7 +76,7 @@ pub fn reduce_answer(
 // the choice for itself: in one function for all, sense 1 would take stack of the others'.
 pub fn mark_in(shape: Shape, hops: &[u16], starts: &[u16; STARTS], sense: u32, marks: &mut [u8])
     requires tabled { ⌜ Indexed shape (now hops) (now starts) ⌝ }
-    requires free { ⌜ ringless shape (now hops) .number ≡ 0 ⌝ }
+    requires free { ⌜ ringAnswer shape (now hops) .number ≡ 0 ⌝ }
     requires capacity { ⌜ count (now hops) ≤ length (now marks) ⌝ }
     ensures { λ r. ⌜ now (marks .exit) ≡
         onFront (marksOf (now (hops .entry)) (markedBy sense shape (now (hops .entry)))) (now (marks .entry)) ⌝ }

@@ -12,7 +12,7 @@ use Rattle.graph.specs.Hops.{count, from, label, to}
 use Rattle.graph.specs.Answers.{most-states}
 use Rattle.graph_check.specs.Check.{Admitted}
 use Rattle.graph.specs.declared.Shape.{Shape}
-use Rattle.walk_silent.specs.Silent.{ringless}
+use Rattle.walk_silent.specs.Silent.{ringAnswer}
 use Rattle.base_fixpoint.specs.Pairs.{Pairs}
 use Rattle.mark_confluence.specs.Held.{isMarked}
 use Rattle.reduce_representatives.specs.Representative.{onward}
@@ -20,7 +20,7 @@ use Rattle.reduce_representatives.specs.Representative.{onward}
 -- a graph that rows 1 to 5 let pass
 pub record Reducible (sh : Shape) (hs : List ℕ) : Type 0 where
   pub admitted : Admitted sh hs
-  pub free : ringless sh hs .number ≡ 0
+  pub free : ringAnswer sh hs .number ≡ 0
 
 -- the marks of the set u stand in the list: 1 at its hops and only there
 pub record Marks (hs : List ℕ) (u : Pairs) (ms : List ℕ) : Type 0 where

@@ -14,7 +14,7 @@ use Rattle.graph_check.specs.Check.{Admitted}
 use Rattle.lts.specs.Reduction.{Confluent}
 use Rattle.lts.proofs.Renumbered.{renumbered-acyclic}
 use Rattle.walk_silent.specs.Silent.{HopOf, OnRing}
-use Rattle.walk_silent.proofs.Rings.{ringless-iff}
+use Rattle.walk_silent.proofs.Rings.{ring-answer-iff}
 use Rattle.walk_silent.proofs.Hops.{silent-start}
 use Rattle.base_fixpoint.specs.Pairs.{Pairs, In}
 use Rattle.reduce_representatives.specs.Representative.{Settles, resting, mapOf}
@@ -34,7 +34,7 @@ module _ {sh : Shape} {hs : List ℕ} {u : Pairs} (adm : Admitted sh hs) (sett :
       renumbered-acyclic conf (rep-rests sett) (short-left sett) r m (rw at h) (rw at p)
 
   pub short-again : Confluent (HopOf hs) (In u) → Reducible (shortShape sh hs u) (flat (shortHops sh hs u))
-  short-again conf = record { admitted = shape-admitted adm sett; free = ringless-iff (shape-admitted adm sett .range) .1 (short-ringless conf) }
+  short-again conf = record { admitted = shape-admitted adm sett; free = ring-answer-iff (shape-admitted adm sett .range) .1 (short-ringless conf) }
 
   pub short-fewer : (s t : ℕ) → In u s t → shortShape sh hs u .states < sh .states
   unfolding shortShape

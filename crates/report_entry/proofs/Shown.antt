@@ -19,7 +19,7 @@ use Rattle.graph.proofs.Accepts.{both-accept}
 use Rattle.graph.proofs.Fronts.{flat-front}
 use Rattle.graph_check.specs.Check.{checkOf, Admitted}
 use Rattle.graph_check.proofs.Checked.{check-admitted, admitted-check}
-use Rattle.walk_silent.specs.Silent.{ringless}
+use Rattle.walk_silent.specs.Silent.{ringAnswer}
 use Rattle.base_fixpoint.specs.Pairs.{In, Subset}
 use Rattle.mark_confluence.specs.Rounds.{silentHops, marked}
 use Rattle.mark_confluence.specs.Held.{heldBy, markOf, marksOf}
@@ -71,21 +71,21 @@ unfolding unlessRefused
 capacity-text n r l t = rw (le-leb n r l)
 
 -- a graph that checks 1 to 4 have passed: what is left to ask is row 5
-module _ {sh : Shape} {hs : List ℕ} (adm : Admitted sh hs) {a : Answer} (e : a ≡ ringless sh hs) where
-  past-check : unlessRefused (ringless sh hs) (reportOf sh hs) ≡ printedGraph sh hs
+module _ {sh : Shape} {hs : List ℕ} (adm : Admitted sh hs) {a : Answer} (e : a ≡ ringAnswer sh hs) where
+  past-check : unlessRefused (ringAnswer sh hs) (reportOf sh hs) ≡ printedGraph sh hs
   unfolding printedGraph
   past-check =
-      sym (accepted-text (checkOf sh hs) (unlessRefused (ringless sh hs) (reportOf sh hs)) (ap (λ (x : Answer). x .number) (admitted-check sh hs adm)))
+      sym (accepted-text (checkOf sh hs) (unlessRefused (ringAnswer sh hs) (reportOf sh hs)) (ap (λ (x : Answer). x .number) (admitted-check sh hs adm)))
 
   pub graph-refused : (a .number ≡ 0 → ⊥) → refusalOf a ≡ printedGraph sh hs
-  graph-refused n = ap refusalOf e ∙ sym (refused-text (ringless sh hs) (reportOf sh hs) (rw e at n)) ∙ past-check
+  graph-refused n = ap refusalOf e ∙ sym (refused-text (ringAnswer sh hs) (reportOf sh hs) (rw e at n)) ∙ past-check
 
   module _ (z : a .number ≡ 0) where
     pub graph-reducible : Reducible sh hs
     graph-reducible = record { admitted = adm; free = rw e at z }
 
     pub graph-accepted : reportOf sh hs ≡ printedGraph sh hs
-    graph-accepted = sym (accepted-text (ringless sh hs) (reportOf sh hs) (rw e at z)) ∙ past-check
+    graph-accepted = sym (accepted-text (ringAnswer sh hs) (reportOf sh hs) (rw e at z)) ∙ past-check
 
 -- what marking, and reducing along the marks, leave
 module _ {sh : Shape} {hs : List ℕ} (red : Reducible sh hs) where
@@ -155,7 +155,7 @@ module _ (b : List ℕ) where
           q = refused-answer n
 
           rest : List ℕ
-          rest = unlessRefused (ringless (shapeIn b) (hopListIn b)) (reportOf (shapeIn b) (hopListIn b))
+          rest = unlessRefused (ringAnswer (shapeIn b) (hopListIn b)) (reportOf (shapeIn b) (hopListIn b))
 
     module _ (z : x .answer .number ≡ 0) where
       speaks-not : readAnswer b (length old) .number ≡ 0

@@ -10,7 +10,7 @@ use Rattle.graph.specs.Answers.{most-states, most-hops, refused}
 use Rattle.graph_check.specs.Check.{checkOf}
 use Rattle.graph.specs.declared.Shape.{Shape}
 use Rattle.graph.specs.declared.Answer.{Answer}
-use Rattle.walk_silent.specs.Silent.{ringless}
+use Rattle.walk_silent.specs.Silent.{ringAnswer}
 use Rattle.mark_confluence.specs.Rounds.{marked}
 use Rattle.mark_confluence.specs.Held.{markOf}
 use Rattle.reduce_representatives.specs.Representative.{mapOf}
@@ -29,7 +29,7 @@ unlessRefused a text = cond (eqb (a .number) 0) text (refusalOf a)
 
 -- of a graph: 1 to 4, then 5
 unfoldable pub printedGraph : Shape → List ℕ → List ℕ
-printedGraph sh hs = unlessRefused (checkOf sh hs) (unlessRefused (ringless sh hs) (reportOf sh hs))
+printedGraph sh hs = unlessRefused (checkOf sh hs) (unlessRefused (ringAnswer sh hs) (reportOf sh hs))
 
 -- of a file: its format, then its graph
 unfoldable pub printedFile : List ℕ → List ℕ

@@ -4,8 +4,8 @@ use Rattle.base_bounded.specs.Quantifiers.{all, any, least, tabulate, tally, to
 use Rattle.graph.specs.Hops.{flat, is, labelled, has}
 use Rattle.graph.specs.Order.{before}
 use Rattle.graph_check.specs.Check.{checkOf, countsFit, inside, firstOutside, ascendsAt, firstNotAscending}
-use Rattle.walk_reach.specs.Reaching.{leadsBy}
-use Rattle.walk_silent.specs.Silent.{onRing, lowestOnRing, ringless}
+use Rattle.walk_reach.specs.Reach.{leadsBy}
+use Rattle.walk_silent.specs.Silent.{onRing, lowestOnRing, ringAnswer}
 use Rattle.base_fixpoint.specs.Approximants.{approximant}
 use Rattle.mark_confluence.specs.Rounds.{survives, marked, closes, tried, answered, answers, hopAnswers, answer, closing}
 use Rattle.mark_confluence.specs.Held.{marksOf, markOf}
@@ -26,7 +26,7 @@ use Rattle.test_worked.specs.Table.{tableOf, table, outcomeOf, fallsIn}
 
 pub given : tableOf table ≡ table
 unfolding
-    all any least tabulate tally total flat is labelled has before checkOf countsFit inside firstOutside ascendsAt firstNotAscending leadsBy onRing lowestOnRing ringless
+    all any least tabulate tally total flat is labelled has before checkOf countsFit inside firstOutside ascendsAt firstNotAscending leadsBy onRing lowestOnRing ringAnswer
     approximant survives marked closes tried answered answers hopAnswers answer closing setAt comes takes meets takesTo answersFrom answeredIn closesIn markedIn isSense senseOf senseAnswer marksOf markOf markAnswer fell standing reached shaken due testsIn testsUpTo testsOf countedOf markedFrom resting onward followed repOf newOf mapOf
     insert collected gathered shortHops shortShape mapList initialFault kept lostFaults offers backed matched madeUp madeUpFaults faultsOf firstInitial lostPlace firstLost madeUpPlace madeUpState firstMadeUp firstFault reduceAnswer reduceOf firstHigh mapFits auditAnswer auditOf hopsBefore findOf outcomeOf fallsIn
 given = refl

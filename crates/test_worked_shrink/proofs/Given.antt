@@ -12,8 +12,8 @@ use Rattle.base_bounded.specs.Quantifiers.{all, any, least, tabulate, tally}
 use Rattle.graph.specs.Hops.{count, flat, is, labelled, has}
 use Rattle.graph.specs.Order.{before}
 use Rattle.graph_check.specs.Check.{checkOf, countsFit, inside, firstOutside, ascendsAt, firstNotAscending}
-use Rattle.walk_reach.specs.Reaching.{leadsBy}
-use Rattle.walk_silent.specs.Silent.{onRing, lowestOnRing, ringless}
+use Rattle.walk_reach.specs.Reach.{leadsBy}
+use Rattle.walk_silent.specs.Silent.{onRing, lowestOnRing, ringAnswer}
 use Rattle.base_fixpoint.specs.Approximants.{approximant}
 use Rattle.base_fixpoint.specs.Pairs.{Pairs}
 use Rattle.mark_confluence.specs.Rounds.{tried}
@@ -139,7 +139,7 @@ rows-given (row r rs) = λ d. row-given r d ∷ rows-given rs d
 
 rows : Rows (table .shrunk)
 unfolding
-    all any least tabulate tally flat is labelled has before checkOf countsFit inside firstOutside ascendsAt firstNotAscending leadsBy onRing lowestOnRing ringless approximant tried
+    all any least tabulate tally flat is labelled has before checkOf countsFit inside firstOutside ascendsAt firstNotAscending leadsBy onRing lowestOnRing ringAnswer approximant tried
     setAt comes takes meets takesTo answersFrom answeredIn closesIn markedIn isSense senseOf senseAnswer markedFrom resting onward followed repOf newOf mapOf
     insert collected gathered shortHops shortShape mapList reduceAnswer
     chained ownMap isMarked heldAt heldBy marksOf markOf closesAt leftAt end
@@ -167,7 +167,7 @@ rows = row chain-r1-row (row chain-r2-row (row chain-r3-row (row chain-r8-row (r
 
 refusals : map refusedOf (table .refused) ≡ table .refused
 unfolding
-    all any least tabulate tally flat is labelled has before checkOf countsFit inside firstOutside ascendsAt firstNotAscending leadsBy onRing lowestOnRing ringless approximant tried
+    all any least tabulate tally flat is labelled has before checkOf countsFit inside firstOutside ascendsAt firstNotAscending leadsBy onRing lowestOnRing ringAnswer approximant tried
     setAt comes takes meets takesTo answersFrom answeredIn closesIn markedIn isSense senseOf senseAnswer markedFrom resting onward followed repOf newOf mapOf
     insert collected gathered shortHops shortShape mapList reduceAnswer
     shrinkOf

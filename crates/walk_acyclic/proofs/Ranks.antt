@@ -20,10 +20,10 @@ use Rattle.graph.proofs.Places.{labelled-yes, labelled-parts}
 use Rattle.lts.specs.Star.{stay, go}
 use Rattle.lts.proofs.Star.{one, join}
 use Rattle.walk_silent.specs.Silent.{SilentOf, OnRing, lowestOnRing}
-use Rattle.walk_reach.specs.Front.{noted}
-use Rattle.walk_acyclic.specs.Ranks.{endsNoted, Unringed, Ranks, Ranked}
+use Rattle.walk_reach.specs.Frontier.{visited}
+use Rattle.walk_acyclic.specs.Ranks.{endsVisited, OffRings, Ranks, Ranked}
 use Rattle.graph_successors.proofs.Rows.{labelled-holds, labelled-only, labelled-past, silent-first}
-use Rattle.walk_reach.proofs.Front.{noted-no, noted-set, noted-set-same, noted-set-back}
+use Rattle.walk_reach.proofs.Frontier.{visited-no, visited-set, visited-set-same, visited-set-back}
 use Rattle.walk_silent.proofs.Hops.{silent-place, silent-end}
 use Rattle.walk_silent.proofs.Rings.{lowest-is}
 
@@ -35,28 +35,28 @@ ring-goes-on hs v (t, r, go {m} a p) = (t, r, (m, a, join p (one r)))
 module _ (hs ranked : List ℕ) (v : ℕ) where
   -- the hop at place i is no silent one of v, or leads to a noted state
   abbrev fine : ℕ → Bool
-  fine i = not (labelled hs v 0 i) || noted ranked (to hs i)
+  fine i = not (labelled hs v 0 i) || visited ranked (to hs i)
 
-  pub ends-at : endsNoted hs ranked v ≡ true → (t : ℕ) → SilentOf hs v t → noted ranked t ≡ true
-  unfolding endsNoted
+  pub ends-at : endsVisited hs ranked v ≡ true → (t : ℕ) → SilentOf hs v t → visited ranked t ≡ true
+  unfolding endsVisited
   ends-at e t r =
       let (i, l, d, q) = silent-place hs v t r in
-      ⊎-elim (λ f. clash d (not-true _ f)) (λ f. ap (noted ranked) (sym q) ∙ f) (or-yes (not (labelled hs v 0 i)) (noted ranked (to hs i)) (all-at fine (count hs) e l))
+      ⊎-elim (λ f. clash d (not-true _ f)) (λ f. ap (visited ranked) (sym q) ∙ f) (or-yes (not (labelled hs v 0 i)) (visited ranked (to hs i)) (all-at fine (count hs) e l))
 
   -- the hops of v stand from lo up to hi, the silent ones first
   module _ (up : Ascending hs) {lo hi : ℕ} (lo-is : lo ≡ firstOf hs v) (hi-is : hi ≡ firstOf hs (v + 1)) where
     pub row-within : (i : ℕ) → i < hi → i < count hs
     row-within i l = omega (arith, hi-is, first-within hs up (v + 1))
 
-    pub ends-fails : (i : ℕ) → lo ≤ i → i < hi → label hs i ≡ 0 → noted ranked (to hs i) ≡ false → endsNoted hs ranked v ≡ false
-    unfolding endsNoted pastOf
+    pub ends-fails : (i : ℕ) → lo ≤ i → i < hi → label hs i ≡ 0 → visited ranked (to hs i) ≡ false → endsVisited hs ranked v ≡ false
+    unfolding endsVisited pastOf
     ends-fails i l m q e =
         let k : i < count hs = row-within i m in
         all-fails fine (count hs) k (or-no (not-yes (labelled-yes hs v 0 i (range-only hs up v k (rw lo-is at l) (rw hi-is at m)) q)) e)
 
     -- where no silent one stands at i, none stands from there on
-    pub ends-all : (i : ℕ) → lo ≤ i → (i < hi → label hs i ≡ 0 → ⊥) → ((j : ℕ) → lo ≤ j → j < i → noted ranked (to hs j) ≡ true) → endsNoted hs ranked v ≡ true
-    unfolding endsNoted pastOf
+    pub ends-all : (i : ℕ) → lo ≤ i → (i < hi → label hs i ≡ 0 → ⊥) → ((j : ℕ) → lo ≤ j → j < i → visited ranked (to hs j) ≡ true) → endsVisited hs ranked v ≡ true
+    unfolding endsVisited pastOf
     ends-all i l g f = all-range fine (count hs) lo i (λ j k e. out j k e) (λ j a b. or-right (not (labelled hs v 0 j)) (f j a b)) where
       before : (j : ℕ) → j < labelledPast hs v 0 → j < i
       before j m = go (lt-or-le j i) where
@@ -70,15 +70,15 @@ module _ (hs ranked : List ℕ) (v : ℕ) where
       out j k e = go (decided (labelled hs v 0 j)) where
         go : (labelled hs v 0 j ≡ true) ⊎ (labelled hs v 0 j ≡ false) → (lo ≤ j) × (j < i)
         go (inl d) = let (a, b) = labelled-holds hs up v 0 k d in (omega (arith, lo-is, silent-first hs v), before j b)
-        go (inr d) = clash (or-left (noted ranked (to hs j)) (not-no d)) e
+        go (inr d) = clash (or-left (visited ranked (to hs j)) (not-no d)) e
 
 -- no state is ranked at first
-pub unringed-none : (hs : List ℕ) (n k : ℕ) → n ≤ k → Unringed hs n (replicate k 0)
-unringed-none hs n k h t l e w =
-    clash e (noted-no (replicate k 0) t (λ d. let z : _≡_ {A = ℕ} 0 1 = sym (getD-replicate k t 0 0 (omega arith)) ∙ d in omega arith))
+pub off-rings-none : (hs : List ℕ) (n k : ℕ) → n ≤ k → OffRings hs n (replicate k 0)
+off-rings-none hs n k h t l e w =
+    clash e (visited-no (replicate k 0) t (λ d. let z : _≡_ {A = ℕ} 0 1 = sym (getD-replicate k t 0 0 (omega arith)) ∙ d in omega arith))
 
 module _ {hs : List ℕ} {n : ℕ} where
-  pub ranked-none : (ranked : List ℕ) → Unringed hs n ranked → Ranked hs n ranked ranked 0
+  pub ranked-none : (ranked : List ℕ) → OffRings hs n ranked → Ranked hs n ranked ranked 0
   ranked-none ranked u = record { unringed = u; gained = omega arith }
 
   -- what is ranked later is on no ring either
@@ -89,23 +89,23 @@ module _ {hs : List ℕ} {n : ℕ} where
   ranked-join x y = record { unringed = y .unringed; gained = omega (arith, x .gained, y .gained) }
 
   pub ranked-within : {a b : List ℕ} {r : ℕ} → Ranked hs n a b r → r ≤ n
-  ranked-within {b = b} x = omega (arith, x .gained, tally-within (noted b) n)
+  ranked-within {b = b} x = omega (arith, x .gained, tally-within (visited b) n)
 
   -- n of n
   pub ranked-all : {a b : List ℕ} {r : ℕ} → Ranked hs n a b r → n ≤ r → (t : ℕ) → t < n → OnRing hs t → ⊥
-  ranked-all {b = b} {r} x h t l = x .unringed t l (go (decided (noted b t))) where
-    go : (noted b t ≡ true) ⊎ (noted b t ≡ false) → noted b t ≡ true
+  ranked-all {b = b} {r} x h t l = x .unringed t l (go (decided (visited b t))) where
+    go : (visited b t ≡ true) ⊎ (visited b t ≡ false) → visited b t ≡ true
     go (inl e) = e
     go (inr e) =
-        absurd (omega (arith, x .gained, tally-less (noted b) (λ (j : ℕ). true) n (λ j k d. refl) l e refl, tally-within (λ (j : ℕ). true) n))
+        absurd (omega (arith, x .gained, tally-less (visited b) (λ (j : ℕ). true) n (λ j k d. refl) l e refl, tally-within (λ (j : ℕ). true) n))
 
 module _ {sh : Shape} {hs : List ℕ} (ranged : InRange sh hs) where
   -- v is ranked
-  pub ranked-one : (ranked : List ℕ) (v : ℕ) → Unringed hs (sh .states) ranked → sh .states ≤ length ranked → v < sh .states →
-      noted ranked v ≡ false → endsNoted hs ranked v ≡ true → Ranked hs (sh .states) ranked (set ranked v 1) 1
+  pub ranked-one : (ranked : List ℕ) (v : ℕ) → OffRings hs (sh .states) ranked → sh .states ≤ length ranked → v < sh .states →
+      visited ranked v ≡ false → endsVisited hs ranked v ≡ true → Ranked hs (sh .states) ranked (set ranked v 1) 1
   ranked-one ranked v u capacity l e d = record {
-    unringed = λ t k f. ⊎-elim (u t k) (λ q. rw q off) (noted-set-back ranked v t f);
-    gained = omega (arith, tally-less (noted ranked) (noted (set ranked v 1)) (sh .states) (λ j k f. noted-set ranked v j within f) l e (noted-set-same ranked v within));
+    unringed = λ t k f. ⊎-elim (u t k) (λ q. rw q off) (visited-set-back ranked v t f);
+    gained = omega (arith, tally-less (visited ranked) (visited (set ranked v 1)) (sh .states) (λ j k f. visited-set ranked v j within f) l e (visited-set-same ranked v within));
   } where
     within : v < length ranked
     within = omega arith

@@ -7,23 +7,23 @@ use mathlib.Core.List.{List}
 use lib.ListN.{length}
 use Rattle.base_bounded.specs.Quantifiers.{all, tally}
 use Rattle.graph.specs.Hops.{count, to, labelled}
-use Rattle.walk_reach.specs.Front.{noted}
+use Rattle.walk_reach.specs.Frontier.{visited}
 use Rattle.walk_silent.specs.Silent.{OnRing}
 
 -- every silent hop of v leads to a noted state
-unfoldable pub endsNoted : List ℕ → List ℕ → ℕ → Bool
-endsNoted hs ranked v = all (count hs) (λ (i : ℕ). not (labelled hs v 0 i) || noted ranked (to hs i))
+unfoldable pub endsVisited : List ℕ → List ℕ → ℕ → Bool
+endsVisited hs ranked v = all (count hs) (λ (i : ℕ). not (labelled hs v 0 i) || visited ranked (to hs i))
 
 -- no noted one of n states is on a ring
-abbrev pub Unringed : List ℕ → ℕ → List ℕ → Type 0
-Unringed hs n ranked = (t : ℕ) → t < n → noted ranked t ≡ true → OnRing hs t → ⊥
+abbrev pub OffRings : List ℕ → ℕ → List ℕ → Type 0
+OffRings hs n ranked = (t : ℕ) → t < n → visited ranked t ≡ true → OnRing hs t → ⊥
 
 -- a byte for each of n states, and no ranked one is on a ring
 pub record Ranks (hs : List ℕ) (n : ℕ) (ranked : List ℕ) : Type 0 where
   pub capacity : n ≤ length ranked
-  pub unringed : Unringed hs n ranked
+  pub unringed : OffRings hs n ranked
 
 -- at least r states more are ranked, and none of them is on a ring
 pub record Ranked (hs : List ℕ) (n : ℕ) (ranked ranked′ : List ℕ) (r : ℕ) : Type 0 where
-  pub unringed : Unringed hs n ranked′
-  pub gained : tally n (noted ranked) + r ≤ tally n (noted ranked′)
+  pub unringed : OffRings hs n ranked′
+  pub gained : tally n (visited ranked) + r ≤ tally n (visited ranked′)

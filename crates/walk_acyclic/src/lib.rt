@@ -23,7 +23,7 @@ ghost use Rattle.graph.specs.Answers.{most-states, most-hops};
 ghost use Rattle.graph.specs.Hops.{count};
 ghost use Rattle.graph_check.specs.Check.{Admitted};
 ghost use Rattle.graph_successors.specs.SuccessorIndex.{Indexed};
-ghost use Rattle.walk_acyclic.specs.Ranks.{endsNoted, Ranks, Ranked};
+ghost use Rattle.walk_acyclic.specs.Ranks.{endsVisited, Ranks, Ranked};
 
 // Whether every silent hop of v leads to a ranked state. The silent hops are the first of its hops.
 pub fn ends_ranked(
@@ -36,7 +36,7 @@ pub fn ends_ranked(
     requires tabled { ⌜ Indexed shape (now hops) (now starts) ⌝ }
     requires capacity { ⌜ shape .states ≤ length (now ranked) ⌝ }
     requires state { ⌜ v .0 < shape .states ⌝ }
-    ensures { λ r. ⌜ r ≡ endsNoted (now (hops .entry)) (now (ranked .entry)) (v .0) ⌝ }
+    ensures { λ r. ⌜ r ≡ endsVisited (now (hops .entry)) (now (ranked .entry)) (v .0) ⌝ }
 {
     let s = wide(v.0);
     let past = start_of(starts, s + 1);
@@ -94,7 +94,7 @@ fn rank_once(shape: Shape, hops: &[u16], starts: &[u16; STARTS], ranked: &mut [u
 }
 
 // Whether the search may still enter t: it is neither ranked nor entered.
-fn is_fresh(shape: Shape, t: OldState, ranked: &[u8], entered: &[u8; MOST_STATES]) -> bool
+fn is_unentered(shape: Shape, t: OldState, ranked: &[u8], entered: &[u8; MOST_STATES]) -> bool
     requires most { ⌜ shape .states ≤ most-states ⌝ }
     requires capacity { ⌜ shape .states ≤ length (now ranked) ⌝ }
     requires state { ⌜ t .0 < shape .states ⌝ }
@@ -114,7 +114,7 @@ fn enter(t: OldState, place: usize, entered: &mut [u8; MOST_STATES], via: &mut [
 }
 
 // The place of the hop by which t was entered.
-fn way_to(t: OldState, via: &[u16; MOST_STATES]) -> usize
+fn entry_place(t: OldState, via: &[u16; MOST_STATES]) -> usize
     requires state { ⌜ t .0 < most-states ⌝ }
 {
     let at = wide(t.0);
@@ -123,7 +123,7 @@ fn way_to(t: OldState, via: &[u16; MOST_STATES]) -> usize
 
 // The first place from `first` on, and before `past`, whose hop leads to a state that the search may enter, if no labelled hop stands before it; else
 // `past`.
-fn next_fresh(
+fn next_unentered(
     shape: Shape,
     hops: &[u16],
     first: usize,
@@ -140,7 +140,7 @@ fn next_fresh(
         if label_at(hops, i).0 != 0 {
             return past;
         }
-        if is_fresh(shape, to_at(hops, i), ranked, entered) {
+        if is_unentered(shape, to_at(hops, i), ranked, entered) {
             return i;
         }
         i += 1;
@@ -150,7 +150,7 @@ fn next_fresh(
 
 // Enters a state that v leads to by a silent hop from the place on, then one that this leads to, and so on until there is none to enter; returns the
 // last. No state is entered twice, so that there are no more turns than states.
-fn climb(
+fn descend(
     shape: Shape,
     hops: &[u16],
     starts: &[u16; STARTS],
@@ -170,7 +170,7 @@ fn climb(
     let mut left = shape.states;
     while 0 < left {
         let past = start_of(starts, wide(top.0) + 1);
-        i = next_fresh(shape, hops, i, past, ranked, entered);
+        i = next_unentered(shape, hops, i, past, ranked, entered);
         if past <= i {
             return top;
         }
@@ -198,7 +198,7 @@ fn rank_from(
     requires ranks { ⌜ Ranks (now hops) (shape .states) (now ranked) ⌝ }
     ensures { λ r. ⌜ Ranked (now (hops .entry)) (shape .states) (now (ranked .entry)) (now (ranked .exit)) r ⌝ }
 {
-    if !is_fresh(shape, v, ranked, entered) {
+    if !is_unentered(shape, v, ranked, entered) {
         return 0;
     }
     let none = hop_count(hops);
@@ -208,9 +208,9 @@ fn rank_from(
     let mut got = 0;
     let mut left = shape.states;
     while 0 < left {
-        let top = climb(shape, hops, starts, from, i, ranked, entered, via);
+        let top = descend(shape, hops, starts, from, i, ranked, entered, via);
         got += rank_one(shape, hops, starts, top, ranked);
-        i = way_to(top, via);
+        i = entry_place(top, via);
         if none <= i {
             return got;
         }

@@ -15,8 +15,8 @@ ghost use mathlib.Core.Bool.{false};
 ghost use mathlib.Core.List.{_++_};
 ghost use Prim.Native.Nat.{_<_, _≤_};
 ghost use lib.ListN.{length, drop, replicate};
-ghost use Rattle.walk_reach.specs.Reaching.{chosenIn};
-ghost use Rattle.walk_reach.specs.Front.{noted, reached, seenWith, queueWith, tailWith, Chosen, Space, Front, Spread};
+ghost use Rattle.walk_reach.specs.Reach.{chosenIn};
+ghost use Rattle.walk_reach.specs.Frontier.{visited, reachedBytes, seenWith, queueWith, tailWith, Chosen, Space, Frontier, Expanded};
 
 // No state is noted.
 fn clear(seen: &mut [u8], n: usize)
@@ -31,9 +31,9 @@ fn clear(seen: &mut [u8], n: usize)
 }
 
 // Notes t and puts it at the queue's end, unless it is noted already; returns the end.
-fn note(seen: &mut [u8], queue: &mut [u16], tail: usize, t: OldState) -> usize
+fn visit(seen: &mut [u8], queue: &mut [u16], tail: usize, t: OldState) -> usize
     requires state { ⌜ t .0 < length (now seen) ⌝ }
-    requires capacity { ⌜ (noted (now seen) (t .0) ≡ false → tail < length (now queue)) ⌝ }
+    requires capacity { ⌜ (visited (now seen) (t .0) ≡ false → tail < length (now queue)) ⌝ }
     ensures seen { λ r. ⌜ now (seen .exit) ≡ seenWith (now (seen .entry)) (t .0) ⌝ }
     ensures queue { λ r. ⌜ now (queue .exit) ≡ queueWith (now (seen .entry)) (now (queue .entry)) tail (t .0) ⌝ }
     ensures tail { λ r. ⌜ r ≡ tailWith (now (seen .entry)) tail (t .0) ⌝ }
@@ -48,7 +48,7 @@ fn note(seen: &mut [u8], queue: &mut [u16], tail: usize, t: OldState) -> usize
 }
 
 // Notes the ends of all chosen hops of v; returns the queue's end.
-fn spread(
+fn expand(
     shape: Shape,
     hops: &[u16],
     starts: &[u16; STARTS],
@@ -60,8 +60,8 @@ fn spread(
 ) -> usize
     requires chosen { ⌜ Chosen shape (now hops) (now starts) (now chosen) ⌝ }
     requires state { ⌜ v .0 < shape .states ⌝ }
-    requires front { ⌜ Front (shape .states) (now seen) (now queue) tail ⌝ }
-    ensures { λ r. ⌜ Spread (now (hops .entry)) (chosenIn (now (chosen .entry))) (shape .states) (v .0)
+    requires front { ⌜ Frontier (shape .states) (now seen) (now queue) tail ⌝ }
+    ensures { λ r. ⌜ Expanded (now (hops .entry)) (chosenIn (now (chosen .entry))) (shape .states) (v .0)
         (now (seen .entry)) (now (queue .entry)) tail (now (seen .exit)) (now (queue .exit)) r ⌝ }
 {
     let at = wide(v.0);
@@ -70,7 +70,7 @@ fn spread(
     let mut i = start_of(starts, at);
     while i < past {
         if chosen[i] == 1 {
-            end = note(seen, queue, end, to_at(hops, i));
+            end = visit(seen, queue, end, to_at(hops, i));
         }
         i += 1;
     }
@@ -91,14 +91,14 @@ pub fn reach(
     requires state { ⌜ s .0 < shape .states ⌝ }
     requires space { ⌜ Space (shape .states) (now seen) (now queue) ⌝ }
     ensures { λ r. ⌜ now (seen .exit) ≡
-        reached (now (hops .entry)) (chosenIn (now (chosen .entry))) (shape .states) (s .0) ++ drop (shape .states) (now (seen .entry)) ⌝ }
+        reachedBytes (now (hops .entry)) (chosenIn (now (chosen .entry))) (shape .states) (s .0) ++ drop (shape .states) (now (seen .entry)) ⌝ }
 {
     clear(seen, shape.states as usize);
-    let mut tail = note(seen, queue, 0, s);
+    let mut tail = visit(seen, queue, 0, s);
     let mut head = 0;
     while head < tail {
         let v = OldState(queue[head]);
-        tail = spread(shape, hops, starts, chosen, v, seen, queue, tail);
+        tail = expand(shape, hops, starts, chosen, v, seen, queue, tail);
         head += 1;
     }
 }

@@ -16,10 +16,10 @@ use Rattle.graph.proofs.Places.{has-place, place-has}
 use Rattle.lts.specs.Star.{stay, go}
 use Rattle.lts.proofs.Star.{one, join}
 use Rattle.walk_silent.specs.Silent.{SilentOf, Leads, OnRing, silentAt, leads, onRing}
-use Rattle.walk_reach.specs.Reaching.{chosenIn, Chooses}
-use Rattle.walk_reach.specs.Front.{noted, reached}
+use Rattle.walk_reach.specs.Reach.{chosenIn, Chooses}
+use Rattle.walk_reach.specs.Frontier.{visited, reachedBytes}
 use Rattle.walk_rings.specs.Ring.{leadsBackAt}
-use Rattle.walk_silent.proofs.Leads.{leads-walk, walk-leads, noted-leads}
+use Rattle.walk_silent.proofs.Leads.{leads-walk, walk-leads, visited-leads}
 use Rattle.walk_silent.proofs.Rings.{ring-walk, walk-ring}
 
 module _ (hs : List ℕ) where
@@ -35,9 +35,9 @@ module _ (hs : List ℕ) where
   ring-first s u (go {m} a p) r = (m, a, join p (one r))
 
 module _ {sh : Shape} {hs : List ℕ} (ranged : InRange sh hs) (bytes : List ℕ) (silent : Chooses hs (silentAt hs) bytes) (s : ℕ) (seen rest : List ℕ)
-    (e : seen ≡ reached hs (chosenIn bytes) (sh .states) s ++ rest) where
-  noted-is : (t : ℕ) → t < sh .states → noted seen t ≡ leads hs (sh .states) s t
-  noted-is t l = rw e (noted-leads hs bytes silent (sh .states) s rest l)
+    (e : seen ≡ reachedBytes hs (chosenIn bytes) (sh .states) s ++ rest) where
+  noted-is : (t : ℕ) → t < sh .states → visited seen t ≡ leads hs (sh .states) s t
+  noted-is t l = rw e (visited-leads hs bytes silent (sh .states) s rest l)
 
   -- after a search from s, some hop leads silently from a noted state to s exactly when s is on a ring
   pub back-ring : any (count hs) (leadsBackAt hs seen s) ≡ onRing hs (sh .states) s
@@ -46,13 +46,13 @@ module _ {sh : Shape} {hs : List ℕ} (ranged : InRange sh hs) (bytes : List ℕ
     fore : any (count hs) (leadsBackAt hs seen s) ≡ true → onRing hs (sh .states) s ≡ true
     fore h =
         let (i, l, d) = any-at (leadsBackAt hs seen s) (count hs) h in
-        let a = and-left (eqb (label hs i) 0 && eqb (to hs i) s) (noted seen (from hs i)) d in
+        let a = and-left (eqb (label hs i) 0 && eqb (to hs i) s) (visited seen (from hs i)) d in
         let r : SilentOf hs (from hs i) s =
         place-has hs (from hs i) 0 s
         (record { at = i; within = l; from-is = refl; label-is = eqb-true _ _ (and-left (eqb (label hs i) 0) (eqb (to hs i) s) a); to-is = eqb-true _ _ (and-right (eqb (label hs i) 0) (eqb (to hs i) s) a) }) in
         walk-ring ranged s
         (ring-first hs s (from hs i)
-        (leads-walk hs (sh .states) s (from hs i) (sym (noted-is (from hs i) (ranged .from-in i l)) ∙ and-right (eqb (label hs i) 0 && eqb (to hs i) s) (noted seen (from hs i)) d)) r)
+        (leads-walk hs (sh .states) s (from hs i) (sym (noted-is (from hs i) (ranged .from-in i l)) ∙ and-right (eqb (label hs i) 0 && eqb (to hs i) s) (visited seen (from hs i)) d)) r)
 
     back : onRing hs (sh .states) s ≡ true → any (count hs) (leadsBackAt hs seen s) ≡ true
     back h =

@@ -4,8 +4,8 @@ use mathlib.Core.Bool.{Bool, _&&_}
 use mathlib.Core.List.{List}
 use lib.Dec.{eqb}
 use Rattle.graph.specs.Hops.{from, label, to}
-use Rattle.walk_reach.specs.Front.{noted}
+use Rattle.walk_reach.specs.Frontier.{visited}
 
 -- the hop at place i leads back: silently, from a noted state to s
 unfoldable pub leadsBackAt : List ℕ → List ℕ → ℕ → ℕ → Bool
-leadsBackAt hs seen s i = (eqb (label hs i) 0 && eqb (to hs i) s) && noted seen (from hs i)
+leadsBackAt hs seen s i = (eqb (label hs i) 0 && eqb (to hs i) s) && visited seen (from hs i)

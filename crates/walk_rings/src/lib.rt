@@ -25,9 +25,9 @@ ghost use Rattle.base_bounded.specs.Quantifiers.{any};
 ghost use Rattle.graph.specs.Hops.{count};
 ghost use Rattle.graph_check.specs.Check.{Admitted};
 ghost use Rattle.graph_successors.specs.SuccessorIndex.{Indexed};
-ghost use Rattle.walk_reach.specs.Front.{Space};
-ghost use Rattle.walk_silent.specs.Silent.{onRing, lowestOnRing, ringless};
-ghost use Rattle.walk_silent.specs.Chosen.{SilentChosen};
+ghost use Rattle.walk_reach.specs.Frontier.{Space};
+ghost use Rattle.walk_silent.specs.Silent.{onRing, lowestOnRing, ringAnswer};
+ghost use Rattle.walk_silent.specs.SilentBytes.{SilentChosen};
 ghost use Rattle.walk_acyclic.specs.Ranks.{Ranks};
 ghost use Rattle.walk_rings.specs.Ring.{leadsBackAt};
 
@@ -129,7 +129,7 @@ pub fn lowest_on_ring(shape: Shape, hops: &[u16], starts: &[u16; STARTS]) -> usi
 // The answer of row 5, by the table of first places, which whoever asks made and needs again.
 pub fn ring_answer(shape: Shape, hops: &[u16], starts: &[u16; STARTS]) -> Answer
     requires { ⌜ Indexed shape (now hops) (now starts) ⌝ }
-    ensures { λ r. ⌜ r ≡ ringless shape (now (hops .entry)) ⌝ }
+    ensures { λ r. ⌜ r ≡ ringAnswer shape (now (hops .entry)) ⌝ }
 {
     let s = lowest_on_ring(shape, hops, starts);
     if s < shape.states as usize {

@@ -9,7 +9,7 @@ use Rattle.graph.specs.Hops.{count, to, labelled}
 use Rattle.graph_check.specs.Check.{InRange}
 use Rattle.graph.specs.declared.Shape.{Shape}
 use Rattle.graph.proofs.Places.{has-place, place-has, labelled-yes, labelled-parts}
-use Rattle.walk_reach.specs.Reaching.{ChosenOf}
+use Rattle.walk_reach.specs.Reach.{ChosenOf}
 use Rattle.walk_reach.proofs.Leads.{chosen-start, chosen-end}
 use Rattle.walk_silent.specs.Silent.{SilentOf, silentAt}
 
@@ -37,9 +37,9 @@ module _ (hs : List ℕ) where
       place-has hs s 0 t (record { at = p .at; within = p .within; from-is = p .from-is; label-is = eqb-true _ _ (p .chosen); to-is = p .to-is })
 
 -- the byte of a test tells it
-pub byte-told : {n : ℕ} (x : Bool) → n ≡ cond x 1 0 → eqb n 1 ≡ x
-byte-told true e = eq-eqb _ _ e
-byte-told false e = rw e
+pub byte-result : {n : ℕ} (x : Bool) → n ≡ cond x 1 0 → eqb n 1 ≡ x
+byte-result true e = eq-eqb _ _ e
+byte-result false e = rw e
 
 -- both ends of a silent hop are states
 module _ {sh : Shape} {hs : List ℕ} (ranged : InRange sh hs) (s t : ℕ) (h : SilentOf hs s t) where

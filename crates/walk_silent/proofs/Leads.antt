@@ -7,10 +7,10 @@ use mathlib.Core.Logic.{_↔_}
 use Rattle.graph_check.specs.Check.{InRange}
 use Rattle.graph.specs.declared.Shape.{Shape}
 use Rattle.lts.proofs.Star.{star-mono}
-use Rattle.walk_reach.specs.Reaching.{chosenIn, Chooses}
-use Rattle.walk_reach.specs.Front.{noted, reached}
+use Rattle.walk_reach.specs.Reach.{chosenIn, Chooses}
+use Rattle.walk_reach.specs.Frontier.{visited, reachedBytes}
 use Rattle.walk_reach.proofs.Leads as by
-use Rattle.walk_reach.proofs.Search.{noted-reached}
+use Rattle.walk_reach.proofs.Search.{visited-reached}
 use Rattle.walk_silent.specs.Silent.{Leads, silentAt, leads}
 use Rattle.walk_silent.proofs.Hops.{silent-chosen, chosen-silent}
 
@@ -23,11 +23,11 @@ module _ (hs : List ℕ) where
   leads-walk k s t e = star-mono (chosen-silent hs) (by.leads-walk hs (silentAt hs) k s t e)
 
   -- what the bytes say of a state that a search along the silent hops leaves
-  pub noted-leads : (bytes : List ℕ) → Chooses hs (silentAt hs) bytes → (n s : ℕ) (rest : List ℕ) {t : ℕ} → t < n →
-      noted (reached hs (chosenIn bytes) n s ++ rest) t ≡ leads hs n s t
+  pub visited-leads : (bytes : List ℕ) → Chooses hs (silentAt hs) bytes → (n s : ℕ) (rest : List ℕ) {t : ℕ} → t < n →
+      visited (reachedBytes hs (chosenIn bytes) n s ++ rest) t ≡ leads hs n s t
   unfolding Chooses
-  noted-leads bytes e n s rest {t} l =
-      noted-reached hs (chosenIn bytes) n s rest t l ∙ by.leads-same hs (chosenIn bytes) (silentAt hs) e n s t
+  visited-leads bytes e n s rest {t} l =
+      visited-reached hs (chosenIn bytes) n s rest t l ∙ by.leads-same hs (chosenIn bytes) (silentAt hs) e n s t
 
 module _ {sh : Shape} {hs : List ℕ} (ranged : InRange sh hs) where
   pub walk-leads : {s t : ℕ} → Leads hs s t → leads hs (sh .states) s t ≡ true

@@ -16,7 +16,7 @@ use Rattle.graph.specs.declared.Shape.{Shape}
 use Rattle.base_bounded.proofs.Bools.{clash, and-left, and-right, and-yes, no-test, lt-or-le}
 use Rattle.base_bounded.proofs.Quantifiers.{any-at, any-found, least-passes, least-before, least-is, tally-less}
 use Rattle.lts.specs.Star.{go}
-use Rattle.walk_silent.specs.Silent.{SilentOf, OnRing, leads, onRing, lowestOnRing, ringless}
+use Rattle.walk_silent.specs.Silent.{SilentOf, OnRing, leads, onRing, lowestOnRing, ringAnswer}
 use Rattle.walk_silent.proofs.Hops.{silent-here, silent-place, silent-start}
 use Rattle.walk_silent.proofs.Leads.{leads-self, leads-walk, walk-leads}
 
@@ -69,9 +69,9 @@ module _ {sh : Shape} {hs : List ℕ} (ranged : InRange sh hs) where
   lowest-is r h f g =
       least-is (onRing hs (sh .states)) (sh .states) r h (λ j l. no-ring-test j (f j l)) (λ l. walk-ring r (g l))
 
-  pub ringless-iff : (ringless sh hs .number ≡ 0) ↔ ((s : ℕ) → OnRing hs s → ⊥)
-  unfolding ringless
-  ringless-iff = (fore (ltb (lowestOnRing sh hs) (sh .states)) refl, back-way) where
+  pub ring-answer-iff : (ringAnswer sh hs .number ≡ 0) ↔ ((s : ℕ) → OnRing hs s → ⊥)
+  unfolding ringAnswer
+  ring-answer-iff = (fore (ltb (lowestOnRing sh hs) (sh .states)) refl, back-way) where
     fore : (x : Bool) → ltb (lowestOnRing sh hs) (sh .states) ≡ x → cond x (refused 5 (lowestOnRing sh hs)) accepted .number ≡ 0 →
         (s : ℕ) → OnRing hs s → ⊥
     fore true e z = absurd (omega arith)
@@ -96,5 +96,5 @@ rank-falls {sh} {hs} ranged none s t r =
     (leads-self hs (sh .states) s)
 
 -- the same from the answer of row 5
-pub rank-falls-accepted : {sh : Shape} {hs : List ℕ} → InRange sh hs → ringless sh hs .number ≡ 0 → (s t : ℕ) → SilentOf hs s t → rank sh hs t < rank sh hs s
-rank-falls-accepted ranged e = rank-falls ranged (ringless-iff ranged .0 e)
+pub rank-falls-accepted : {sh : Shape} {hs : List ℕ} → InRange sh hs → ringAnswer sh hs .number ≡ 0 → (s t : ℕ) → SilentOf hs s t → rank sh hs t < rank sh hs s
+rank-falls-accepted ranged e = rank-falls ranged (ring-answer-iff ranged .0 e)

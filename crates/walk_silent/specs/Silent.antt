@@ -10,7 +10,7 @@ use Rattle.graph.specs.Answers.{accepted, refused}
 use Rattle.graph.specs.declared.Shape.{Shape}
 use Rattle.graph.specs.declared.Answer.{Answer}
 use Rattle.lts.specs.Star.{Star}
-use Rattle.walk_reach.specs.Reaching.{leadsBy}
+use Rattle.walk_reach.specs.Reach.{leadsBy}
 
 -- the graph's hops as a relation, and its silent ones
 abbrev pub HopOf : List ℕ → ℕ → ℕ → ℕ → Type 0
@@ -44,5 +44,5 @@ unfoldable pub lowestOnRing : Shape → List ℕ → ℕ
 lowestOnRing sh hs = least (sh .states) (onRing hs (sh .states))
 
 -- row 5: "a ring exists"
-unfoldable pub ringless : Shape → List ℕ → Answer
-ringless sh hs = cond (ltb (lowestOnRing sh hs) (sh .states)) (refused 5 (lowestOnRing sh hs)) accepted
+unfoldable pub ringAnswer : Shape → List ℕ → Answer
+ringAnswer sh hs = cond (ltb (lowestOnRing sh hs) (sh .states)) (refused 5 (lowestOnRing sh hs)) accepted

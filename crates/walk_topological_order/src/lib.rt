@@ -1,5 +1,5 @@
 // The silent (tau) hops of a graph without rings (silent cycles) in reverse topological order:
-// those that leave a hop's end stand before it (`Line`).
+// those that leave a hop's end stand before it (`TopologicalOrder`).
 // One pass along this order, or backwards, carries a property along all walks of silent hops. A
 // state is placed when all its silent hops lead to placed states; then its own silent hops are
 // appended. Passes over the states, downward and upward alternately, go on until all are placed:
@@ -20,10 +20,10 @@ ghost use Prim.Native.Nat.{_+_, _<_, _≤_};
 ghost use lib.ListN.{length};
 ghost use Rattle.graph.specs.Hops.{count, labelled};
 ghost use Rattle.base_bounded.specs.Quantifiers.{tally};
-ghost use Rattle.walk_silent.specs.Silent.{ringless};
+ghost use Rattle.walk_silent.specs.Silent.{ringAnswer};
 ghost use Rattle.graph_successors.specs.SuccessorIndex.{Indexed};
-ghost use Rattle.walk_topological_order.specs.Line.{Line};
-ghost use Rattle.walk_topological_order.specs.Lined.{turned, Put, Lined, Tried, Only, Passed};
+ghost use Rattle.walk_topological_order.specs.TopologicalOrder.{TopologicalOrder};
+ghost use Rattle.walk_topological_order.specs.Ordering.{passState, RowAppended, OrderedSoFar, PlacedOrStuck, OnlyState, PassGains};
 
 // How far it has come: how many states are placed, and how many places stand in the line.
 pub struct Counts {
@@ -37,14 +37,14 @@ fn put_row(
     hops: &[u16],
     starts: &[u16; STARTS],
     v: OldState,
-    line: &mut [u16; MOST_HOPS],
+    sorted: &mut [u16; MOST_HOPS],
     n: usize,
 ) -> usize
     requires tabled { ⌜ Indexed shape (now hops) (now starts) ⌝ }
     requires state { ⌜ v .0 < shape .states ⌝ }
     requires fits { ⌜ n + tally (count (now hops)) (labelled (now hops) (v .0) 0) ≤ count (now hops) ⌝ }
-    requires capacity { ⌜ count (now hops) ≤ length (now line) ⌝ }
-    ensures { λ r. ⌜ Put (now (hops .entry)) (v .0) (now (line .entry)) n (now (line .exit)) r ⌝ }
+    requires capacity { ⌜ count (now hops) ≤ length (now sorted) ⌝ }
+    ensures { λ r. ⌜ RowAppended (now (hops .entry)) (v .0) (now (sorted .entry)) n (now (sorted .exit)) r ⌝ }
 {
     let s = wide(v.0);
     let past = start_of(starts, s + 1);
@@ -54,7 +54,7 @@ fn put_row(
         if label_at(hops, i).0 != 0 {
             return at;
         }
-        line[at] = i as u16;
+        sorted[at] = i as u16;
         at += 1;
         i += 1;
     }
@@ -68,14 +68,14 @@ fn place_one(
     starts: &[u16; STARTS],
     v: OldState,
     placed: &mut [u8],
-    line: &mut [u16; MOST_HOPS],
+    sorted: &mut [u16; MOST_HOPS],
     at: Counts,
 ) -> Counts
     requires tabled { ⌜ Indexed shape (now hops) (now starts) ⌝ }
     requires state { ⌜ v .0 < shape .states ⌝ }
-    requires lined { ⌜ Lined (now hops) (shape .states) (now placed) (now line) at ⌝ }
-    ensures lined { λ r. ⌜ Lined (now (hops .entry)) (shape .states) (now (placed .exit)) (now (line .exit)) r ⌝ }
-    ensures tried { λ r. ⌜ Tried (now (hops .entry)) (Only (v .0)) (now (placed .entry)) (at .states) (now (placed .exit)) (r .states) ⌝ }
+    requires ordered { ⌜ OrderedSoFar (now hops) (shape .states) (now placed) (now sorted) at ⌝ }
+    ensures ordered { λ r. ⌜ OrderedSoFar (now (hops .entry)) (shape .states) (now (placed .exit)) (now (sorted .exit)) r ⌝ }
+    ensures tried { λ r. ⌜ PlacedOrStuck (now (hops .entry)) (OnlyState (v .0)) (now (placed .entry)) (at .states) (now (placed .exit)) (r .states) ⌝ }
 {
     let s = v.0 as usize;
     if placed[s] == 1 {
@@ -85,7 +85,7 @@ fn place_one(
         return at;
     }
     placed[s] = 1;
-    let places = put_row(shape, hops, starts, v, line, at.places);
+    let places = put_row(shape, hops, starts, v, sorted, at.places);
     Counts {
         states: at.states + 1,
         places,
@@ -93,9 +93,9 @@ fn place_one(
 }
 
 // The state that a pass over n states tries after k others.
-fn turn(n: usize, down: bool, k: usize) -> usize
+fn pass_state(n: usize, down: bool, k: usize) -> usize
     requires { ⌜ k < n ⌝ }
-    ensures { λ r. ⌜ r ≡ turned n down k ⌝ }
+    ensures { λ r. ⌜ r ≡ passState n down k ⌝ }
 {
     if down {
         return n - 1 - k;
@@ -110,36 +110,36 @@ fn place_each(
     starts: &[u16; STARTS],
     down: bool,
     placed: &mut [u8],
-    line: &mut [u16; MOST_HOPS],
+    sorted: &mut [u16; MOST_HOPS],
     at: Counts,
 ) -> Counts
     requires tabled { ⌜ Indexed shape (now hops) (now starts) ⌝ }
-    requires free { ⌜ ringless shape (now hops) .number ≡ 0 ⌝ }
-    requires lined { ⌜ Lined (now hops) (shape .states) (now placed) (now line) at ⌝ }
-    ensures { λ r. ⌜ Passed (now (hops .entry)) (shape .states) at (now (placed .exit)) (now (line .exit)) r ⌝ }
+    requires free { ⌜ ringAnswer shape (now hops) .number ≡ 0 ⌝ }
+    requires ordered { ⌜ OrderedSoFar (now hops) (shape .states) (now placed) (now sorted) at ⌝ }
+    ensures { λ r. ⌜ PassGains (now (hops .entry)) (shape .states) at (now (placed .exit)) (now (sorted .exit)) r ⌝ }
 {
     let n = shape.states as usize;
     let mut got = at;
     let mut k = 0;
     while k < n {
-        let v = OldState(turn(n, down, k) as u16);
-        got = place_one(shape, hops, starts, v, placed, line, got);
+        let v = OldState(pass_state(n, down, k) as u16);
+        got = place_one(shape, hops, starts, v, placed, sorted, got);
         k += 1;
     }
     got
 }
 
 // The line of a graph without rings; returns how many places it has. Each pass places a state at least: one of those of the least rank that are left.
-pub fn line_of(
+pub fn order_of(
     shape: Shape,
     hops: &[u16],
     starts: &[u16; STARTS],
-    line: &mut [u16; MOST_HOPS],
+    sorted: &mut [u16; MOST_HOPS],
 ) -> usize
     requires tabled { ⌜ Indexed shape (now hops) (now starts) ⌝ }
-    requires free { ⌜ ringless shape (now hops) .number ≡ 0 ⌝ }
-    requires capacity { ⌜ count (now hops) ≤ length (now line) ⌝ }
-    ensures { λ r. ⌜ Line (now (hops .entry)) (now (line .exit)) r ⌝ }
+    requires free { ⌜ ringAnswer shape (now hops) .number ≡ 0 ⌝ }
+    requires capacity { ⌜ count (now hops) ≤ length (now sorted) ⌝ }
+    ensures { λ r. ⌜ TopologicalOrder (now (hops .entry)) (now (sorted .exit)) r ⌝ }
 {
     let n = shape.states as usize;
     let mut placed = [0u8; MOST_STATES];
@@ -149,7 +149,7 @@ pub fn line_of(
     };
     let mut down = true;
     while at.states < n {
-        at = place_each(shape, hops, starts, down, &mut placed, line, at);
+        at = place_each(shape, hops, starts, down, &mut placed, sorted, at);
         down = !down;
     }
     at.places

@@ -13,8 +13,8 @@ use Rattle.mark_senses.proofs.Marked.{in-silent}
 use Rattle.mark_batch_sweeps.proofs.mark_by_sweeps.Statement.{statement}
 use Rattle.mark_batch_sweeps.proofs.mark_by_sweeps.Tie as tie
 
-line-of-requires : tie.Need-line-of-requires
-line-of-requires c κs =
+order-of-requires : tie.Need-order-of-requires
+order-of-requires c κs =
     let st = c .before .before .before in
     (st .pre .0, (st .pre .1 .0, omega (arith, length-replicate {A = ℕ} most-hops 0, st .pre .0 .admitted .hops-most)))
 
@@ -25,7 +25,7 @@ settle-requires : tie.Need-settle-requires
 settle-requires c κs =
     let st = c .before .before .before .before .before .before .before .before .before .before in
     let a = st .pre .0 .admitted in (
-      record { admitted = a; ready = admitted-indexable a; lined = c .before .before .before .before .before .before .line-of .ensures },
+      record { admitted = a; ready = admitted-indexable a; lined = c .before .before .before .before .before .before .order-of .ensures },
       first-marking _ _ (in-silent (senseOf (st .args .sense)) (st .args .shape) (st .args .hops .now)) _ _ (st .pre .1 .1) (c .before .before .before .before .start-marks .ensures),
     )
 
@@ -39,4 +39,4 @@ returns c =
     marks-over hs (markedBy (st .args .sense) (st .args .shape) hs) everyPair (st .args .marks .now) (c .before .before .before .before .before .before .before .start-marks .ensures) (c .before .before .settle .ensures)
 
 pub mark-by-sweeps-spec : {M : Type 1} → statement M
-mark-by-sweeps-spec = tie.close (tie.spec line-of-requires start-marks-requires settle-requires same-length returns)
+mark-by-sweeps-spec = tie.close (tie.spec order-of-requires start-marks-requires settle-requires same-length returns)

@@ -8,15 +8,15 @@ use Rattle.graph.specs.Hops.{count, label, to}
 use Rattle.graph.specs.Search.{firstOf}
 use Rattle.graph.specs.Answers.{most-states}
 use Rattle.graph_successors.proofs.Firsts.{start-is, range-more}
-use Rattle.walk_reach.specs.Front.{noted}
-use Rattle.walk_reach.proofs.Front.{noted-yes, noted-no}
-use Rattle.walk_acyclic.specs.Ranks.{endsNoted}
+use Rattle.walk_reach.specs.Frontier.{visited}
+use Rattle.walk_reach.proofs.Frontier.{visited-yes, visited-no}
+use Rattle.walk_acyclic.specs.Ranks.{endsVisited}
 use Rattle.walk_acyclic.proofs.Ranks.{row-within, ends-fails, ends-all}
 use Rattle.walk_acyclic.proofs.ends_ranked.Statement.{statement}
 use Rattle.walk_acyclic.proofs.ends_ranked.Tie as tie
 
 abbrev Inv-loop : tie.InvT-loop
-Inv-loop hops starts ranked s past i₀ i = (i₀ ≤ i) × ((j : ℕ) → i₀ ≤ j → j < i → noted ranked (to hops j) ≡ true)
+Inv-loop hops starts ranked s past i₀ i = (i₀ ≤ i) × ((j : ℕ) → i₀ ≤ j → j < i → visited ranked (to hops j) ≡ true)
 
 abbrev μ-loop : tie.MeasureT-loop
 μ-loop hops starts ranked s past i₀ i = past - i
@@ -63,7 +63,7 @@ module _ (c : tie.At-loop Inv-loop μ-loop) where
 
   -- the way out at a place where no silent hop stands
   all-here : (c .loop .i < c .before .before .start-of .result → label (start .args .hops .now) (c .loop .i) ≡ 0 → ⊥) →
-      endsNoted (start .args .hops .now) (start .args .ranked .now) (start .args .v .0) ≡ true
+      endsVisited (start .args .hops .now) (start .args .ranked .now) (start .args .v .0) ≡ true
   all-here g =
       ends-all (start .args .hops .now) (start .args .ranked .now) (start .args .v .0) (start .pre .0 .admitted .ascending) lo-is hi-is (c .loop .i) (c .loop .inv .0) g (c .loop .inv .1)
 
@@ -103,7 +103,7 @@ returns-2 c =
     (ends-fails (s .args .hops .now) (s .args .ranked .now) (s .args .v .0) (s .pre .0 .admitted .ascending) (lo-is a) (hi-is a) (a .loop .i) (a .loop .inv .0)
     (c .before .before .before .before .before .before .before .loop-test .taken)
     (sym (c .before .before .before .before .before .before .label-at .ensures) ∙ c .before .before .before .before .if1 .left)
-    (rw (← end-is (c .before)) (noted-no _ _ (c .if2 .taken))))
+    (rw (← end-is (c .before)) (visited-no _ _ (c .if2 .taken))))
 
 add-i : tie.Need-add-i Inv-loop μ-loop
 add-i c = omega (arith, here (c .before))
@@ -114,7 +114,7 @@ loop-less c = omega (arith, c .before .before .before .before .before .before .b
 loop-again : tie.Need-loop-again Inv-loop μ-loop
 loop-again c =
     let i = turn (c .before) .loop .inv in
-    (omega (arith, i .0), range-more (i .1) (rw (← end-is (c .before)) (noted-yes _ _ (c .if2 .left))))
+    (omega (arith, i .0), range-more (i .1) (rw (← end-is (c .before)) (visited-yes _ _ (c .if2 .left))))
 
 returns-3 : tie.Need-returns-3 Inv-loop μ-loop
 returns-3 c = sym (all-here (c .before) (λ l e. omega (arith, c .loop-test .left)))

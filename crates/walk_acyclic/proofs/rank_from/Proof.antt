@@ -18,8 +18,8 @@ Inv-loop shape hops starts entered₀ via₀ ranked₀ none from₀ i₀ got₀ 
 abbrev μ-loop : tie.MeasureT-loop
 μ-loop shape hops starts entered₀ via₀ ranked₀ none from₀ i₀ got₀ left₀ entered via ranked from i got left = left
 
-is-fresh-requires : tie.Need-is-fresh-requires Inv-loop μ-loop
-is-fresh-requires c κs =
+is-unentered-requires : tie.Need-is-unentered-requires Inv-loop μ-loop
+is-unentered-requires c κs =
     let s = c .before .before .before .before in
     (s .pre .0 .admitted .states-most, (s .pre .1 .1 .capacity, s .pre .1 .0))
 
@@ -56,15 +56,15 @@ loop-holds c =
 ranks : (a : tie.At-loop Inv-loop μ-loop) → Ranks (start a .args .hops .now) (start a .args .shape .states) (a .loop .ranked)
 ranks a = ranks-later (start a .pre .1 .1) (a .loop .inv .1) (a .loop .inv .2)
 
-climb-requires : tie.Need-climb-requires Inv-loop μ-loop
-climb-requires c κs =
+descend-requires : tie.Need-descend-requires Inv-loop μ-loop
+descend-requires c κs =
     let a = c .before .before .before .before in
     (start a .pre .0, (ranks a .capacity, a .loop .inv .0))
 
 rank-one-requires : tie.Need-rank-one-requires Inv-loop μ-loop
 rank-one-requires c κs =
     let a = c .before .before .before .before .before .before in
-    (start a .pre .0, (c .before .climb .ensures, ranks a))
+    (start a .pre .0, (c .before .descend .ensures, ranks a))
 
 -- after one state more is left
 module _ (c : tie.After-slice-known2 Inv-loop μ-loop) where
@@ -83,8 +83,8 @@ module _ (c : tie.After-slice-known2 Inv-loop μ-loop) where
 add-got : tie.Need-add-got Inv-loop μ-loop
 add-got c = omega (arith, le-trans (ranked-within (joined c)) (start (turn c) .pre .0 .admitted .states-most))
 
-way-to-requires : tie.Need-way-to-requires Inv-loop μ-loop
-way-to-requires c κs = lt-of-lt-of-le (c .before .before .before .before .before .climb .ensures) (start (turn (c .before)) .pre .0 .admitted .states-most)
+entry-place-requires : tie.Need-entry-place-requires Inv-loop μ-loop
+entry-place-requires c κs = lt-of-lt-of-le (c .before .before .before .before .before .descend .ensures) (start (turn (c .before)) .pre .0 .admitted .states-most)
 
 same-length-2 : tie.Need-same-length-2 Inv-loop μ-loop
 same-length-2 c = same (c .before .before .before)
@@ -93,7 +93,7 @@ returns-2 : tie.Need-returns-2 Inv-loop μ-loop
 returns-2 c = joined (c .before .before .before)
 
 -- the hop by which the state was entered
-way : (c : tie.Else2 Inv-loop μ-loop) → c .before .way-to .result < count (start (turn (c .before .before .before)) .args .hops .now)
+way : (c : tie.Else2 Inv-loop μ-loop) → c .before .entry-place .result < count (start (turn (c .before .before .before)) .args .hops .now)
 way c = rw (turn (c .before .before .before) .before .before .before .before .before .before .hop-count .ensures) at (c .if2 .left)
 
 from-at-requires : tie.Need-from-at-requires Inv-loop μ-loop
@@ -125,7 +125,7 @@ rank-from-spec =
     (tie.spec
     Inv-loop
     μ-loop
-    is-fresh-requires
+    is-unentered-requires
     same-length
     returns
     hop-count-requires
@@ -133,10 +133,10 @@ rank-from-spec =
     wide-requires
     start-of-requires
     loop-holds
-    climb-requires
+    descend-requires
     rank-one-requires
     add-got
-    way-to-requires
+    entry-place-requires
     same-length-2
     returns-2
     from-at-requires

@@ -5,8 +5,8 @@ use native.Mathlib.Nat.{lt-of-lt-of-le}
 use borrow.Author.Needs.{needs}
 use borrow.Author.Tests.{not-false}
 use lib.ListN.{length, length-set}
-use Rattle.walk_reach.proofs.Front.{noted-no}
-use Rattle.walk_acyclic.specs.Ranks.{endsNoted}
+use Rattle.walk_reach.proofs.Frontier.{visited-no}
+use Rattle.walk_acyclic.specs.Ranks.{endsVisited}
 use Rattle.walk_acyclic.proofs.Ranks.{ranked-none, ranked-one}
 use Rattle.walk_acyclic.proofs.rank_one.Statement.{statement}
 use Rattle.walk_acyclic.proofs.rank_one.Tie as tie
@@ -44,8 +44,8 @@ same-length-2 c = simp length-set
 returns-3 : tie.Need-returns-3
 returns-3 c =
     let s = c .before .before .before .before .before .before .before .before in
-    ranked-one (s .pre .0 .admitted .range) (s .args .ranked .now) (s .args .v .0) (s .pre .1 .1 .unringed) (s .pre .1 .1 .capacity) (s .pre .1 .0) (noted-no _ _ (c .before .before .before .if1 .left))
-    (sym {b = endsNoted (s .args .hops .now) (s .args .ranked .now) (s .args .v .0)} (c .before .ends-ranked .ensures) ∙ not-false _ (c .if2 .left))
+    ranked-one (s .pre .0 .admitted .range) (s .args .ranked .now) (s .args .v .0) (s .pre .1 .1 .unringed) (s .pre .1 .1 .capacity) (s .pre .1 .0) (visited-no _ _ (c .before .before .before .if1 .left))
+    (sym {b = endsVisited (s .args .hops .now) (s .args .ranked .now) (s .args .v .0)} (c .before .ends-ranked .ensures) ∙ not-false _ (c .if2 .left))
 
 pub rank-one-spec : {M : Type 1} → statement M
 rank-one-spec =

@@ -4,7 +4,7 @@ use mathlib.Core.Path.{_≡_, refl, ap, _∙_}
 use mathlib.Core.List.{List, _++_}
 use native.Mathlib.Omega.{arith}
 use lib.ListN.{length, length-set, drop, set, replicate}
-use Rattle.walk_reach.proofs.Front.{cleared-more}
+use Rattle.walk_reach.proofs.Frontier.{cleared-more}
 use Rattle.walk_reach.proofs.clear.Statement.{statement}
 use Rattle.walk_reach.proofs.clear.Tie as tie
 

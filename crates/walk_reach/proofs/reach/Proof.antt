@@ -3,8 +3,8 @@ use Prim.Native.Nat.{ℕ, _-_}
 use mathlib.Core.List.{List}
 use native.Mathlib.Omega.{arith}
 use borrow.Author.Needs.{needs}
-use Rattle.walk_reach.specs.Reaching.{chosenIn}
-use Rattle.walk_reach.proofs.Search.{Search, search-tail, search-starts, search-turns, search-ends}
+use Rattle.walk_reach.specs.Reach.{chosenIn}
+use Rattle.walk_reach.proofs.Search.{Search, search-tail, search-starts, search-steps, search-ends}
 use Rattle.walk_reach.proofs.reach.Statement.{statement}
 use Rattle.walk_reach.proofs.reach.Tie as tie
 
@@ -23,8 +23,8 @@ cast-clear c = search needs
 clear-requires : tie.Need-clear-requires Inv-loop μ-loop
 clear-requires c κs = c .before .before .before .before .before .before .pre .1 .1 .seen-capacity
 
-note-requires : tie.Need-note-requires Inv-loop μ-loop
-note-requires c κs =
+visit-requires : tie.Need-visit-requires Inv-loop μ-loop
+visit-requires c κs =
     let p = c .before .before .before .before .before .before .before .before .before .before .before .pre in
     (omega (arith, p .1 .0, p .1 .1 .seen-capacity, c .before .before .before .before .clear .kept .0), λ e. omega (arith, p .1 .0, p .1 .1 .queue-capacity))
 
@@ -39,7 +39,7 @@ module _ (c : tie.At-loop Inv-loop μ-loop) where
   search-at : Search (start .args .hops .now) (chosenIn (start .args .chosen .now)) (start .args .shape .states) (start .args .s .0) (start .args .seen .now) (start .args .queue .now)
       (c .loop .seen) (c .loop .queue) (c .loop .head) (c .loop .tail)
   search-at =
-      let n = c .before .before .before .before .before .note .ensures in
+      let n = c .before .before .before .before .before .visit .ensures in
       c .loop .inv (start .args .s .0) (start .args .seen .now) (start .args .queue .now)
       (search-starts (start .args .shape .states) (start .args .seen .now) (start .args .queue .now) (start .pre .1 .1 .seen-capacity) (start .pre .1 .1 .queue-capacity)
       (start .args .hops .now) (chosenIn (start .args .chosen .now)) (start .args .s .0) (start .pre .1 .0) (c .before .before .before .before .before .before .before .before .before .before .clear .ensures) (n .0) (n .1 .0) (n .1 .1))
@@ -50,8 +50,8 @@ mul-t20 c = let a = search-at (c .before) in omega (arith, search-tail a, c .loo
 slice-read-t22 : tie.Need-slice-read-t22 Inv-loop μ-loop
 slice-read-t22 c = let a = search-at (c .before .before) in omega (arith, search-tail a, a .front .queue-capacity, c .before .loop-test .taken)
 
-spread-requires : tie.Need-spread-requires Inv-loop μ-loop
-spread-requires c κs =
+expand-requires : tie.Need-expand-requires Inv-loop μ-loop
+expand-requires c κs =
     let a = search-at (c .before .before .before .before) in
     (start (c .before .before .before .before) .pre .0, (a .front .from-queue _ (c .before .before .before .loop-test .taken) .0, a .front))
 
@@ -64,7 +64,7 @@ loop-less c = let a = search-at (c .before .before .before .before .before .befo
 loop-again : tie.Need-loop-again Inv-loop μ-loop
 loop-again c =
     λ s e q a.
-    search-turns (start (c .before .before .before .before .before .before .before .before .before) .pre .0 .tabled .admitted .range) (c .before .before .before .before .before .before .before .before .before .loop .inv s e q a) (c .before .before .before .before .before .before .before .before .loop-test .taken) (c .before .before .before .before .spread .ensures)
+    search-steps (start (c .before .before .before .before .before .before .before .before .before) .pre .0 .tabled .admitted .range) (c .before .before .before .before .before .before .before .before .before .loop .inv s e q a) (c .before .before .before .before .before .before .before .before .loop-test .taken) (c .before .before .before .before .expand .ensures)
 
 same-length : tie.Need-same-length Inv-loop μ-loop
 same-length c = search-at (c .before) .seen-length
@@ -84,11 +84,11 @@ reach-spec =
     μ-loop
     cast-clear
     clear-requires
-    note-requires
+    visit-requires
     loop-holds
     mul-t20
     slice-read-t22
-    spread-requires
+    expand-requires
     add-head
     loop-less
     loop-again

@@ -1,7 +1,7 @@
 -- `walk_rings::is_on_ring` meets its contract: a ranked state is on no ring, and after a search from s the hops that lead back tell. Assumes nothing.
 use mathlib.Core.Path.{sym, _∙_}
 use borrow.Author.Needs.{needs}
-use Rattle.walk_reach.proofs.Front.{noted-yes}
+use Rattle.walk_reach.proofs.Frontier.{visited-yes}
 use Rattle.base_bounded.specs.Quantifiers.{any}
 use Rattle.graph.specs.Hops.{count}
 use Rattle.walk_rings.specs.Ring.{leadsBackAt}
@@ -19,7 +19,7 @@ shared-slice-read-if1 c = search needs
 returns : tie.Need-returns
 returns c =
     let p = c .before .before .before .before .before .before .before .before .pre in
-    sym (no-ring-test (p .0 .chosen .tabled .admitted .range) _ (p .1 .1 .0 .unringed _ (p .1 .0) (noted-yes _ _ (c .if1 .taken))))
+    sym (no-ring-test (p .0 .chosen .tabled .admitted .range) _ (p .1 .1 .0 .unringed _ (p .1 .0) (visited-yes _ _ (c .if1 .taken))))
 
 reach-requires : tie.Need-reach-requires
 reach-requires c κs = search needs

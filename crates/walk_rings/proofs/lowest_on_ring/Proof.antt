@@ -2,7 +2,7 @@
 use native.Mathlib.Omega.{arith}
 use borrow.Author.Needs.{needs}
 use Rattle.graph.specs.Answers.{most-states}
-use Rattle.walk_acyclic.proofs.Ranks.{unringed-none, ranked-all, lowest-none}
+use Rattle.walk_acyclic.proofs.Ranks.{off-rings-none, ranked-all, lowest-none}
 use Rattle.walk_rings.proofs.lowest_on_ring.Statement.{statement}
 use Rattle.walk_rings.proofs.lowest_on_ring.Tie as tie
 
@@ -16,7 +16,7 @@ rank-all-requires : tie.Need-rank-all-requires
 rank-all-requires c κs =
     let s = c .before .before .before in
     let adm = s .pre .admitted in
-    (s .pre, record { capacity = adm .states-most; unringed = unringed-none (s .args .hops .now) (s .args .shape .states) most-states (adm .states-most) })
+    (s .pre, record { capacity = adm .states-most; unringed = off-rings-none (s .args .hops .now) (s .args .shape .states) most-states (adm .states-most) })
 
 returns : tie.Need-returns
 returns c =

@@ -1,7 +1,7 @@
 -- `walk_rings::returns_at` meets its contract: the code is the definition. Assumes nothing.
 use native.Mathlib.Omega.{arith}
 use borrow.Author.Needs.{needs}
-use Rattle.walk_reach.specs.Front.{noted}
+use Rattle.walk_reach.specs.Frontier.{visited}
 use Rattle.walk_rings.specs.Ring.{leadsBackAt}
 use Rattle.walk_rings.proofs.returns_at.Statement.{statement}
 use Rattle.walk_rings.proofs.returns_at.Tie as tie
@@ -24,7 +24,7 @@ shared-slice-read-result c =
     omega (arith, c .before .before .before .before .before .before .before .from-at .ensures, p .0 .range .from-in _ (p .1 .1), p .1 .0)
 
 returns : tie.Need-returns
-unfolding leadsBackAt noted
+unfolding leadsBackAt visited
 returns c = cc
 
 pub returns-at-spec : {M : Type 1} → statement M

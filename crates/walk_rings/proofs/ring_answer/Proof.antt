@@ -2,7 +2,7 @@
 use mathlib.Core.Path.{_∙_}
 use borrow.Author.Needs.{needs}
 use borrow.Author.Tests.{lt-ltb, le-ltb}
-use Rattle.walk_silent.specs.Silent.{ringless}
+use Rattle.walk_silent.specs.Silent.{ringAnswer}
 use Rattle.walk_rings.proofs.ring_answer.Statement.{statement}
 use Rattle.walk_rings.proofs.ring_answer.Tie as tie
 
@@ -16,14 +16,14 @@ refuse-requires : tie.Need-refuse-requires
 refuse-requires c κs = search needs
 
 returns : tie.Need-returns
-unfolding ringless
+unfolding ringAnswer
 returns c = c .refuse .ensures ∙ rw (← c .before .before .before .lowest-on-ring .ensures, lt-ltb _ _ (c .before .if1 .taken))
 
 accept-requires : tie.Need-accept-requires
 accept-requires c κs = search needs
 
 returns-2 : tie.Need-returns-2
-unfolding ringless
+unfolding ringAnswer
 returns-2 c = c .accept .ensures ∙ rw (← c .before .before .before .lowest-on-ring .ensures, le-ltb _ _ (c .before .if1 .left))
 
 pub ring-answer-spec : {M : Type 1} → statement M

@@ -7,11 +7,11 @@ use native.Mathlib.Omega.{arith}
 use borrow.Author.Needs.{needs}
 use borrow.Author.Tests.{not-true, not-false}
 use lib.ListN.{length, length-set}
-use Rattle.walk_reach.specs.Front.{noted}
-use Rattle.walk_reach.proofs.Front.{noted-yes, noted-no}
-use Rattle.walk_acyclic.specs.Ranks.{endsNoted}
-use Rattle.walk_topological_order.specs.Lined.{more}
-use Rattle.walk_topological_order.proofs.Lines.{tried-placed, tried-unready, lined-states, row-fits, lined-one}
+use Rattle.walk_reach.specs.Frontier.{visited}
+use Rattle.walk_reach.proofs.Frontier.{visited-yes, visited-no}
+use Rattle.walk_acyclic.specs.Ranks.{endsVisited}
+use Rattle.walk_topological_order.specs.Ordering.{more}
+use Rattle.walk_topological_order.proofs.Ordering.{placed-or-stuck-placed, placed-or-stuck-unready, ordered-states, row-fits, ordered-one}
 use Rattle.walk_topological_order.proofs.place_one.Statement.{statement}
 use Rattle.walk_topological_order.proofs.place_one.Tie as tie
 
@@ -28,7 +28,7 @@ slice-read-if1 c = byte (c .before .before .before .before)
 returns : tie.Need-returns
 returns c =
     let s = c .before .before .before .before .before in
-    (s .pre .1 .1, tried-placed _ _ _ _ (noted-yes _ _ (c .if1 .taken)))
+    (s .pre .1 .1, placed-or-stuck-placed _ _ _ _ (visited-yes _ _ (c .if1 .taken)))
 
 ends-ranked-requires : tie.Need-ends-ranked-requires
 ends-ranked-requires c κs =
@@ -41,7 +41,7 @@ same-length c = refl
 returns-2 : tie.Need-returns-2
 returns-2 c =
     let s = c .before .before .before .before .before .before .before .before in
-    (s .pre .1 .1, tried-unready _ _ _ _ (sym {b = endsNoted (s .args .hops .now) (s .args .placed .now) (s .args .v .0)} (c .before .ends-ranked .ensures) ∙ not-true _ (c .if2 .taken)))
+    (s .pre .1 .1, placed-or-stuck-unready _ _ _ _ (sym {b = endsVisited (s .args .hops .now) (s .args .placed .now) (s .args .v .0)} (c .before .ends-ranked .ensures) ∙ not-true _ (c .if2 .taken)))
 
 slice-write-placed : tie.Need-slice-write-placed
 slice-write-placed c = byte (c .before .before .before .before .before .before .before .before)
@@ -51,11 +51,11 @@ module _ (c : tie.Else2) where
   abbrev start : tie.Start
   start = c .before .before .before .before .before .before .before .before
 
-  off : noted (start .args .placed .now) (start .args .v .0) ≡ false
-  off = noted-no _ _ (c .before .before .before .if1 .left)
+  off : visited (start .args .placed .now) (start .args .v .0) ≡ false
+  off = visited-no _ _ (c .before .before .before .if1 .left)
 
-  ready : endsNoted (start .args .hops .now) (start .args .placed .now) (start .args .v .0) ≡ true
-  ready = sym {b = endsNoted (start .args .hops .now) (start .args .placed .now) (start .args .v .0)} (c .before .ends-ranked .ensures) ∙ not-false _ (c .if2 .left)
+  ready : endsVisited (start .args .hops .now) (start .args .placed .now) (start .args .v .0) ≡ true
+  ready = sym {b = endsVisited (start .args .hops .now) (start .args .placed .now) (start .args .v .0)} (c .before .ends-ranked .ensures) ∙ not-false _ (c .if2 .left)
 
 put-row-requires : tie.Need-put-row-requires
 put-row-requires c κs =
@@ -65,7 +65,7 @@ put-row-requires c κs =
 add-t18 : tie.Need-add-t18
 add-t18 c =
     let s = start (c .before .before .before) in
-    omega (arith, lined-states (s .pre .1 .1), s .pre .0 .admitted .states-most)
+    omega (arith, ordered-states (s .pre .1 .1), s .pre .0 .admitted .states-most)
 
 same-length-2 : tie.Need-same-length-2
 same-length-2 c = simp length-set
@@ -74,7 +74,7 @@ returns-3 : tie.Need-returns-3
 returns-3 c =
     let e = c .before .before .before in
     let s = start e in
-    (lined-one (s .pre .1 .1) (s .args .v .0) (s .pre .1 .0) (off e) (ready e) (c .before .put-row .ensures), more (omega arith))
+    (ordered-one (s .pre .1 .1) (s .args .v .0) (s .pre .1 .0) (off e) (ready e) (c .before .put-row .ensures), more (omega arith))
 
 pub place-one-spec : {M : Type 1} → statement M
 place-one-spec =

@@ -10,16 +10,16 @@ use Rattle.graph.specs.Answers.{most-states, most-hops}
 use Rattle.graph.proofs.Lookup.{first-within, range-only}
 use Rattle.graph.proofs.Places.{labelled-yes}
 use Rattle.graph_successors.proofs.Firsts.{start-is}
-use Rattle.walk_topological_order.specs.Lined.{Put}
-use Rattle.walk_topological_order.proofs.Rows.{Putting, putting-none, putting-capacity, putting-more, putting-done, row-told, put-told}
+use Rattle.walk_topological_order.specs.Ordering.{RowAppended}
+use Rattle.walk_topological_order.proofs.Rows.{Putting, putting-none, putting-capacity, putting-more, putting-done, row-result, put-result}
 use Rattle.walk_topological_order.proofs.put_row.Statement.{statement}
 use Rattle.walk_topological_order.proofs.put_row.Tie as tie
 
 abbrev Inv-loop : tie.InvT-loop
-Inv-loop hops starts line₀ n s past i₀ at₀ line i at = Putting hops s i₀ line₀ n line i at
+Inv-loop hops starts line₀ n s past i₀ at₀ sorted i at = Putting hops s i₀ line₀ n sorted i at
 
 abbrev μ-loop : tie.MeasureT-loop
-μ-loop hops starts line₀ n s past i₀ at₀ line i at = past - i
+μ-loop hops starts line₀ n s past i₀ at₀ sorted i at = past - i
 
 wide-requires : tie.Need-wide-requires Inv-loop μ-loop
 wide-requires c κs = search needs
@@ -68,54 +68,54 @@ label-at-requires c κs = here c
 -- the row ends where no silent hop of v stands
 done : (c : tie.At-loop Inv-loop μ-loop) →
     (c .loop .i < c .before .before .start-of .result → label (start (c .before) .args .hops .now) (c .loop .i) ≡ 0 → ⊥) →
-    Put (start (c .before) .args .hops .now) (start (c .before) .args .v .0) (start (c .before) .args .line .now) (start (c .before) .args .n) (c .loop .line) (c .loop .at)
+    RowAppended (start (c .before) .args .hops .now) (start (c .before) .args .v .0) (start (c .before) .args .sorted .now) (start (c .before) .args .n) (c .loop .sorted) (c .loop .at)
 done c g =
     let f = c .before in
-    put-told _ (f .before .before .wide .ensures) (putting-done (start f .pre .0 .admitted .ascending) (lo-is f) (hi-is f) (c .loop .inv) g)
+    put-result _ (f .before .before .wide .ensures) (putting-done (start f .pre .0 .admitted .ascending) (lo-is f) (hi-is f) (c .loop .inv) g)
 
 returns : tie.Need-returns Inv-loop μ-loop
 returns c = done (c .before .before .before .before) (λ l e. c .if1 .taken (c .before .before .label-at .ensures ∙ e))
 
 -- a silent hop of v
 module _ (c : tie.Else1 Inv-loop μ-loop) where
-  abbrev turn : tie.In-loop Inv-loop μ-loop
-  turn = c .before .before .before
+  abbrev pass-state : tie.In-loop Inv-loop μ-loop
+  pass-state = c .before .before .before
 
-  own : labelled (start (first turn) .args .hops .now) (state (first turn)) 0 (turn .before .loop .i) ≡ true
+  own : labelled (start (first pass-state) .args .hops .now) (state (first pass-state)) 0 (pass-state .before .loop .i) ≡ true
   unfolding pastOf
   own =
-      let s = start (first turn) in
-      labelled-yes (s .args .hops .now) (state (first turn)) 0 (turn .before .loop .i)
-      (range-only (s .args .hops .now) (s .pre .0 .admitted .ascending) (state (first turn)) (here turn) (omega (arith, lo-is (first turn), turn .before .loop .inv .passed))
-      (omega (arith, hi-is (first turn), turn .loop-test .taken)))
+      let s = start (first pass-state) in
+      labelled-yes (s .args .hops .now) (state (first pass-state)) 0 (pass-state .before .loop .i)
+      (range-only (s .args .hops .now) (s .pre .0 .admitted .ascending) (state (first pass-state)) (here pass-state) (omega (arith, lo-is (first pass-state), pass-state .before .loop .inv .passed))
+      (omega (arith, hi-is (first pass-state), pass-state .loop-test .taken)))
       (sym (c .before .before .label-at .ensures) ∙ c .if1 .left)
 
-  capacity : turn .before .loop .at < count (start (first turn) .args .hops .now)
-  capacity = omega (arith, putting-capacity (turn .before .loop .inv) (here turn) own, row-told (start (first turn) .args .hops .now) (first turn .before .before .wide .ensures), start (first turn) .pre .1 .1 .0)
+  capacity : pass-state .before .loop .at < count (start (first pass-state) .args .hops .now)
+  capacity = omega (arith, putting-capacity (pass-state .before .loop .inv) (here pass-state) own, row-result (start (first pass-state) .args .hops .now) (first pass-state .before .before .wide .ensures), start (first pass-state) .pre .1 .1 .0)
 
-  low-capacity : turn .before .loop .at < most-hops
-  low-capacity = omega (arith, capacity, start (first turn) .pre .0 .admitted .hops-most)
+  low-capacity : pass-state .before .loop .at < most-hops
+  low-capacity = omega (arith, capacity, start (first pass-state) .pre .0 .admitted .hops-most)
 
-cast-line : tie.Need-cast-line Inv-loop μ-loop
-cast-line c = omega (arith, here (turn c), start (first (turn c)) .pre .0 .admitted .hops-most)
+cast-sorted : tie.Need-cast-sorted Inv-loop μ-loop
+cast-sorted c = omega (arith, here (pass-state c), start (first (pass-state c)) .pre .0 .admitted .hops-most)
 
-mul-line : tie.Need-mul-line Inv-loop μ-loop
-mul-line c = omega (arith, low-capacity c)
+mul-sorted : tie.Need-mul-sorted Inv-loop μ-loop
+mul-sorted c = omega (arith, low-capacity c)
 
-element-write-line : tie.Need-element-write-line Inv-loop μ-loop
-element-write-line c = low-capacity c
+element-write-sorted : tie.Need-element-write-sorted Inv-loop μ-loop
+element-write-sorted c = low-capacity c
 
 add-at : tie.Need-add-at Inv-loop μ-loop
 add-at c = omega (arith, low-capacity c)
 
 add-i : tie.Need-add-i Inv-loop μ-loop
-add-i c = omega (arith, here (turn c), start (first (turn c)) .pre .0 .admitted .hops-most)
+add-i c = omega (arith, here (pass-state c), start (first (pass-state c)) .pre .0 .admitted .hops-most)
 
 loop-less : tie.Need-loop-less Inv-loop μ-loop
-loop-less c = omega (arith, turn c .loop-test .taken)
+loop-less c = omega (arith, pass-state c .loop-test .taken)
 
 loop-again : tie.Need-loop-again Inv-loop μ-loop
-loop-again c = putting-more (turn c .before .loop .inv) (here (turn c)) (own c) (omega (arith, capacity c, start (first (turn c)) .pre .1 .1 .1))
+loop-again c = putting-more (pass-state c .before .loop .inv) (here (pass-state c)) (own c) (omega (arith, capacity c, start (first (pass-state c)) .pre .1 .1 .1))
 
 returns-2 : tie.Need-returns-2 Inv-loop μ-loop
 returns-2 c = done (c .before) (λ l e. omega (arith, c .loop-test .left))
@@ -133,9 +133,9 @@ put-row-spec =
     loop-holds
     label-at-requires
     returns
-    cast-line
-    mul-line
-    element-write-line
+    cast-sorted
+    mul-sorted
+    element-write-sorted
     add-at
     add-i
     loop-less

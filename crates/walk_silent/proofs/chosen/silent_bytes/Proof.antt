@@ -8,9 +8,9 @@ use lib.ListN.{length, getD, length-set, length-replicate}
 use Rattle.graph.specs.Hops.{count}
 use Rattle.graph.specs.Answers.{most-hops}
 use Rattle.graph_successors.proofs.Firsts.{filled-more}
-use Rattle.walk_reach.specs.Reaching.{chosenIn, Chooses}
+use Rattle.walk_reach.specs.Reach.{chosenIn, Chooses}
 use Rattle.walk_silent.specs.Silent.{silentAt}
-use Rattle.walk_silent.proofs.Hops.{byte-told}
+use Rattle.walk_silent.proofs.Hops.{byte-result}
 use borrow.Author.Needs.{needs}
 use Rattle.walk_silent.proofs.chosen.silent_bytes.Statement.{statement}
 use Rattle.walk_silent.proofs.chosen.silent_bytes.Tie as tie
@@ -52,7 +52,7 @@ loop-again c =
 
 returns : tie.Need-returns Inv-loop μ-loop
 unfolding Chooses chosenIn
-returns c = λ j l. byte-told _ (c .before .loop .inv .3 j (omega arith))
+returns c = λ j l. byte-result _ (c .before .loop .inv .3 j (omega arith))
 
 pub silent-bytes-spec : {M : Type 1} → statement M
 silent-bytes-spec =

@@ -12,25 +12,25 @@ use Rattle.base_bounded.specs.Quantifiers.{tally, tabulate}
 use Rattle.graph.specs.Hops.{count}
 use Rattle.graph.specs.declared.Shape.{Shape}
 use Rattle.graph_successors.specs.SuccessorIndex.{Indexed}
-use Rattle.walk_reach.specs.Reaching.{ChosenOf, leadsBy, chosenIn}
+use Rattle.walk_reach.specs.Reach.{ChosenOf, leadsBy, chosenIn}
 
 -- state t is noted
-unfoldable pub noted : List ℕ → ℕ → Bool
-noted seen t = eqb (getD seen t 0) 1
+unfoldable pub visited : List ℕ → ℕ → Bool
+visited seen t = eqb (getD seen t 0) 1
 
 -- the bytes of the states that s leads to along hops of the set c, for n states
-unfoldable pub reached : List ℕ → (ℕ → Bool) → ℕ → ℕ → List ℕ
-reached hs c n s = tabulate n (λ (t : ℕ). cond (leadsBy hs c n s t) 1 0)
+unfoldable pub reachedBytes : List ℕ → (ℕ → Bool) → ℕ → ℕ → List ℕ
+reachedBytes hs c n s = tabulate n (λ (t : ℕ). cond (leadsBy hs c n s t) 1 0)
 
 -- to note t: its byte is 1, and a state that was not noted stands at the end of the queue
 unfoldable pub seenWith : List ℕ → ℕ → List ℕ
-seenWith seen t = cond (noted seen t) seen (set seen t 1)
+seenWith seen t = cond (visited seen t) seen (set seen t 1)
 
 unfoldable pub queueWith : List ℕ → List ℕ → ℕ → ℕ → List ℕ
-queueWith seen queue tail t = cond (noted seen t) queue (set queue tail t)
+queueWith seen queue tail t = cond (visited seen t) queue (set queue tail t)
 
 unfoldable pub tailWith : List ℕ → ℕ → ℕ → ℕ
-tailWith seen tail t = cond (noted seen t) tail (tail + 1)
+tailWith seen tail t = cond (visited seen t) tail (tail + 1)
 
 -- an admitted graph with its table, and a byte for each of its hops
 pub record Chosen (sh : Shape) (hs st bytes : List ℕ) : Type 0 where
@@ -43,19 +43,19 @@ pub record Space (n : ℕ) (seen queue : List ℕ) : Type 0 where
   pub queue-capacity : n ≤ length queue
 
 -- the noted ones of n states are the first `tail` of the queue
-pub record Front (n : ℕ) (seen queue : List ℕ) (tail : ℕ) : Type 0 where
+pub record Frontier (n : ℕ) (seen queue : List ℕ) (tail : ℕ) : Type 0 where
   pub seen-capacity : n ≤ length seen
   pub queue-capacity : n ≤ length queue
-  pub bits : (t : ℕ) → t < n → noted seen t ≡ false → getD seen t 0 ≡ 0
-  pub counted : tail ≤ tally n (noted seen)
-  pub in-queue : (t : ℕ) → t < n → noted seen t ≡ true → (q : ℕ) × (q < tail) × (getD queue q 0 ≡ t)
-  pub from-queue : (q : ℕ) → q < tail → (getD queue q 0 < n) × (noted seen (getD queue q 0) ≡ true)
+  pub bits : (t : ℕ) → t < n → visited seen t ≡ false → getD seen t 0 ≡ 0
+  pub counted : tail ≤ tally n (visited seen)
+  pub in-queue : (t : ℕ) → t < n → visited seen t ≡ true → (q : ℕ) × (q < tail) × (getD queue q 0 ≡ t)
+  pub from-queue : (q : ℕ) → q < tail → (getD queue q 0 < n) × (visited seen (getD queue q 0) ≡ true)
 
 -- from one front to a later one, by noting ends of hops of v of the set c
 pub record Grown (hs : List ℕ) (c : ℕ → Bool) (n v : ℕ) (seen queue : List ℕ) (tail : ℕ) (seen′ queue′ : List ℕ) (tail′ : ℕ) : Type 0 where
-  pub front : Front n seen′ queue′ tail′
-  pub kept : (u : ℕ) → noted seen u ≡ true → noted seen′ u ≡ true
-  pub new : (u : ℕ) → noted seen′ u ≡ true → (noted seen u ≡ true) ⊎ ChosenOf hs c v u
+  pub front : Frontier n seen′ queue′ tail′
+  pub kept : (u : ℕ) → visited seen u ≡ true → visited seen′ u ≡ true
+  pub new : (u : ℕ) → visited seen′ u ≡ true → (visited seen u ≡ true) ⊎ ChosenOf hs c v u
   pub same-queue : (q : ℕ) → q < tail → getD queue′ q 0 ≡ getD queue q 0
   pub tail-later : tail ≤ tail′
   pub rest : drop n seen′ ≡ drop n seen
@@ -63,6 +63,6 @@ pub record Grown (hs : List ℕ) (c : ℕ → Bool) (n v : ℕ) (seen queue : Li
   pub queue-length : length queue′ ≡ length queue
 
 -- and all of them are noted
-pub record Spread (hs : List ℕ) (c : ℕ → Bool) (n v : ℕ) (seen queue : List ℕ) (tail : ℕ) (seen′ queue′ : List ℕ) (tail′ : ℕ) : Type 0 where
+pub record Expanded (hs : List ℕ) (c : ℕ → Bool) (n v : ℕ) (seen queue : List ℕ) (tail : ℕ) (seen′ queue′ : List ℕ) (tail′ : ℕ) : Type 0 where
   pub grown : Grown hs c n v seen queue tail seen′ queue′ tail′
-  pub every : (u : ℕ) → ChosenOf hs c v u → noted seen′ u ≡ true
+  pub every : (u : ℕ) → ChosenOf hs c v u → visited seen′ u ≡ true

@@ -1,20 +1,20 @@
--- `walk_topological_order::line_of` meets its contract. The invariant: there is a line of the placed states. The measure is how many states are not placed. Assumes nothing.
+-- `walk_topological_order::order_of` meets its contract. The invariant: there is a line of the placed states. The measure is how many states are not placed. Assumes nothing.
 use Prim.Native.Nat.{ℕ, _-_}
 use mathlib.Core.Path.{_≡_, sym, _∙_}
 use native.Mathlib.Omega.{arith}
 use borrow.Author.Needs.{needs}
 use lib.ListN.{length, length-replicate}
 use Rattle.graph.specs.Answers.{most-states}
-use Rattle.walk_topological_order.specs.Lined.{Lined}
-use Rattle.walk_topological_order.proofs.Lines.{lined-none, lined-whole}
-use Rattle.walk_topological_order.proofs.line_of.Statement.{statement}
-use Rattle.walk_topological_order.proofs.line_of.Tie as tie
+use Rattle.walk_topological_order.specs.Ordering.{OrderedSoFar}
+use Rattle.walk_topological_order.proofs.Ordering.{ordered-none, ordered-whole}
+use Rattle.walk_topological_order.proofs.order_of.Statement.{statement}
+use Rattle.walk_topological_order.proofs.order_of.Tie as tie
 
 abbrev Inv-loop : tie.InvT-loop
-Inv-loop shape hops starts line₀ n placed₀ at₀ down₀ line placed at down = (length placed ≡ most-states) × Lined hops (shape .states) placed line at
+Inv-loop shape hops starts line₀ n placed₀ at₀ down₀ sorted placed at down = (length placed ≡ most-states) × OrderedSoFar hops (shape .states) placed sorted at
 
 abbrev μ-loop : tie.MeasureT-loop
-μ-loop shape hops starts line₀ n placed₀ at₀ down₀ line placed at down = n - at .states
+μ-loop shape hops starts line₀ n placed₀ at₀ down₀ sorted placed at down = n - at .states
 
 cast-n : tie.Need-cast-n Inv-loop μ-loop
 cast-n c = search needs
@@ -22,7 +22,7 @@ cast-n c = search needs
 loop-holds : tie.Need-loop-holds Inv-loop μ-loop
 loop-holds c =
     let s = c .before .before in
-    (length-replicate {A = ℕ} most-states 0, lined-none (s .pre .0 .admitted .range) (s .pre .1 .1) most-states (s .pre .0 .admitted .states-most))
+    (length-replicate {A = ℕ} most-states 0, ordered-none (s .pre .0 .admitted .range) (s .pre .1 .1) most-states (s .pre .0 .admitted .states-most))
 
 abbrev start : tie.At-loop Inv-loop μ-loop → tie.Start Inv-loop μ-loop
 start a = a .before .before .before
@@ -43,14 +43,14 @@ loop-less c =
 loop-again : tie.Need-loop-again Inv-loop μ-loop
 loop-again c =
     let p = c .before .place-each in
-    (p .kept .1 .1 .1 .1 .0 ∙ c .before .before .before .before .before .before .loop .inv .0, p .ensures .lined)
+    (p .kept .1 .1 .1 .1 .0 ∙ c .before .before .before .before .before .before .loop .inv .0, p .ensures .ordered)
 
 returns : tie.Need-returns Inv-loop μ-loop
 returns c =
     let a = c .before .before in
-    lined-whole (start a .pre .0 .admitted .range) (a .loop .inv .1) (c .if1 .left)
+    ordered-whole (start a .pre .0 .admitted .range) (a .loop .inv .1) (c .if1 .left)
 
-pub line-of-spec : {M : Type 1} → statement M
-line-of-spec =
+pub order-of-spec : {M : Type 1} → statement M
+order-of-spec =
     tie.close
     (tie.spec Inv-loop μ-loop cast-n loop-holds slice-aggregate-place-each place-each-requires loop-less loop-again returns)

@@ -1,10 +1,10 @@
--- `walk_acyclic::next_fresh` meets its contract: it looks only at places before `past`. Assumes nothing.
+-- `walk_acyclic::next_unentered` meets its contract: it looks only at places before `past`. Assumes nothing.
 use Prim.Native.Nat.{_-_, _<_}
 use native.Mathlib.Nat.{lt-of-lt-of-le}
 use native.Mathlib.Omega.{arith}
 use Rattle.graph.specs.Hops.{count}
-use Rattle.walk_acyclic.proofs.next_fresh.Statement.{statement}
-use Rattle.walk_acyclic.proofs.next_fresh.Tie as tie
+use Rattle.walk_acyclic.proofs.next_unentered.Statement.{statement}
+use Rattle.walk_acyclic.proofs.next_unentered.Tie as tie
 
 abbrev Inv-loop : tie.InvT-loop
 Inv-loop shape hops first past ranked entered i₀ i = Unit
@@ -30,8 +30,8 @@ returns c = tt
 to-at-requires : tie.Need-to-at-requires Inv-loop μ-loop
 to-at-requires c κs = here (c .before .before .before)
 
-is-fresh-requires : tie.Need-is-fresh-requires Inv-loop μ-loop
-is-fresh-requires c κs =
+is-unentered-requires : tie.Need-is-unentered-requires Inv-loop μ-loop
+is-unentered-requires c κs =
     let t = c .before .before .before .before in
     let s = start (t .before) in
     (s .pre .0 .states-most, (s .pre .1 .1, rw (c .to-at .ensures) (s .pre .0 .range .to-in _ (here t))))
@@ -51,8 +51,8 @@ loop-again c = tt
 returns-3 : tie.Need-returns-3 Inv-loop μ-loop
 returns-3 c = tt
 
-pub next-fresh-spec : {M : Type 1} → statement M
-next-fresh-spec =
+pub next-unentered-spec : {M : Type 1} → statement M
+next-unentered-spec =
     tie.close
     (tie.spec
     Inv-loop
@@ -61,7 +61,7 @@ next-fresh-spec =
     label-at-requires
     returns
     to-at-requires
-    is-fresh-requires
+    is-unentered-requires
     returns-2
     add-i
     loop-less

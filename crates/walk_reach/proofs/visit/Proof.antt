@@ -1,17 +1,17 @@
--- `walk_reach::note` meets its contract: the two ways out are the two cases of the definition. Assumes nothing.
+-- `walk_reach::visit` meets its contract: the two ways out are the two cases of the definition. Assumes nothing.
 use mathlib.Core.Path.{_≡_}
 use mathlib.Core.Bool.{true, false}
 use native.Mathlib.Omega.{arith}
 use borrow.Author.Needs.{needs}
 use Prim.Native.Nat.{_<_}
 use lib.ListN.{length}
-use Rattle.walk_reach.specs.Front.{noted, seenWith, queueWith, tailWith}
-use Rattle.walk_reach.proofs.Front.{noted-yes, noted-no}
-use Rattle.walk_reach.proofs.note.Statement.{statement}
-use Rattle.walk_reach.proofs.note.Tie as tie
+use Rattle.walk_reach.specs.Frontier.{visited, seenWith, queueWith, tailWith}
+use Rattle.walk_reach.proofs.Frontier.{visited-yes, visited-no}
+use Rattle.walk_reach.proofs.visit.Statement.{statement}
+use Rattle.walk_reach.proofs.visit.Tie as tie
 
-new : (c : tie.Else1) → noted (c .before .before .before .args .seen .now) (c .before .before .before .args .t .0) ≡ false
-new c = noted-no _ _ (c .if1 .left)
+new : (c : tie.Else1) → visited (c .before .before .before .args .seen .now) (c .before .before .before .args .t .0) ≡ false
+new c = visited-no _ _ (c .if1 .left)
 
 capacity : (c : tie.Else1) → c .before .before .before .args .tail < length (c .before .before .before .args .queue .now)
 capacity c = c .before .before .before .pre .1 (new c)
@@ -25,7 +25,7 @@ slice-read-if1 c = search needs
 returns : tie.Need-returns
 unfolding seenWith queueWith tailWith
 returns c =
-    let e : noted (c .before .before .before .args .seen .now) (c .before .before .before .args .t .0) ≡ true = noted-yes _ _ (c .if1 .taken) in
+    let e : visited (c .before .before .before .args .seen .now) (c .before .before .before .args .t .0) ≡ true = visited-yes _ _ (c .if1 .taken) in
     (rw e, (rw e, rw e))
 
 slice-write-seen : tie.Need-slice-write-seen
@@ -50,8 +50,8 @@ returns-2 : tie.Need-returns-2
 unfolding seenWith queueWith tailWith
 returns-2 c = (rw (new c), (rw (new c), rw (new c)))
 
-pub note-spec : {M : Type 1} → statement M
-note-spec =
+pub visit-spec : {M : Type 1} → statement M
+visit-spec =
     tie.close
     (tie.spec
     cast-at

@@ -7,9 +7,9 @@ use lib.ListN.{length, getD}
 use Rattle.graph.specs.Hops.{count, from, label, to}
 
 -- the first n numbers are the places of the silent hops, each of them there, and where one leads to a state the silent hops of that state stand before it
-pub record Line (hs line : List ℕ) (n : ℕ) : Type 0 where
-  pub capacity : n ≤ length line
-  pub within : (k : ℕ) → k < n → getD line k 0 < count hs
-  pub silent : (k : ℕ) → k < n → label hs (getD line k 0) ≡ 0
-  pub every : (i : ℕ) → i < count hs → label hs i ≡ 0 → (k : ℕ) × (k < n) × (getD line k 0 ≡ i)
-  pub order : (j k : ℕ) → j < n → k < n → to hs (getD line j 0) ≡ from hs (getD line k 0) → k < j
+pub record TopologicalOrder (hs sorted : List ℕ) (n : ℕ) : Type 0 where
+  pub capacity : n ≤ length sorted
+  pub within : (k : ℕ) → k < n → getD sorted k 0 < count hs
+  pub silent : (k : ℕ) → k < n → label hs (getD sorted k 0) ≡ 0
+  pub every : (i : ℕ) → i < count hs → label hs i ≡ 0 → (k : ℕ) × (k < n) × (getD sorted k 0 ≡ i)
+  pub order : (j k : ℕ) → j < n → k < n → to hs (getD sorted j 0) ≡ from hs (getD sorted k 0) → k < j

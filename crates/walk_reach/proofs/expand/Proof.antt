@@ -1,4 +1,4 @@
--- `walk_reach::spread` meets its contract. The invariant: the front has grown by the ends of the chosen hops passed so far. Assumes nothing.
+-- `walk_reach::expand` meets its contract. The invariant: the front has grown by the ends of the chosen hops passed so far. Assumes nothing.
 use Prim.Native.Nat.{ℕ, _+_, _-_, _<_, _≤_}
 use mathlib.Core.Path.{_≡_, refl, ap, _∙_}
 use mathlib.Core.Logic.{⊎-elim}
@@ -6,18 +6,18 @@ use native.Mathlib.Omega.{arith}
 use borrow.Author.Needs.{needs}
 use Rattle.graph.specs.Answers.{most-states}
 use Rattle.graph.specs.declared.Shape.{Shape}
-use Rattle.walk_reach.specs.Reaching.{chosenIn}
+use Rattle.walk_reach.specs.Reach.{chosenIn}
 use Rattle.graph_successors.proofs.Firsts.{start-is}
-use Rattle.walk_reach.specs.Front.{Front}
-use Rattle.walk_reach.proofs.Front.{front-capacity}
-use Rattle.walk_reach.proofs.Spreading.{chosen-yes, chosen-no, Range, Passed, place-within, end-within, passed-none, passed-more, passed-over, passed-all}
-use Rattle.walk_reach.proofs.spread.Statement.{statement}
-use Rattle.walk_reach.proofs.spread.Tie as tie
+use Rattle.walk_reach.specs.Frontier.{Frontier}
+use Rattle.walk_reach.proofs.Frontier.{front-capacity}
+use Rattle.walk_reach.proofs.Expanding.{chosen-yes, chosen-no, Range, Passed, place-within, end-within, passed-none, passed-more, passed-over, passed-all}
+use Rattle.walk_reach.proofs.expand.Statement.{statement}
+use Rattle.walk_reach.proofs.expand.Tie as tie
 
 -- over every shape and state v whose hops stand from i₀ up to `past`: the loop holds neither
 abbrev Inv-loop : tie.InvT-loop
 Inv-loop hops starts chosen seen₀ queue₀ tail at past end₀ i₀ seen queue end i =
-    (i₀ ≤ i) × ((sh : Shape) (v : ℕ) → Range sh hops v i₀ past → Front (sh .states) seen₀ queue₀ tail →
+    (i₀ ≤ i) × ((sh : Shape) (v : ℕ) → Range sh hops v i₀ past → Frontier (sh .states) seen₀ queue₀ tail →
     Passed hops (chosenIn chosen) (sh .states) v i₀ i seen₀ queue₀ tail seen queue end)
 
 abbrev μ-loop : tie.MeasureT-loop
@@ -72,8 +72,8 @@ shared-slice-read-if1 c =
 to-at-requires : tie.Need-to-at-requires Inv-loop μ-loop
 to-at-requires c κs = place-within (range (c .before .before .before .before .before)) _ (c .before .before .before .before .loop-test .taken)
 
-note-requires : tie.Need-note-requires Inv-loop μ-loop
-note-requires c κs =
+visit-requires : tie.Need-visit-requires Inv-loop μ-loop
+visit-requires c κs =
     let a = c .before .before .before .before .before .before in
     let within : c .to-at .result .0 < start a .args .shape .states =
     rw (c .to-at .ensures) (end-within (range a) _ (c .before .before .before .before .before .loop-test .taken)) in (
@@ -108,8 +108,8 @@ same-length-2 c = passed (c .before) .grown .queue-length
 returns : tie.Need-returns Inv-loop μ-loop
 returns c = passed-all (range (c .before)) _ (passed (c .before)) (c .loop-test .left)
 
-pub spread-spec : {M : Type 1} → statement M
-spread-spec =
+pub expand-spec : {M : Type 1} → statement M
+expand-spec =
     tie.close
     (tie.spec
     Inv-loop
@@ -121,7 +121,7 @@ spread-spec =
     loop-holds
     shared-slice-read-if1
     to-at-requires
-    note-requires
+    visit-requires
     add-i
     loop-less
     loop-again

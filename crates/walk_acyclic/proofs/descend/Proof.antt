@@ -1,4 +1,4 @@
--- `walk_acyclic::climb` meets its contract: it is always at a state. Assumes nothing.
+-- `walk_acyclic::descend` meets its contract: it is always at a state. Assumes nothing.
 use Prim.Native.Nat.{_+_, _<_, _≤_}
 use mathlib.Core.Path.{refl}
 use native.Mathlib.Nat.{lt-of-lt-of-le, le-of-lt, le-trans}
@@ -7,8 +7,8 @@ use Rattle.graph.specs.Hops.{count}
 use Rattle.graph.specs.Answers.{most-states}
 use Rattle.graph.proofs.Lookup.{first-within}
 use Rattle.graph_successors.proofs.Firsts.{start-is}
-use Rattle.walk_acyclic.proofs.climb.Statement.{statement}
-use Rattle.walk_acyclic.proofs.climb.Tie as tie
+use Rattle.walk_acyclic.proofs.descend.Statement.{statement}
+use Rattle.walk_acyclic.proofs.descend.Tie as tie
 
 abbrev Inv-loop : tie.InvT-loop
 Inv-loop shape hops starts place ranked entered₀ via₀ top₀ i₀ left₀ entered via top i left = top .0 < shape .states
@@ -44,8 +44,8 @@ add-start-of c = omega (arith, low c)
 start-of-requires : tie.Need-start-of-requires Inv-loop μ-loop
 start-of-requires c κs = omega (arith, low c)
 
-next-fresh-requires : tie.Need-next-fresh-requires Inv-loop μ-loop
-next-fresh-requires c κs =
+next-unentered-requires : tie.Need-next-unentered-requires Inv-loop μ-loop
+next-unentered-requires c κs =
     let s = start (c .before .before .before .before) in
     (s .pre .0 .admitted, (past-within (c .before), s .pre .1 .0))
 
@@ -53,7 +53,7 @@ returns : tie.Need-returns Inv-loop μ-loop
 returns c = c .before .before .before .before .before .before .loop .inv
 
 -- the state that it goes on to
-here : (c : tie.Else1 Inv-loop μ-loop) → c .before .next-fresh .result < count (start (c .before .before .before .before .before .before) .args .hops .now)
+here : (c : tie.Else1 Inv-loop μ-loop) → c .before .next-unentered .result < count (start (c .before .before .before .before .before .before) .args .hops .now)
 here c = lt-of-lt-of-le (c .if1 .left) (past-within (c .before .before .before))
 
 to-at-requires : tie.Need-to-at-requires Inv-loop μ-loop
@@ -89,8 +89,8 @@ loop-again c = next (c .before .before .before .before .before)
 returns-2 : tie.Need-returns-2 Inv-loop μ-loop
 returns-2 c = c .before .loop .inv
 
-pub climb-spec : {M : Type 1} → statement M
-climb-spec =
+pub descend-spec : {M : Type 1} → statement M
+descend-spec =
     tie.close
     (tie.spec
     Inv-loop
@@ -99,7 +99,7 @@ climb-spec =
     wide-requires
     add-start-of
     start-of-requires
-    next-fresh-requires
+    next-unentered-requires
     returns
     to-at-requires
     enter-requires

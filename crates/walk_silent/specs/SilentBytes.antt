@@ -2,8 +2,8 @@
 use Prim.Native.Nat.{ℕ}
 use mathlib.Core.List.{List}
 use Rattle.graph.specs.declared.Shape.{Shape}
-use Rattle.walk_reach.specs.Reaching.{Chooses}
-use Rattle.walk_reach.specs.Front.{Chosen}
+use Rattle.walk_reach.specs.Reach.{Chooses}
+use Rattle.walk_reach.specs.Frontier.{Chosen}
 use Rattle.walk_silent.specs.Silent.{silentAt}
 
 -- an admitted graph with its table, and the bytes of its silent hops

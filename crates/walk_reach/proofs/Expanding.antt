@@ -14,9 +14,9 @@ use Rattle.graph_check.specs.Check.{Admitted}
 use Rattle.graph.specs.declared.Shape.{Shape}
 use Rattle.base_bounded.proofs.Bools.{clash, eq-or-not}
 use Rattle.graph.proofs.Lookup.{range-holds, range-only, first-within}
-use Rattle.walk_reach.specs.Reaching.{ChosenOf, chosenIn}
-use Rattle.walk_reach.specs.Front.{noted, seenWith, queueWith, tailWith, Front, Grown, Spread}
-use Rattle.walk_reach.proofs.Front.{grown-self, grown-note, noted-with, noted-kept}
+use Rattle.walk_reach.specs.Reach.{ChosenOf, chosenIn}
+use Rattle.walk_reach.specs.Frontier.{visited, seenWith, queueWith, tailWith, Frontier, Grown, Expanded}
+use Rattle.walk_reach.proofs.Frontier.{grown-self, grown-visit, visited-with, visited-kept}
 
 -- the byte of a hop tells whether it is chosen
 module _ (bytes : List ℕ) (i : ℕ) where
@@ -37,7 +37,7 @@ pub record Range (sh : Shape) (hs : List ℕ) (v lo hi : ℕ) : Type 0 where
 -- the front has grown by the chosen hops from `lo` up to i
 pub record Passed (hs : List ℕ) (c : ℕ → Bool) (n v lo i : ℕ) (seen queue : List ℕ) (tail : ℕ) (seen′ queue′ : List ℕ) (tail′ : ℕ) : Type 0 where
   pub grown : Grown hs c n v seen queue tail seen′ queue′ tail′
-  pub ends : (j : ℕ) → lo ≤ j → j < i → c j ≡ true → noted seen′ (to hs j) ≡ true
+  pub ends : (j : ℕ) → lo ≤ j → j < i → c j ≡ true → visited seen′ (to hs j) ≡ true
 
 module _ {sh : Shape} {hs : List ℕ} {v lo hi : ℕ} (r : Range sh hs v lo hi) where
   pub place-within : (i : ℕ) → i < hi → i < count hs
@@ -47,7 +47,7 @@ module _ {sh : Shape} {hs : List ℕ} {v lo hi : ℕ} (r : Range sh hs v lo hi) 
   end-within i l = r .admitted .range .to-in i (place-within i l)
 
   module _ (c : ℕ → Bool) where
-    pub passed-none : {seen queue : List ℕ} {tail : ℕ} → Front (sh .states) seen queue tail →
+    pub passed-none : {seen queue : List ℕ} {tail : ℕ} → Frontier (sh .states) seen queue tail →
         Passed hs c (sh .states) v lo lo seen queue tail seen queue tail
     passed-none f = record { grown = grown-self hs c (sh .states) v f; ends = λ j l m. absurd (omega arith) }
 
@@ -57,7 +57,7 @@ module _ {sh : Shape} {hs : List ℕ} {v lo hi : ℕ} (r : Range sh hs v lo hi) 
           Passed hs c (sh .states) v lo (i + 1) seen queue tail (seenWith seen₁ (to hs i)) (queueWith seen₁ queue₁ tail₁ (to hs i)) (tailWith seen₁ tail₁ (to hs i))
       unfolding pastOf
       passed-next l m e = record {
-        grown = grown-note hs c (sh .states) v (p .grown) (to hs i) (end-within i m)
+        grown = grown-visit hs c (sh .states) v (p .grown) (to hs i) (end-within i m)
             (record {
               at = i;
               within = place-within i m;
@@ -65,8 +65,8 @@ module _ {sh : Shape} {hs : List ℕ} {v lo hi : ℕ} (r : Range sh hs v lo hi) 
               chosen = e;
               to-is = refl;
             });
-        ends = λ j a b d. ⊎-elim (λ q. ap (λ (k : ℕ). noted (seenWith seen₁ (to hs i)) (to hs k)) q ∙ noted-with seen₁ (to hs i) capacity)
-            (λ f. noted-kept seen₁ (to hs i) (to hs j) capacity (p .ends j a (omega arith) d)) (eq-or-not j i);
+        ends = λ j a b d. ⊎-elim (λ q. ap (λ (k : ℕ). visited (seenWith seen₁ (to hs i)) (to hs k)) q ∙ visited-with seen₁ (to hs i) capacity)
+            (λ f. visited-kept seen₁ (to hs i) (to hs j) capacity (p .ends j a (omega arith) d)) (eq-or-not j i);
       } where
         capacity : to hs i < length seen₁
         capacity = omega (arith, end-within i m, p .grown .front .seen-capacity)
@@ -84,10 +84,10 @@ module _ {sh : Shape} {hs : List ℕ} {v lo hi : ℕ} (r : Range sh hs v lo hi) 
         ends = λ j a b d. ⊎-elim (λ q. clash d (ap c q ∙ e)) (λ f. p .ends j a (omega arith) d) (eq-or-not j i);
       }
 
-      pub passed-all : hi ≤ i → Spread hs c (sh .states) v seen queue tail seen₁ queue₁ tail₁
+      pub passed-all : hi ≤ i → Expanded hs c (sh .states) v seen queue tail seen₁ queue₁ tail₁
       unfolding pastOf
-      passed-all l = record { grown = p .grown; every = λ u h. reached u h } where
-        reached : (u : ℕ) → ChosenOf hs c v u → noted seen₁ u ≡ true
-        reached u h =
+      passed-all l = record { grown = p .grown; every = λ u h. reachedBytes u h } where
+        reachedBytes : (u : ℕ) → ChosenOf hs c v u → visited seen₁ u ≡ true
+        reachedBytes u h =
             let (a, b) = range-holds hs (r .admitted .ascending) v (h .within) (h .from-is) in
-            ap (noted seen₁) (sym (h .to-is)) ∙ p .ends (h .at) (omega (arith, r .lo-is)) (omega (arith, r .hi-is)) (h .chosen)
+            ap (visited seen₁) (sym (h .to-is)) ∙ p .ends (h .at) (omega (arith, r .lo-is)) (omega (arith, r .hi-is)) (h .chosen)
