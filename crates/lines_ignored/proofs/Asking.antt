@@ -11,8 +11,8 @@ use Rattle.graph.specs.declared.Shape.{Shape}
 use Rattle.graph.proofs.Ordered.{alike-itself, before-alike}
 use Rattle.graph_find.specs.Find.{hopsBefore, findOf}
 use Rattle.base_fixpoint.specs.Pairs.{Pairs}
-use Rattle.mark_worklist.specs.Due.{fell, standing, reached, shaken, due, testsIn, testsUpTo, testsOf}
-use Rattle.mark_entry_fast.specs.Fast.{countedOf}
+use Rattle.mark_worklist.specs.Tests.{fell, stillMarked, affectedAt, affected, testedIn, testsIn, testsUpTo, testsOf}
+use Rattle.mark_entry_fast.specs.Fast.{markFastOf}
 use Rattle.mark_entry_round.specs.Question.{silentPlace, questionAnswer, questionOf}
 use Rattle.lines_ignored.specs.Unlined.{Unlined}
 use Rattle.lines_ignored.proofs.Checks.{count-same, from-same, label-same, to-same, has-same, check-same}
@@ -41,17 +41,17 @@ module _ {hs hs' : List ℕ} (un : Unlined hs hs') where
   unfolding fell
   fell-same k = λ d. λ (s t : ℕ). survives-same un d k s t && not (survives-same un d (suc k) s t)
 
-  standing-same : (k i : ℕ) → standing hs k i ≡ standing hs' k i
-  unfolding standing
+  standing-same : (k i : ℕ) → stillMarked hs k i ≡ stillMarked hs' k i
+  unfolding stillMarked
   standing-same k i = rw (label-same un i, survives-same un, from-same un i, to-same un i)
 
-  shaken-same : (v : Pairs) → shaken hs v ≡ shaken hs' v
-  unfolding shaken reached
+  shaken-same : (v : Pairs) → affected hs v ≡ affected hs' v
+  unfolding affected affectedAt
   shaken-same v = λ d. λ (s1 s2 : ℕ). any (count-same un d)
       (λ (j : ℕ). eqb (from-same un j d) s1 && answers-same un v d s2 (label-same un j d) (to-same un j d))
 
-  due-same : (k i : ℕ) → due hs k i ≡ due hs' k i
-  unfolding due
+  due-same : (k i : ℕ) → testedIn hs k i ≡ testedIn hs' k i
+  unfolding testedIn
   due-same zero i = λ d. eqb (label-same un i d) 0
   due-same (suc k) i = rw (standing-same (suc k) i, fell-same k, shaken-same, from-same un i, to-same un i)
 
@@ -59,6 +59,6 @@ module _ {hs hs' : List ℕ} (un : Unlined hs hs') where
   unfolding testsOf testsUpTo testsIn
   tests-same = λ d. total (count-same un d) (λ (k : ℕ). tally (count-same un d) (λ (i : ℕ). due-same k i d))
 
-  pub counted-same : (sh : Shape) (out : List ℕ) → countedOf sh hs out ≡ countedOf sh hs' out
-  unfolding countedOf
+  pub counted-same : (sh : Shape) (out : List ℕ) → markFastOf sh hs out ≡ markFastOf sh hs' out
+  unfolding markFastOf
   counted-same sh out = rw (mark-answer-same un sh 1 out, tests-same)

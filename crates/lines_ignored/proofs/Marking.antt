@@ -11,8 +11,8 @@ use Rattle.lts.specs.Closes.{Reach, nowhere, single, walks, Sense}
 use Rattle.base_fixpoint.specs.Pairs.{Pairs}
 use Rattle.base_fixpoint.specs.Approximants.{approximant}
 use Rattle.mark_confluence.specs.Rounds.{Trials, closing, answer, hopAnswers, answers, tried, closes, silentHops, survives}
-use Rattle.mark_confluence.specs.Held.{markOf, marksOf}
-use Rattle.mark_senses.specs.Senses.{setAt, comes, takes, meets, takesTo, answersFrom, answeredIn, closesIn, markedIn, markedBy, senseOf}
+use Rattle.mark_confluence.specs.MarkSet.{markOf, marksOf}
+use Rattle.mark_senses.specs.Senses.{inSetAt, reachesBy, hopOrStay, joinsAt, answersTo, answersFrom, answeredIn, closesIn, markedIn, markedBy, senseOf}
 use Rattle.mark_entry.specs.Mark.{marksMade, markAnswer, markOutput}
 use Rattle.lines_ignored.specs.Unlined.{Unlined}
 use Rattle.lines_ignored.proofs.Checks.{count-same, from-same, label-same, to-same, labelled-same, has-same, check-same}
@@ -41,19 +41,19 @@ module _ {hs hs' : List ℕ} (un : Unlined hs hs') where
   survives-same = λ d. approximant (closes-same d) (silent-hops-same d)
 
   module _ (n : ℕ) (u : Pairs) where
-    set-same : setAt hs u ≡ setAt hs' u
-    unfolding setAt
+    set-same : inSetAt hs u ≡ inSetAt hs' u
+    unfolding inSetAt
     set-same = λ d. λ (i : ℕ). eqb (label-same un i d) 0 && u (from-same un i d) (to-same un i d)
 
-    comes-same : (r : Reach) (s t : ℕ) → comes hs n u r s t ≡ comes hs' n u r s t
-    unfolding comes
+    comes-same : (r : Reach) (s t : ℕ) → reachesBy hs n u r s t ≡ reachesBy hs' n u r s t
+    unfolding reachesBy
     comes-same nowhere s t = refl
     comes-same single s t = refl
     comes-same walks s t = leads-by-same un set-same n s t
 
     module _ (sense : Sense) where
       answered-same : answeredIn sense hs n u ≡ answeredIn sense hs' n u
-      unfolding answeredIn answersFrom takesTo takes meets
+      unfolding answeredIn answersFrom answersTo hopOrStay joinsAt
       answered-same = λ d. λ (s2 a s3 : ℕ). any n (λ (p : ℕ). comes-same (sense .before) s2 p d &&
           any n (λ (q : ℕ). (has-same un d p a q || (eqb a 0 && eqb q p)) &&
           any n (λ (s4 : ℕ). comes-same (sense .after) q s4 d && comes-same (sense .closing) s3 s4 d)))

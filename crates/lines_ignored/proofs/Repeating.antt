@@ -9,7 +9,7 @@ use lib.Dec.{eqb}
 use Rattle.base_bounded.specs.Quantifiers.{any}
 use Rattle.graph.specs.Hops.{flat}
 use Rattle.graph.specs.declared.Shape.{Shape}
-use Rattle.mark_senses.specs.Senses.{setAt}
+use Rattle.mark_senses.specs.Senses.{inSetAt}
 use Rattle.reduce_entry.specs.Reduce.{markedMap, markedShape, markedHops}
 use Rattle.shrink_compose.specs.Chained.{chained}
 use Rattle.shrink_iterate.specs.Repeating.{Stage, firstStage, nextStage, someMarked, marksSome, repeated, lastOf, lastStage}
@@ -20,7 +20,7 @@ use Rattle.lines_ignored.proofs.Marking.{marked-same}
 use Rattle.lines_ignored.proofs.Reducing.{marked-map-same, marked-shape-same, marked-hops-unlined, answer-same}
 
 some-same : {hs hs' : List ℕ} → Unlined hs hs' → (k : ℕ) (sh : Shape) → someMarked k sh hs ≡ someMarked k sh hs'
-unfolding someMarked setAt
+unfolding someMarked inSetAt
 some-same un k sh = λ d. any (count-same un d) (λ (i : ℕ). eqb (label-same un i d) 0 && marked-same un sh k d (from-same un i d) (to-same un i d))
 
 -- two stages that differ in lines alone

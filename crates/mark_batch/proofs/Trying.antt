@@ -21,27 +21,27 @@ use Rattle.graph_check.specs.Check.{InRange}
 use Rattle.lts.specs.Closes.{nowhere, Via, here, Sense, Answered, Closes}
 use Rattle.walk_silent.specs.Silent.{HopOf}
 use Rattle.base_fixpoint.specs.Pairs.{Pairs, In}
-use Rattle.mark_confluence.specs.Held.{isMarked, heldBy, marksOf}
-use Rattle.mark_confluence.proofs.Held.{held-says, held-yes}
+use Rattle.mark_confluence.specs.MarkSet.{isMarked, markSet, marksOf}
+use Rattle.mark_confluence.proofs.MarkSet.{mark-set-says, mark-set-yes}
 use Rattle.mark_senses.specs.Senses.{closesIn, markedIn}
 use Rattle.mark_senses.proofs.Tests.{closes-says, closes-yes}
 use Rattle.mark_senses.proofs.Marked.{in-kept, in-same}
 use Rattle.mark_sweeps.specs.Sweep.{markCount, Marking, Swept}
-use Rattle.mark_sweeps.proofs.Settling.{settled-marks}
+use Rattle.mark_sweeps.proofs.Fixpoint.{fixpoint-marks}
 use Rattle.base_bitset.specs.Bits.{bitIn, word-bits}
-use Rattle.mark_batch_spread.specs.Spread.{Back, Forth}
-use Rattle.mark_batch_tables.specs.Trials.{Keyed, Answering}
-use Rattle.mark_batch_filter.specs.Judged.{fits, Judged}
-use Rattle.mark_batch.specs.Batch.{Anything, AnsweredAt, TriedIn}
+use Rattle.mark_batch_spread.specs.Spread.{SpreadBack, SpreadForth}
+use Rattle.mark_batch_tables.specs.BatchTables.{KeyTable, AnswerTable}
+use Rattle.mark_batch_filter.specs.Filtered.{fits, Filtered}
+use Rattle.mark_batch.specs.Batch.{NothingKnown, AnsweredAt, TriedIn}
 
 -- a reach that leads nowhere leaves a table as it is
-pub back-nowhere : (U : ℕ → ℕ → Type 0) (ws : List ℕ) → Back U nowhere ws ws
+pub back-nowhere : (U : ℕ → ℕ → Type 0) (ws : List ℕ) → SpreadBack U nowhere ws ws
 back-nowhere U ws s b = ((λ e. (s, here, e)), (λ (t, v, e). same v e)) where
   same : {t : ℕ} → Via U nowhere s t → bitIn ws t b ≡ true → bitIn ws s b ≡ true
   same here e = e
 
 -- bit b of a table by a key
-module _ (key : ℕ → ℕ) (base m : ℕ) (table : List ℕ) (k : Keyed key base m table) where
+module _ (key : ℕ → ℕ) (base m : ℕ) (table : List ℕ) (k : KeyTable key base m table) where
   keyed-says : (s b : ℕ) → bitIn table s b ≡ true → (b < m) × (key (base + b) ≡ s)
   keyed-says s b e =
       let h : (ltb b m && eqb (key (base + b)) s) ≡ true = sym (k s b) ∙ e in
@@ -57,12 +57,12 @@ pub record Tables (sense : Sense) (hs : List ℕ) (U : ℕ → ℕ → Type 0) (
   pub followed : List ℕ
   pub labels : List ℕ
   pub taken : List ℕ
-  pub ends-are : Keyed (to hs) base m ends
-  pub closed-are : Forth U (sense .closing) ends closed
-  pub followed-are : Back U (sense .after) closed followed
-  pub labels-are : Keyed (label hs) base m labels
-  pub taken-are : Answering hs labels followed taken
-  pub answers-are : Back U (sense .before) taken answers
+  pub ends-are : KeyTable (to hs) base m ends
+  pub closed-are : SpreadForth U (sense .closing) ends closed
+  pub followed-are : SpreadBack U (sense .after) closed followed
+  pub labels-are : KeyTable (label hs) base m labels
+  pub taken-are : AnswerTable hs labels followed taken
+  pub answers-are : SpreadBack U (sense .before) taken answers
 
 module _ {sense : Sense} {hs : List ℕ} {U : ℕ → ℕ → Type 0} {base m : ℕ} {answers : List ℕ} (t : Tables sense hs U base m answers) where
   pub answers-say : (p b : ℕ) → bitIn answers p b ≡ true → Answered sense (HopOf hs) U p (label hs (base + b)) (to hs (base + b))
@@ -92,7 +92,7 @@ module _ {sense : Sense} {hs : List ℕ} {U : ℕ → ℕ → Type 0} {base m : 
 
 -- judging by the tables of a batch
 module _ (sense : Sense) (sh : Shape) (hs ms : List ℕ) (k : Marking hs (markedIn sense sh hs) ms) (base m : ℕ) (froms answers : List ℕ)
-    (few : m ≤ word-bits) (inside : base + m ≤ count hs) (f : Keyed (from hs) base m froms) (t : Tables sense hs (In (heldBy hs ms)) base m answers) where
+    (few : m ≤ word-bits) (inside : base + m ≤ count hs) (f : KeyTable (from hs) base m froms) (t : Tables sense hs (In (markSet hs ms)) base m answers) where
   -- a hop fits exactly when each hop of its state in the batch is answered
   fits-says : (i j : ℕ) → fits hs froms answers i ≡ true → base ≤ j → j < base + m → from hs j ≡ from hs i → AnsweredAt sense hs ms i j
   unfolding fits
@@ -119,15 +119,15 @@ module _ (sense : Sense) (sh : Shape) (hs ms : List ℕ) (k : Marking hs (marked
   -- a hop of the marked set fits
   marked-fits : (i : ℕ) → markedIn sense sh hs (from hs i) (to hs i) ≡ true → fits hs froms answers i ≡ true
   marked-fits i e = fits-yes i answered where
-    closed : Closes sense (HopOf hs) (In (heldBy hs ms)) (from hs i) (to hs i)
-    closed = closes-says sense sh hs (heldBy hs ms) (from hs i) (to hs i) (in-kept sense sh hs (heldBy hs ms) (k .holds) (from hs i) (to hs i) e)
+    closed : Closes sense (HopOf hs) (In (markSet hs ms)) (from hs i) (to hs i)
+    closed = closes-says sense sh hs (markSet hs ms) (from hs i) (to hs i) (in-kept sense sh hs (markSet hs ms) (k .holds) (from hs i) (to hs i) e)
 
     answered : (j : ℕ) → base ≤ j → j < base + m → from hs j ≡ from hs i → AnsweredAt sense hs ms i j
     answered j lo hi q = let l : j < count hs = omega arith in closed (label hs j) (to hs j) (rw q at (has-at hs l))
 
-  pub judged-swept : (new : List ℕ) (r : ℕ) → Judged hs ms froms answers new r → Swept hs (markedIn sense sh hs) (TriedIn sense hs base (base + m)) ms new r
+  pub filtered-swept : (new : List ℕ) (r : ℕ) → Filtered hs ms froms answers new r → Swept hs (markedIn sense sh hs) (TriedIn sense hs base (base + m)) ms new r
   unfolding markCount isMarked
-  judged-swept new r g =
+  filtered-swept new r g =
       record {
         marking = record { capacity = omega (arith, g .long, k .capacity); bits = bits; silent = λ i l o. k .silent i l (was i l o); holds = holds };
         beyond = g .beyond;
@@ -158,12 +158,12 @@ module _ (sense : Sense) (sh : Shape) (hs ms : List ℕ) (k : Marking hs (marked
               let q : getD new i 0 ≡ getD ms i 0 = g .mark i l ∙ rw e in
               rw q at o
 
-        holds : (s u : ℕ) → markedIn sense sh hs s u ≡ true → heldBy hs new s u ≡ true
+        holds : (s u : ℕ) → markedIn sense sh hs s u ≡ true → markSet hs new s u ≡ true
         holds s u e =
-            let (i, l, h, o) = held-says hs ms s u (k .holds s u e) in
+            let (i, l, h, o) = mark-set-says hs ms s u (k .holds s u e) in
             let a = is-from hs s 0 u i h in
             let b = is-to hs s 0 u i h in
-            held-yes hs new s u l h (rw (stays i l (marked-fits i (rw (a, b) e))) o)
+            mark-set-yes hs new s u l h (rw (stays i l (marked-fits i (rw (a, b) e))) o)
 
         known : new ≡ ms → TriedIn sense hs base (base + m) ms
         known q i j l o lo hi e = fits-says i j (fit (fits hs froms answers i) refl) lo hi e where
@@ -177,25 +177,25 @@ module _ (sense : Sense) (sh : Shape) (hs ms : List ℕ) (k : Marking hs (marked
 module _ (sense : Sense) (sh : Shape) (hs ms : List ℕ) (ranged : InRange sh hs) (up : Ascending hs) (k : Marking hs (markedIn sense sh hs) ms)
     (known : TriedIn sense hs 0 (count hs) ms) where
   -- the marks are of silent hops
-  held-silent : (s t : ℕ) → In (heldBy hs ms) s t → HopOf hs s 0 t
+  held-silent : (s t : ℕ) → In (markSet hs ms) s t → HopOf hs s 0 t
   unfolding has
-  held-silent s t e = let (i, l, h, o) = held-says hs ms s t e in any-found (is hs s 0 t) (count hs) l h
+  held-silent s t e = let (i, l, h, o) = mark-set-says hs ms s t e in any-found (is hs s 0 t) (count hs) l h
 
-  tried-closes : (i : ℕ) → i < count hs → isMarked ms i ≡ true → closesIn sense sh hs (heldBy hs ms) (from hs i) (to hs i) ≡ true
+  tried-closes : (i : ℕ) → i < count hs → isMarked ms i ≡ true → closesIn sense sh hs (markSet hs ms) (from hs i) (to hs i) ≡ true
   tried-closes i l o =
-      closes-yes sense sh hs ranged held-silent (heldBy hs ms) (λ s t m. m) (from hs i) (to hs i)
-      (held-yes hs ms (from hs i) (to hs i) l (is-yes hs (from hs i) 0 (to hs i) i refl (k .silent i l o) refl) o) closed where
-        closed : Closes sense (HopOf hs) (In (heldBy hs ms)) (from hs i) (to hs i)
+      closes-yes sense sh hs ranged held-silent (markSet hs ms) (λ s t m. m) (from hs i) (to hs i)
+      (mark-set-yes hs ms (from hs i) (to hs i) l (is-yes hs (from hs i) 0 (to hs i) i refl (k .silent i l o) refl) o) closed where
+        closed : Closes sense (HopOf hs) (In (markSet hs ms)) (from hs i) (to hs i)
         closed a s3 h =
             let p = has-place hs (from hs i) a s3 h in
             rw (p .label-is, p .to-is) at (known i (p .at) l o (omega arith) (p .within) (p .from-is))
 
   -- so the marks are those of the marked set of the sense
   pub tried-marks : (out : List ℕ) → drop (count hs) ms ≡ drop (count hs) out → ms ≡ onFront (marksOf hs (markedIn sense sh hs)) out
-  tried-marks = settled-marks (closesIn sense sh hs) (in-same sense sh hs) up k tried-closes
+  tried-marks = fixpoint-marks (closesIn sense sh hs) (in-same sense sh hs) up k tried-closes
 
 -- where nothing is asked of what is known
-pub swept-any : {hs : List ℕ} {m : Pairs} {Known : List ℕ → Type 0} {ms new : List ℕ} {r : ℕ} → Swept hs m Known ms new r → Swept hs m Anything ms new r
+pub swept-any : {hs : List ℕ} {m : Pairs} {Known : List ℕ → Type 0} {ms new : List ℕ} {r : ℕ} → Swept hs m Known ms new r → Swept hs m NothingKnown ms new r
 swept-any s = record { marking = s .marking; beyond = s .beyond; fewer = s .fewer; same = λ q. (s .same q .0, tt) }
 
 -- two parts of a sweep, one behind the other

@@ -12,11 +12,11 @@ use Rattle.walk_topological_order.specs.TopologicalOrder.{TopologicalOrder}
 use Rattle.lts.specs.Closes.{Sense, Answered}
 use Rattle.walk_silent.specs.Silent.{HopOf}
 use Rattle.base_fixpoint.specs.Pairs.{In}
-use Rattle.mark_confluence.specs.Held.{isMarked, heldBy}
+use Rattle.mark_confluence.specs.MarkSet.{isMarked, markSet}
 
 -- the hop at place j is answered from the end of the hop at place i, with the set that the marks are
 abbrev pub AnsweredAt : Sense → List ℕ → List ℕ → ℕ → ℕ → Type 0
-AnsweredAt sense hs ms i j = Answered sense (HopOf hs) (In (heldBy hs ms)) (to hs i) (label hs j) (to hs j)
+AnsweredAt sense hs ms i j = Answered sense (HopOf hs) (In (markSet hs ms)) (to hs i) (label hs j) (to hs j)
 
 -- for each marked hop each hop of its state from place lo on and before hi is answered
 abbrev pub TriedIn : Sense → List ℕ → ℕ → ℕ → List ℕ → Type 0
@@ -24,11 +24,11 @@ TriedIn sense hs lo hi ms =
     (i j : ℕ) → i < count hs → isMarked ms i ≡ true → lo ≤ j → j < hi → from hs j ≡ from hs i → AnsweredAt sense hs ms i j
 
 -- nothing is known of the marks
-abbrev pub Anything : List ℕ → Type 0
-Anything ms = Unit {0}
+abbrev pub NothingKnown : List ℕ → Type 0
+NothingKnown ms = Unit {0}
 
 -- what a sweep needs: an admitted graph in ascending order, and its silent hops in line
-pub record Sweepable (sh : Shape) (hs line : List ℕ) (n : ℕ) : Type 0 where
+pub record SweepInput (sh : Shape) (hs sorted : List ℕ) (n : ℕ) : Type 0 where
   pub admitted : Admitted sh hs
   pub ready : Indexable hs
-  pub lined : TopologicalOrder hs line n
+  pub ordered : TopologicalOrder hs sorted n

@@ -11,7 +11,7 @@ use graph::MOST_HOPS;
 use graph::MOST_LABELS;
 use graph::MOST_STATES;
 use graph::Shape;
-use mark_batch_filter::judge;
+use mark_batch_filter::filter;
 use mark_batch_spread::gather;
 use mark_batch_spread::pass_on;
 use mark_batch_spread::pass_once;
@@ -24,78 +24,78 @@ ghost use lib.ListN.{length};
 ghost use Rattle.graph.specs.Hops.{count};
 ghost use Rattle.graph_successors.specs.SuccessorIndex.{Indexable};
 ghost use Rattle.base_fixpoint.specs.Pairs.{In};
-ghost use Rattle.mark_confluence.specs.Held.{heldBy};
+ghost use Rattle.mark_confluence.specs.MarkSet.{markSet};
 ghost use Rattle.mark_sweeps.specs.Sweep.{Marking, Swept};
 ghost use Rattle.mark_senses.specs.Senses.{senseOf, markedBy};
 ghost use Rattle.base_bitset.specs.Bits.{word-bits};
 ghost use Rattle.walk_topological_order.specs.TopologicalOrder.{TopologicalOrder};
-ghost use Rattle.mark_batch_spread.specs.Spread.{Back, Forth};
-ghost use Rattle.mark_batch.specs.Batch.{Sweepable, TriedIn};
+ghost use Rattle.mark_batch_spread.specs.Spread.{SpreadBack, SpreadForth};
+ghost use Rattle.mark_batch.specs.Batch.{SweepInput, TriedIn};
 
 // The closing: who is s4 for an end s3, by at most one marked hop or by a walk.
-fn close(
+fn closing_table(
     hops: &[u16],
     marks: &[u8],
-    line: &[u16; MOST_HOPS],
+    sorted: &[u16; MOST_HOPS],
     n: usize,
     sense: u32,
     words: &mut [u64; MOST_STATES],
 )
     requires ready { ⌜ Indexable (now hops) ⌝ }
-    requires line { ⌜ TopologicalOrder (now hops) (now line) n ⌝ }
+    requires sorted { ⌜ TopologicalOrder (now hops) (now sorted) n ⌝ }
     requires capacity { ⌜ count (now hops) ≤ length (now marks) ⌝ }
-    ensures { λ r. ⌜ Forth (In (heldBy (now (hops .entry)) (now (marks .entry)))) (senseOf sense .closing) (now (words .entry)) (now (words .exit)) ⌝ }
+    ensures { λ r. ⌜ SpreadForth (In (markSet (now (hops .entry)) (now (marks .entry)))) (senseOf sense .closing) (now (words .entry)) (now (words .exit)) ⌝ }
 {
     if (sense == 1) | ((sense == 2) | (sense == 3)) {
-        pass_once(hops, marks, line, n, words);
+        pass_once(hops, marks, sorted, n, words);
     } else {
-        pass_on(hops, marks, line, n, words);
+        pass_on(hops, marks, sorted, n, words);
     }
 }
 
 // After the answering hop: who is s4 or leads to it.
-fn follow(
+fn after_table(
     hops: &[u16],
     marks: &[u8],
-    line: &[u16; MOST_HOPS],
+    sorted: &[u16; MOST_HOPS],
     n: usize,
     sense: u32,
     words: &mut [u64; MOST_STATES],
 )
     requires ready { ⌜ Indexable (now hops) ⌝ }
-    requires line { ⌜ TopologicalOrder (now hops) (now line) n ⌝ }
+    requires sorted { ⌜ TopologicalOrder (now hops) (now sorted) n ⌝ }
     requires capacity { ⌜ count (now hops) ≤ length (now marks) ⌝ }
-    ensures { λ r. ⌜ Back (In (heldBy (now (hops .entry)) (now (marks .entry)))) (senseOf sense .after) (now (words .entry)) (now (words .exit)) ⌝ }
+    ensures { λ r. ⌜ SpreadBack (In (markSet (now (hops .entry)) (now (marks .entry)))) (senseOf sense .after) (now (words .entry)) (now (words .exit)) ⌝ }
 {
     if (sense == 1) | (sense == 3) {
         return;
     }
-    gather(hops, marks, line, n, words);
+    gather(hops, marks, sorted, n, words);
 }
 
 // Before the answering hop: who has it or leads to one that has.
-fn lead(
+fn before_table(
     hops: &[u16],
     marks: &[u8],
-    line: &[u16; MOST_HOPS],
+    sorted: &[u16; MOST_HOPS],
     n: usize,
     sense: u32,
     words: &mut [u64; MOST_STATES],
 )
     requires ready { ⌜ Indexable (now hops) ⌝ }
-    requires line { ⌜ TopologicalOrder (now hops) (now line) n ⌝ }
+    requires sorted { ⌜ TopologicalOrder (now hops) (now sorted) n ⌝ }
     requires capacity { ⌜ count (now hops) ≤ length (now marks) ⌝ }
-    ensures { λ r. ⌜ Back (In (heldBy (now (hops .entry)) (now (marks .entry)))) (senseOf sense .before) (now (words .entry)) (now (words .exit)) ⌝ }
+    ensures { λ r. ⌜ SpreadBack (In (markSet (now (hops .entry)) (now (marks .entry)))) (senseOf sense .before) (now (words .entry)) (now (words .exit)) ⌝ }
 {
     if (sense == 1) | (sense == 2) {
         return;
     }
-    gather(hops, marks, line, n, words);
+    gather(hops, marks, sorted, n, words);
 }
 
 // Notes for the batch with the bit which states have anything in its tables; without a bit it notes nothing. Nothing is proved of what it notes, and nothing
 // rests on it: it only says what is worth running again, and the last sweep runs all.
-fn touch(
+fn record_touched(
     ends: &[u64; MOST_STATES],
     answers: &[u64; MOST_STATES],
     bit: u64,
@@ -121,7 +121,7 @@ fn touch(
 pub fn try_batch(
     shape: Shape,
     hops: &[u16],
-    line: &[u16; MOST_HOPS],
+    sorted: &[u16; MOST_HOPS],
     n: usize,
     sense: u32,
     base: usize,
@@ -130,7 +130,7 @@ pub fn try_batch(
     marks: &mut [u8],
     touched: &mut [u64; MOST_STATES],
 ) -> usize
-    requires sweepable { ⌜ Sweepable shape (now hops) (now line) n ⌝ }
+    requires sweepable { ⌜ SweepInput shape (now hops) (now sorted) n ⌝ }
     requires marking { ⌜ Marking (now hops) (markedBy sense shape (now hops)) (now marks) ⌝ }
     requires batch { ⌜ m ≤ word-bits ⌝ }
     requires within { ⌜ base + m ≤ count (now hops) ⌝ }
@@ -141,14 +141,14 @@ pub fn try_batch(
     let mut labels = [0u64; MOST_LABELS];
     let mut answers = [0u64; MOST_STATES];
     put_ends(hops, base, m, &mut ends);
-    close(hops, marks, line, n, sense, &mut ends);
-    follow(hops, marks, line, n, sense, &mut ends);
+    closing_table(hops, marks, sorted, n, sense, &mut ends);
+    after_table(hops, marks, sorted, n, sense, &mut ends);
     put_labels(shape, hops, base, m, &mut labels);
     put_answers(shape, hops, &labels, &ends, &mut answers);
-    lead(hops, marks, line, n, sense, &mut answers);
-    touch(&ends, &answers, bit, touched);
+    before_table(hops, marks, sorted, n, sense, &mut answers);
+    record_touched(&ends, &answers, bit, touched);
     put_froms(hops, base, m, &mut ends);
-    judge(hops, marks, &ends, &answers)
+    filter(hops, marks, &ends, &answers)
 }
 
 // How many hops the batch from place `base` on has, of n.

@@ -15,7 +15,7 @@ ghost use Prim.Native.Nat.{_<_, _≤_};
 ghost use lib.ListN.{length, set};
 ghost use Rattle.graph.specs.Hops.{count};
 ghost use Rattle.graph_successors.specs.SuccessorIndex.{Indexable};
-ghost use Rattle.mark_batch_filter.specs.Judged.{fits, falls, Judged};
+ghost use Rattle.mark_batch_filter.specs.Filtered.{fits, fails, Filtered};
 
 // Whether every bit of where the hop at place i begins is where it ends.
 fn fits_at(hops: &[u16], froms: &[u64; MOST_STATES], answers: &[u64; MOST_STATES], i: usize) -> bool
@@ -28,7 +28,7 @@ fn fits_at(hops: &[u16], froms: &[u64; MOST_STATES], answers: &[u64; MOST_STATES
 }
 
 // The hop at place i loses its mark if it is marked and does not fit; returns how many marks went.
-fn judge_at(
+fn filter_at(
     hops: &[u16],
     marks: &mut [u8],
     froms: &[u64; MOST_STATES],
@@ -39,9 +39,9 @@ fn judge_at(
     requires capacity { ⌜ count (now hops) ≤ length (now marks) ⌝ }
     requires place { ⌜ i < count (now hops) ⌝ }
     ensures marks { λ r. ⌜ now (marks .exit) ≡
-        cond (falls (now (hops .entry)) (now (marks .entry)) (now (froms .entry)) (now (answers .entry)) i)
+        cond (fails (now (hops .entry)) (now (marks .entry)) (now (froms .entry)) (now (answers .entry)) i)
         (set (now (marks .entry)) i 0) (now (marks .entry)) ⌝ }
-    ensures lost { λ r. ⌜ r ≡ cond (falls (now (hops .entry)) (now (marks .entry)) (now (froms .entry)) (now (answers .entry)) i) 1 0 ⌝ }
+    ensures lost { λ r. ⌜ r ≡ cond (fails (now (hops .entry)) (now (marks .entry)) (now (froms .entry)) (now (answers .entry)) i) 1 0 ⌝ }
 {
     if marks[i] != 1 {
         return 0;
@@ -54,7 +54,7 @@ fn judge_at(
 }
 
 // Every marked hop that does not fit loses its mark; returns how many marks went.
-pub fn judge(
+pub fn filter(
     hops: &[u16],
     marks: &mut [u8],
     froms: &[u64; MOST_STATES],
@@ -62,13 +62,13 @@ pub fn judge(
 ) -> usize
     requires ready { ⌜ Indexable (now hops) ⌝ }
     requires capacity { ⌜ count (now hops) ≤ length (now marks) ⌝ }
-    ensures { λ r. ⌜ Judged (now (hops .entry)) (now (marks .entry)) (now (froms .entry)) (now (answers .entry)) (now (marks .exit)) r ⌝ }
+    ensures { λ r. ⌜ Filtered (now (hops .entry)) (now (marks .entry)) (now (froms .entry)) (now (answers .entry)) (now (marks .exit)) r ⌝ }
 {
     let n = hop_count(hops);
     let mut lost = 0;
     let mut i = 0;
     while i < n {
-        lost += judge_at(hops, marks, froms, answers, i);
+        lost += filter_at(hops, marks, froms, answers, i);
         i += 1;
     }
     lost

@@ -13,14 +13,14 @@ use Rattle.graph.specs.Hops.{from, to}
 use Rattle.graph.proofs.Places.{is-yes, is-from, is-label, is-to}
 use Rattle.base_fixpoint.specs.Pairs.{In}
 use Rattle.lts.specs.Closes.{Reach, single, walks}
-use Rattle.mark_confluence.specs.Held.{isMarked, heldBy}
-use Rattle.mark_confluence.proofs.Held.{held-says, held-yes}
+use Rattle.mark_confluence.specs.MarkSet.{isMarked, markSet}
+use Rattle.mark_confluence.proofs.MarkSet.{mark-set-says, mark-set-yes}
 use Rattle.walk_topological_order.specs.TopologicalOrder.{TopologicalOrder}
 use Rattle.base_bitset.specs.Bits.{bitIn}
 use Rattle.base_bitset.proofs.Laws.{table-or, word-of}
-use Rattle.mark_batch_spread.specs.Spread.{Back, Forth}
-use Rattle.mark_batch_spread.specs.Given.{given}
-use Rattle.mark_batch_spread.proofs.Steps.{More, Gave, forth-none, forth-same, forth-back, walks-more, single-more}
+use Rattle.mark_batch_spread.specs.Spread.{SpreadBack, SpreadForth}
+use Rattle.mark_batch_spread.specs.Step.{spreadTo}
+use Rattle.mark_batch_spread.proofs.Steps.{More, SpreadStep, forth-none, forth-same, forth-back, walks-more, single-more}
 
 -- a step at a place from lo up to hi is one from x to y
 pub record Done (on : ℕ → Bool) (giver taker : ℕ → ℕ) (lo hi x y : ℕ) : Type 0 where
@@ -80,26 +80,26 @@ module _ {on : ℕ → Bool} {giver taker : ℕ → ℕ} where
 pub on-is : (ms : List ℕ) {i p : ℕ} {b m : Bool} → i ≡ p → m ≡ isMarked ms i → m ≡ b → isMarked ms p ≡ b
 on-is ms q e f = ap (isMarked ms) (sym q) ∙ (sym e ∙ f)
 
--- what `give` leaves: a table as long
-pub length-given : (ws : List ℕ) (g t : ℕ) {next : List ℕ} → next ≡ given ws g t → length next ≡ length ws
-length-given ws g t e = ap length e ∙ simp length-set
+-- what `spread_to` leaves: a table as long
+pub length-spread : (ws : List ℕ) (g t : ℕ) {next : List ℕ} → next ≡ spreadTo ws g t → length next ≡ length ws
+length-spread ws g t e = ap length e ∙ simp length-set
 
 -- and what was given, from the one end of that hop to the other
-pub given-gave : (ws : List ℕ) (giver taker : ℕ → ℕ) {i p g t : ℕ} {next : List ℕ} → i ≡ p → g ≡ giver i → t ≡ taker i → t < length ws →
-    next ≡ given ws g t → Gave (giver p) (taker p) ws next
-given-gave ws giver taker {i} {p} {g} {t} q f h l e z b =
+pub spread-step : (ws : List ℕ) (giver taker : ℕ → ℕ) {i p g t : ℕ} {next : List ℕ} → i ≡ p → g ≡ giver i → t ≡ taker i → t < length ws →
+    next ≡ spreadTo ws g t → SpreadStep (giver p) (taker p) ws next
+spread-step ws giver taker {i} {p} {g} {t} q f h l e z b =
     rw (← q, ← f, ← h, e) (table-or ws t (getD ws g 0) z b l ∙ ap (λ (x : Bool). bitIn ws z b || (eqb z t && x)) (word-of ws g b))
 
-module _ (hs ms line : List ℕ) where
+module _ (hs ms sorted : List ℕ) where
   -- the line's hop at k, and whether it is marked
   abbrev pub source : ℕ → ℕ
-  source k = from hs (getD line k 0)
+  source k = from hs (getD sorted k 0)
 
   abbrev pub target : ℕ → ℕ
-  target k = to hs (getD line k 0)
+  target k = to hs (getD sorted k 0)
 
   abbrev on : ℕ → Bool
-  on k = isMarked ms (getD line k 0)
+  on k = isMarked ms (getD sorted k 0)
 
   -- the marked hops from lo up to hi, and the same turned round
   abbrev Hops : ℕ → ℕ → ℕ → ℕ → Type 0
@@ -110,13 +110,13 @@ module _ (hs ms line : List ℕ) where
 
   -- how far each pass is
   abbrev pub Gathered : ℕ → List ℕ → List ℕ → Type 0
-  Gathered k = Forth (Turned 0 k) walks
+  Gathered k = SpreadForth (Turned 0 k) walks
 
   abbrev pub PassedOnce : ℕ → List ℕ → List ℕ → Type 0
-  PassedOnce k = Forth (Hops 0 k) single
+  PassedOnce k = SpreadForth (Hops 0 k) single
 
   abbrev pub PassedOn : ℕ → ℕ → List ℕ → List ℕ → Type 0
-  PassedOn n k = Forth (Hops k n) walks
+  PassedOn n k = SpreadForth (Hops k n) walks
 
   pub gathered-none : (ws : List ℕ) → Gathered 0 ws ws
   gathered-none = forth-none (done-none 0)
@@ -127,20 +127,20 @@ module _ (hs ms line : List ℕ) where
   pub passed-on-none : (n : ℕ) (ws : List ℕ) → PassedOn n n ws ws
   passed-on-none n = forth-none (done-none n)
 
-  module _ {n : ℕ} (l : TopologicalOrder hs line n) where
+  module _ {n : ℕ} (l : TopologicalOrder hs sorted n) where
     -- the hop at k is marked
     module _ {k : ℕ} (h : k < n) (o : on k ≡ true) (old now next : List ℕ) where
-      pub gathered-more : Gave (target k) (source k) now next → Gathered k old now → Gathered (k + 1) old next
+      pub gathered-more : SpreadStep (target k) (source k) now next → Gathered k old now → Gathered (k + 1) old next
       gathered-more gave = walks-more (done-more (upward k) o) old now next gave ends where
         ends : (y : ℕ) → Turned 0 (k + 1) (source k) y → ⊥
         ends y d = omega (arith, d .before, l .order (d .at) k (omega (arith, d .before)) h (d .giver-is))
 
-      pub passed-once-more : Gave (source k) (target k) now next → PassedOnce k old now → PassedOnce (k + 1) old next
+      pub passed-once-more : SpreadStep (source k) (target k) now next → PassedOnce k old now → PassedOnce (k + 1) old next
       passed-once-more gave = single-more (done-more (upward k) o) old now next gave begins where
         begins : (x : ℕ) → Hops 0 k x (source k) → ⊥
         begins x d = omega (arith, d .before, l .order (d .at) k (omega (arith, d .before)) h (d .taker-is))
 
-      pub passed-on-more : {up : ℕ} → up ≡ k + 1 → Gave (source k) (target k) now next → PassedOn n up old now → PassedOn n k old next
+      pub passed-on-more : {up : ℕ} → up ≡ k + 1 → SpreadStep (source k) (target k) now next → PassedOn n up old now → PassedOn n k old next
       passed-on-more e gave g = walks-more (done-more (downward h) o) old now next gave ends (rw e at g) where
         ends : (y : ℕ) → Hops k n (target k) y → ⊥
         ends y d = omega (arith, d .after, l .order k (d .at) h (d .before) (sym (d .giver-is)))
@@ -157,26 +157,26 @@ module _ (hs ms line : List ℕ) where
       passed-on-over e g = forth-same old now (done-kept (downward h)) (done-over (downward h) o) (rw e at g)
 
     -- in the end: the marked hops at all places of the line are those that the marks hold
-    held : {x y : ℕ} {k : ℕ} → k < n → on k ≡ true → source k ≡ x → target k ≡ y → In (heldBy hs ms) x y
-    held {x} {y} {k} h o f t = held-yes hs ms x y (l .within k h) (is-yes hs x 0 y (getD line k 0) f (l .silent k h) t) o
+    held : {x y : ℕ} {k : ℕ} → k < n → on k ≡ true → source k ≡ x → target k ≡ y → In (markSet hs ms) x y
+    held {x} {y} {k} h o f t = mark-set-yes hs ms x y (l .within k h) (is-yes hs x 0 y (getD sorted k 0) f (l .silent k h) t) o
 
-    found : (x y : ℕ) → In (heldBy hs ms) x y → (k : ℕ) × (k < n) × (on k ≡ true) × (source k ≡ x) × (target k ≡ y)
+    found : (x y : ℕ) → In (markSet hs ms) x y → (k : ℕ) × (k < n) × (on k ≡ true) × (source k ≡ x) × (target k ≡ y)
     found x y e =
-        let (i, m, p, o) = held-says hs ms x y e in
+        let (i, m, p, o) = mark-set-says hs ms x y e in
         let (k, h, q) = l .every i m (is-label hs x 0 y i p) in
         (k, h, ap (isMarked ms) q ∙ o, ap (from hs) q ∙ is-from hs x 0 y i p, ap (to hs) q ∙ is-to hs x 0 y i p)
 
     module _ (old new : List ℕ) where
-      pub gathered-all : {k : ℕ} → k ≡ n → Gathered k old new → Back (In (heldBy hs ms)) walks old new
+      pub gathered-all : {k : ℕ} → k ≡ n → Gathered k old new → SpreadBack (In (markSet hs ms)) walks old new
       gathered-all e g = forth-back old new (λ x y d. held (d .before) (d .on-at) (d .taker-is) (d .giver-is))
           (λ x y e. let (k, h, o, f, t) = found x y e in record { at = k; after = omega arith; before = h; on-at = o; giver-is = t; taker-is = f }) (rw e at g)
 
-      forth-all : {r : Reach} → Forth (Hops 0 n) r old new → Forth (In (heldBy hs ms)) r old new
+      forth-all : {r : Reach} → SpreadForth (Hops 0 n) r old new → SpreadForth (In (markSet hs ms)) r old new
       forth-all = forth-same old new (λ x y d. held (d .before) (d .on-at) (d .giver-is) (d .taker-is))
           (λ x y e. let (k, h, o, f, t) = found x y e in record { at = k; after = omega arith; before = h; on-at = o; giver-is = f; taker-is = t })
 
-      pub passed-once-all : {k : ℕ} → k ≡ n → PassedOnce k old new → Forth (In (heldBy hs ms)) single old new
+      pub passed-once-all : {k : ℕ} → k ≡ n → PassedOnce k old new → SpreadForth (In (markSet hs ms)) single old new
       passed-once-all e g = forth-all (rw e at g)
 
-      pub passed-on-all : {k : ℕ} → k ≡ 0 → PassedOn n k old new → Forth (In (heldBy hs ms)) walks old new
+      pub passed-on-all : {k : ℕ} → k ≡ 0 → PassedOn n k old new → SpreadForth (In (markSet hs ms)) walks old new
       passed-on-all e g = forth-all (rw e at g)

@@ -1,5 +1,5 @@
 -- One step more, in which a giver g gives what it has to a taker t. Where a table is what the steps D bring, it is afterwards what D and this step bring: for walks if t
--- gives in no step so far nor in this one, for single hops if g took in none. `Back` is `Forth` along the hops turned round, so it is said once. Assumes nothing.
+-- gives in no step so far nor in this one, for single hops if g took in none. `SpreadBack` is `SpreadForth` along the hops turned round, so it is said once. Assumes nothing.
 use Prim.Native.Nat.{ℕ}
 use mathlib.Core.Path.{_≡_, refl, sym, _∙_}
 use mathlib.Core.Bool.{true, _&&_, _||_}
@@ -13,7 +13,7 @@ use Rattle.lts.specs.Closes.{Reach, single, walks, Via, here, hop, walk}
 use Rattle.lts.proofs.Star.{one, join, star-mono}
 use Rattle.lts.proofs.Closes.{via-mono, via-walk}
 use Rattle.base_bitset.specs.Bits.{bitIn}
-use Rattle.mark_batch_spread.specs.Spread.{Back, Forth}
+use Rattle.mark_batch_spread.specs.Spread.{SpreadBack, SpreadForth}
 
 -- the steps E are D and one more, from g to t
 pub record More (D E : ℕ → ℕ → Type 0) (g t : ℕ) : Type 0 where
@@ -28,8 +28,8 @@ record Further (D E : ℕ → ℕ → Type 0) (r : Reach) (g t : ℕ) : Type 0 w
   only : {s z : ℕ} → Via E r s z → Via D r s z ⊎ (Via D r s g × (z ≡ t))
 
 -- the table `next` is `now` with what g has given to t as well
-abbrev pub Gave : ℕ → ℕ → List ℕ → List ℕ → Type 0
-Gave g t now next = (z b : ℕ) → bitIn next z b ≡ (bitIn now z b || (eqb z t && bitIn now g b))
+abbrev pub SpreadStep : ℕ → ℕ → List ℕ → List ℕ → Type 0
+SpreadStep g t now next = (z b : ℕ) → bitIn next z b ≡ (bitIn now z b || (eqb z t && bitIn now g b))
 
 -- along the hops turned round
 module _ {D E : ℕ → ℕ → Type 0} (f : (x y : ℕ) → D x y → E y x) where
@@ -44,13 +44,13 @@ module _ {D E : ℕ → ℕ → Type 0} (f : (x y : ℕ) → D x y → E y x) wh
 
 -- the same hops bring the same
 module _ {D E : ℕ → ℕ → Type 0} {r : Reach} (old new : List ℕ) where
-  pub forth-same : ((x y : ℕ) → D x y → E x y) → ((x y : ℕ) → E x y → D x y) → Forth D r old new → Forth E r old new
+  pub forth-same : ((x y : ℕ) → D x y → E x y) → ((x y : ℕ) → E x y → D x y) → SpreadForth D r old new → SpreadForth E r old new
   forth-same into back h t b = (
     λ e. let (s, v, o) = h t b .0 e in (s, via-mono into v, o),
     λ (s, v, o). h t b .1 (s, via-mono back v, o),
   )
 
-  pub forth-back : ((x y : ℕ) → D x y → E y x) → ((x y : ℕ) → E x y → D y x) → Forth D r old new → Back E r old new
+  pub forth-back : ((x y : ℕ) → D x y → E y x) → ((x y : ℕ) → E x y → D y x) → SpreadForth D r old new → SpreadBack E r old new
   forth-back into back h s b = (
     λ e. let (t, v, o) = h s b .0 e in (t, via-turned into v, o),
     λ (t, v, o). h s b .1 (t, via-turned back v, o),
@@ -64,7 +64,7 @@ module _ {D : ℕ → ℕ → Type 0} (none : (x y : ℕ) → D x y → ⊥) whe
   via-stays (walk stay) = refl
   via-stays (walk (go {s} {m} d p)) = absurd (none s m d)
 
-  pub forth-none : {r : Reach} (ws : List ℕ) → Forth D r ws ws
+  pub forth-none : {r : Reach} (ws : List ℕ) → SpreadForth D r ws ws
   forth-none ws t b = (λ e. (t, here, e), λ (s, v, o). rw (← via-stays v) o)
 
 module _ {D E : ℕ → ℕ → Type 0} {g t : ℕ} (m : More D E g t) where
@@ -98,8 +98,8 @@ module _ {D E : ℕ → ℕ → Type 0} {g t : ℕ} (m : More D E g t) where
     single-further : Further D E single g t
     single-further = record { kept = via-mono (m .kept); new = new-hop; only = only-hop }
 
-module _ {D E : ℕ → ℕ → Type 0} {r : Reach} {g t : ℕ} (f : Further D E r g t) (old now next : List ℕ) (gave : Gave g t now next) where
-  forth-more : Forth D r old now → Forth E r old next
+module _ {D E : ℕ → ℕ → Type 0} {r : Reach} {g t : ℕ} (f : Further D E r g t) (old now next : List ℕ) (gave : SpreadStep g t now next) where
+  forth-more : SpreadForth D r old now → SpreadForth E r old next
   forth-more h z b = (into, back) where
     into : bitIn next z b ≡ true → (s : ℕ) × Via E r s z × (bitIn old s b ≡ true)
     into e =
@@ -115,9 +115,9 @@ module _ {D E : ℕ → ℕ → Type 0} {r : Reach} {g t : ℕ} (f : Further D E
         ⊎-elim (λ w. or-left (eqb z t && bitIn now g b) (h z b .1 (s, w, o)))
         (λ (w, e). or-right (bitIn now z b) (and-yes (eq-eqb z t e) (h g b .1 (s, w, o)))) (f .only v)
 
-module _ {D E : ℕ → ℕ → Type 0} {g t : ℕ} (m : More D E g t) (old now next : List ℕ) (gave : Gave g t now next) where
-  pub walks-more : ((y : ℕ) → E t y → ⊥) → Forth D walks old now → Forth E walks old next
+module _ {D E : ℕ → ℕ → Type 0} {g t : ℕ} (m : More D E g t) (old now next : List ℕ) (gave : SpreadStep g t now next) where
+  pub walks-more : ((y : ℕ) → E t y → ⊥) → SpreadForth D walks old now → SpreadForth E walks old next
   walks-more ends = forth-more (walks-further m ends) old now next gave
 
-  pub single-more : ((x : ℕ) → D x g → ⊥) → Forth D single old now → Forth E single old next
+  pub single-more : ((x : ℕ) → D x g → ⊥) → SpreadForth D single old now → SpreadForth E single old next
   single-more begins = forth-more (single-further m begins) old now next gave

@@ -9,9 +9,9 @@ use Rattle.lts.specs.Closes.{Reach, Via}
 use Rattle.base_bitset.specs.Bits.{bitIn}
 
 -- a state has afterwards what those that it comes to had before
-abbrev pub Back : (ℕ → ℕ → Type 0) → Reach → List ℕ → List ℕ → Type 0
-Back U r old new = (s b : ℕ) → (bitIn new s b ≡ true) ↔ ((t : ℕ) × Via U r s t × (bitIn old t b ≡ true))
+abbrev pub SpreadBack : (ℕ → ℕ → Type 0) → Reach → List ℕ → List ℕ → Type 0
+SpreadBack U r old new = (s b : ℕ) → (bitIn new s b ≡ true) ↔ ((t : ℕ) × Via U r s t × (bitIn old t b ≡ true))
 
 -- a state has afterwards what those that come to it had before
-abbrev pub Forth : (ℕ → ℕ → Type 0) → Reach → List ℕ → List ℕ → Type 0
-Forth U r old new = (t b : ℕ) → (bitIn new t b ≡ true) ↔ ((s : ℕ) × Via U r s t × (bitIn old s b ≡ true))
+abbrev pub SpreadForth : (ℕ → ℕ → Type 0) → Reach → List ℕ → List ℕ → Type 0
+SpreadForth U r old new = (t b : ℕ) → (bitIn new t b ≡ true) ↔ ((s : ℕ) × Via U r s t × (bitIn old s b ≡ true))

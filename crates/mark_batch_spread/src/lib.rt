@@ -21,16 +21,16 @@ ghost use Rattle.graph.specs.Answers.{most-states, most-hops};
 ghost use Rattle.graph_successors.specs.SuccessorIndex.{Indexable};
 ghost use Rattle.base_fixpoint.specs.Pairs.{In};
 ghost use Rattle.lts.specs.Closes.{single, walks};
-ghost use Rattle.mark_confluence.specs.Held.{isMarked, heldBy};
+ghost use Rattle.mark_confluence.specs.MarkSet.{isMarked, markSet};
 ghost use Rattle.walk_topological_order.specs.TopologicalOrder.{TopologicalOrder};
-ghost use Rattle.mark_batch_spread.specs.Spread.{Back, Forth};
-ghost use Rattle.mark_batch_spread.specs.Given.{given};
+ghost use Rattle.mark_batch_spread.specs.Spread.{SpreadBack, SpreadForth};
+ghost use Rattle.mark_batch_spread.specs.Step.{spreadTo};
 
 // The line behind a reference is as long as its type says: see `base_bitset::sized`.
-fn sized_line(line: &[u16; MOST_HOPS])
-    ensures { λ r. ⌜ length (now (line .entry)) ≡ most-hops ⌝ }
+fn sized_order(sorted: &[u16; MOST_HOPS])
+    ensures { λ r. ⌜ length (now (sorted .entry)) ≡ most-hops ⌝ }
 {
-    let all: &[u16] = line;
+    let all: &[u16] = sorted;
 }
 
 // Whether the hop at place i is marked.
@@ -42,10 +42,10 @@ fn marked_at(marks: &[u8], i: usize) -> bool
 }
 
 // State t has what s has, too.
-fn give(words: &mut [u64; MOST_STATES], s: usize, t: usize)
+fn spread_to(words: &mut [u64; MOST_STATES], s: usize, t: usize)
     requires giver { ⌜ s < most-states ⌝ }
     requires taker { ⌜ t < most-states ⌝ }
-    ensures { λ r. ⌜ now (words .exit) ≡ given (now (words .entry)) s t ⌝ }
+    ensures { λ r. ⌜ now (words .exit) ≡ spreadTo (now (words .entry)) s t ⌝ }
 {
     words[t] |= words[s];
 }
@@ -54,22 +54,22 @@ fn give(words: &mut [u64; MOST_STATES], s: usize, t: usize)
 pub fn gather(
     hops: &[u16],
     marks: &[u8],
-    line: &[u16; MOST_HOPS],
+    sorted: &[u16; MOST_HOPS],
     n: usize,
     words: &mut [u64; MOST_STATES],
 )
     requires ready { ⌜ Indexable (now hops) ⌝ }
-    requires line { ⌜ TopologicalOrder (now hops) (now line) n ⌝ }
+    requires sorted { ⌜ TopologicalOrder (now hops) (now sorted) n ⌝ }
     requires capacity { ⌜ count (now hops) ≤ length (now marks) ⌝ }
-    ensures { λ r. ⌜ Back (In (heldBy (now (hops .entry)) (now (marks .entry)))) walks (now (words .entry)) (now (words .exit)) ⌝ }
+    ensures { λ r. ⌜ SpreadBack (In (markSet (now (hops .entry)) (now (marks .entry)))) walks (now (words .entry)) (now (words .exit)) ⌝ }
 {
     sized(words);
-    sized_line(line);
+    sized_order(sorted);
     let mut k = 0;
     while k < n {
-        let i = wide(line[k]);
+        let i = wide(sorted[k]);
         if marked_at(marks, i) {
-            give(words, wide(to_at(hops, i).0), wide(from_at(hops, i).0));
+            spread_to(words, wide(to_at(hops, i).0), wide(from_at(hops, i).0));
         }
         k += 1;
     }
@@ -79,22 +79,22 @@ pub fn gather(
 pub fn pass_once(
     hops: &[u16],
     marks: &[u8],
-    line: &[u16; MOST_HOPS],
+    sorted: &[u16; MOST_HOPS],
     n: usize,
     words: &mut [u64; MOST_STATES],
 )
     requires ready { ⌜ Indexable (now hops) ⌝ }
-    requires line { ⌜ TopologicalOrder (now hops) (now line) n ⌝ }
+    requires sorted { ⌜ TopologicalOrder (now hops) (now sorted) n ⌝ }
     requires capacity { ⌜ count (now hops) ≤ length (now marks) ⌝ }
-    ensures { λ r. ⌜ Forth (In (heldBy (now (hops .entry)) (now (marks .entry)))) single (now (words .entry)) (now (words .exit)) ⌝ }
+    ensures { λ r. ⌜ SpreadForth (In (markSet (now (hops .entry)) (now (marks .entry)))) single (now (words .entry)) (now (words .exit)) ⌝ }
 {
     sized(words);
-    sized_line(line);
+    sized_order(sorted);
     let mut k = 0;
     while k < n {
-        let i = wide(line[k]);
+        let i = wide(sorted[k]);
         if marked_at(marks, i) {
-            give(words, wide(from_at(hops, i).0), wide(to_at(hops, i).0));
+            spread_to(words, wide(from_at(hops, i).0), wide(to_at(hops, i).0));
         }
         k += 1;
     }
@@ -104,23 +104,23 @@ pub fn pass_once(
 pub fn pass_on(
     hops: &[u16],
     marks: &[u8],
-    line: &[u16; MOST_HOPS],
+    sorted: &[u16; MOST_HOPS],
     n: usize,
     words: &mut [u64; MOST_STATES],
 )
     requires ready { ⌜ Indexable (now hops) ⌝ }
-    requires line { ⌜ TopologicalOrder (now hops) (now line) n ⌝ }
+    requires sorted { ⌜ TopologicalOrder (now hops) (now sorted) n ⌝ }
     requires capacity { ⌜ count (now hops) ≤ length (now marks) ⌝ }
-    ensures { λ r. ⌜ Forth (In (heldBy (now (hops .entry)) (now (marks .entry)))) walks (now (words .entry)) (now (words .exit)) ⌝ }
+    ensures { λ r. ⌜ SpreadForth (In (markSet (now (hops .entry)) (now (marks .entry)))) walks (now (words .entry)) (now (words .exit)) ⌝ }
 {
     sized(words);
-    sized_line(line);
+    sized_order(sorted);
     let mut k = n;
     while k > 0 {
         k -= 1;
-        let i = wide(line[k]);
+        let i = wide(sorted[k]);
         if marked_at(marks, i) {
-            give(words, wide(from_at(hops, i).0), wide(to_at(hops, i).0));
+            spread_to(words, wide(from_at(hops, i).0), wide(to_at(hops, i).0));
         }
     }
 }

@@ -28,11 +28,11 @@ ghost use Rattle.graph.specs.Hops.{count};
 ghost use Rattle.graph.specs.Answers.{most-hops};
 ghost use Rattle.graph_successors.specs.SuccessorIndex.{Indexable, Indexed};
 ghost use Rattle.walk_silent.specs.Silent.{ringAnswer};
-ghost use Rattle.mark_confluence.specs.Held.{marksOf};
+ghost use Rattle.mark_confluence.specs.MarkSet.{marksOf};
 ghost use Rattle.mark_sweeps.specs.Sweep.{Marking, Swept};
 ghost use Rattle.mark_senses.specs.Senses.{senseOf, markedBy};
 ghost use Rattle.base_bitset.specs.Bits.{word-bits};
-ghost use Rattle.mark_batch.specs.Batch.{Anything, Sweepable, TriedIn};
+ghost use Rattle.mark_batch.specs.Batch.{NothingKnown, SweepInput, TriedIn};
 
 // Every bit: all batches, or all places of a word.
 const ALL_BATCHES: u64 = 18446744073709551615;
@@ -41,9 +41,9 @@ const ALL_BATCHES: u64 = 18446744073709551615;
 const PLAIN_SWEEPS: usize = 4;
 
 // What a turn over batches leaves: how many marks went, and which batches are due.
-struct Turn {
+struct SweepOutcome {
     lost: usize,
-    due: u64,
+    pending: u64,
 }
 
 // Which batches are due is one word: bit k stands for the batch from place 64 * k on. There are 64 at most.
@@ -52,7 +52,7 @@ fn batch_bit(base: usize) -> u64 {
 }
 
 // Whether the mark at place i went since it was last asked; notes that it did. `was` has one bit a place.
-fn went(marks: &[u8], was: &mut [u64; WORD_BITS], i: usize) -> bool
+fn lost_mark(marks: &[u8], was: &mut [u64; WORD_BITS], i: usize) -> bool
     requires { ⌜ i < length (now marks) ⌝ }
 {
     if marks[i] == 1 {
@@ -68,7 +68,7 @@ fn went(marks: &[u8], was: &mut [u64; WORD_BITS], i: usize) -> bool
 }
 
 // Notes which marks went since it was last asked, and returns the batches that had anything at an end of such a hop.
-fn due_after(
+fn pending_after(
     hops: &[u16],
     marks: &[u8],
     was: &mut [u64; WORD_BITS],
@@ -78,30 +78,30 @@ fn due_after(
     requires capacity { ⌜ count (now hops) ≤ length (now marks) ⌝ }
 {
     let n = hop_count(hops);
-    let mut due = 0;
+    let mut pending = 0;
     let mut i = 0;
     while i < n {
-        if went(marks, was, i) {
+        if lost_mark(marks, was, i) {
             let h = hop_at(hops, i);
-            due |= touched[wide(h.from)] | touched[wide(h.to)];
+            pending |= touched[wide(h.from)] | touched[wide(h.to)];
         }
         i += 1;
     }
-    due
+    pending
 }
 
 // One sweep over all hops; returns how many marks went. What the batches touch is noted for those that `noted` has.
 fn sweep(
     shape: Shape,
     hops: &[u16],
-    line: &[u16; MOST_HOPS],
+    sorted: &[u16; MOST_HOPS],
     n: usize,
     sense: u32,
-    noted: u64,
+    recorded: u64,
     marks: &mut [u8],
     touched: &mut [u64; MOST_STATES],
 ) -> usize
-    requires sweepable { ⌜ Sweepable shape (now hops) (now line) n ⌝ }
+    requires sweepable { ⌜ SweepInput shape (now hops) (now sorted) n ⌝ }
     requires marking { ⌜ Marking (now hops) (markedBy sense shape (now hops)) (now marks) ⌝ }
     ensures { λ r. ⌜ Swept (now (hops .entry)) (markedBy sense shape (now (hops .entry)))
         (TriedIn (senseOf sense) (now (hops .entry)) 0 (count (now (hops .entry)))) (now (marks .entry)) (now (marks .exit)) r ⌝ }
@@ -111,18 +111,18 @@ fn sweep(
     let mut base = 0;
     while base < past {
         let m = batch_len(base, past);
-        let bit = batch_bit(base) & noted;
-        lost += try_batch(shape, hops, line, n, sense, base, m, bit, marks, touched);
+        let bit = batch_bit(base) & recorded;
+        lost += try_batch(shape, hops, sorted, n, sense, base, m, bit, marks, touched);
         base += m;
     }
     lost
 }
 
 // Tries the m hops from place `base` on until they take nothing more; returns how many marks went.
-fn run_out(
+fn run_to_fixpoint(
     shape: Shape,
     hops: &[u16],
-    line: &[u16; MOST_HOPS],
+    sorted: &[u16; MOST_HOPS],
     n: usize,
     sense: u32,
     base: usize,
@@ -130,50 +130,50 @@ fn run_out(
     marks: &mut [u8],
     touched: &mut [u64; MOST_STATES],
 ) -> usize
-    requires sweepable { ⌜ Sweepable shape (now hops) (now line) n ⌝ }
+    requires sweepable { ⌜ SweepInput shape (now hops) (now sorted) n ⌝ }
     requires marking { ⌜ Marking (now hops) (markedBy sense shape (now hops)) (now marks) ⌝ }
     requires batch { ⌜ m ≤ word-bits ⌝ }
     requires within { ⌜ base + m ≤ count (now hops) ⌝ }
-    ensures { λ r. ⌜ Swept (now (hops .entry)) (markedBy sense shape (now (hops .entry))) Anything (now (marks .entry)) (now (marks .exit)) r ⌝ }
+    ensures { λ r. ⌜ Swept (now (hops .entry)) (markedBy sense shape (now (hops .entry))) NothingKnown (now (marks .entry)) (now (marks .exit)) r ⌝ }
 {
     let bit = batch_bit(base);
     let mut lost = 1;
     let mut all = 0;
     while lost > 0 {
-        lost = try_batch(shape, hops, line, n, sense, base, m, bit, marks, touched);
+        lost = try_batch(shape, hops, sorted, n, sense, base, m, bit, marks, touched);
         all += lost;
     }
     all
 }
 
 // Runs the batch from place `base` on if it is due, and says which are due then.
-fn run_due(
+fn run_pending(
     shape: Shape,
     hops: &[u16],
-    line: &[u16; MOST_HOPS],
+    sorted: &[u16; MOST_HOPS],
     n: usize,
     sense: u32,
     base: usize,
-    due: u64,
+    pending: u64,
     marks: &mut [u8],
     was: &mut [u64; WORD_BITS],
     touched: &mut [u64; MOST_STATES],
-) -> Turn
-    requires sweepable { ⌜ Sweepable shape (now hops) (now line) n ⌝ }
+) -> SweepOutcome
+    requires sweepable { ⌜ SweepInput shape (now hops) (now sorted) n ⌝ }
     requires marking { ⌜ Marking (now hops) (markedBy sense shape (now hops)) (now marks) ⌝ }
     requires place { ⌜ base < count (now hops) ⌝ }
-    ensures { λ r. ⌜ Swept (now (hops .entry)) (markedBy sense shape (now (hops .entry))) Anything (now (marks .entry)) (now (marks .exit)) (r .lost) ⌝ }
+    ensures { λ r. ⌜ Swept (now (hops .entry)) (markedBy sense shape (now (hops .entry))) NothingKnown (now (marks .entry)) (now (marks .exit)) (r .lost) ⌝ }
 {
     let bit = batch_bit(base);
-    if due & bit == 0 {
-        return Turn { lost: 0, due };
+    if pending & bit == 0 {
+        return SweepOutcome { lost: 0, pending };
     }
     let m = batch_len(base, hop_count(hops));
-    let lost = run_out(shape, hops, line, n, sense, base, m, marks, touched);
-    let more = due_after(hops, marks, was, touched);
-    Turn {
+    let lost = run_to_fixpoint(shape, hops, sorted, n, sense, base, m, marks, touched);
+    let more = pending_after(hops, marks, was, touched);
+    SweepOutcome {
         lost,
-        due: (due | more | bit) ^ bit,
+        pending: (pending | more | bit) ^ bit,
     }
 }
 
@@ -186,10 +186,10 @@ fn batch_count(n: usize) -> usize
 }
 
 // Where the batch begins that a pass over so many batches of n hops runs after k others.
-fn turned_base(n: usize, batches: usize, down: bool, k: usize) -> usize
+fn pass_base(n: usize, batches: usize, down: bool, k: usize) -> usize
     requires batches { ⌜ word-bits * batches < n + word-bits ⌝ }
     requires most { ⌜ n ≤ most-hops ⌝ }
-    requires turn { ⌜ k < batches ⌝ }
+    requires outcome { ⌜ k < batches ⌝ }
     ensures { λ r. ⌜ r < n ⌝ }
 {
     if down {
@@ -199,10 +199,10 @@ fn turned_base(n: usize, batches: usize, down: bool, k: usize) -> usize
 }
 
 // One pass over the batches that are due, downward or upward.
-fn pass_due(
+fn pass_pending(
     shape: Shape,
     hops: &[u16],
-    line: &[u16; MOST_HOPS],
+    sorted: &[u16; MOST_HOPS],
     n: usize,
     sense: u32,
     down: bool,
@@ -210,50 +210,72 @@ fn pass_due(
     marks: &mut [u8],
     was: &mut [u64; WORD_BITS],
     touched: &mut [u64; MOST_STATES],
-) -> Turn
-    requires sweepable { ⌜ Sweepable shape (now hops) (now line) n ⌝ }
+) -> SweepOutcome
+    requires sweepable { ⌜ SweepInput shape (now hops) (now sorted) n ⌝ }
     requires marking { ⌜ Marking (now hops) (markedBy sense shape (now hops)) (now marks) ⌝ }
-    ensures { λ r. ⌜ Swept (now (hops .entry)) (markedBy sense shape (now (hops .entry))) Anything (now (marks .entry)) (now (marks .exit)) (r .lost) ⌝ }
+    ensures { λ r. ⌜ Swept (now (hops .entry)) (markedBy sense shape (now (hops .entry))) NothingKnown (now (marks .entry)) (now (marks .exit)) (r .lost) ⌝ }
 {
     let past = hop_count(hops);
     let batches = batch_count(past);
-    let mut due = first;
+    let mut pending = first;
     let mut lost = 0;
     let mut k = 0;
     while k < batches {
-        let base = turned_base(past, batches, down, k);
-        let turn = run_due(shape, hops, line, n, sense, base, due, marks, was, touched);
-        due = turn.due;
-        lost += turn.lost;
+        let base = pass_base(past, batches, down, k);
+        let outcome = run_pending(
+            shape,
+            hops,
+            sorted,
+            n,
+            sense,
+            base,
+            pending,
+            marks,
+            was,
+            touched,
+        );
+        pending = outcome.pending;
+        lost += outcome.lost;
         k += 1;
     }
-    Turn { lost, due }
+    SweepOutcome { lost, pending }
 }
 
 // Between two sweeps: passes over the batches that what fell since can have touched, upward and downward by turns, until one takes nothing; returns how
 // many marks went.
-fn catch_up(
+fn run_all_pending(
     shape: Shape,
     hops: &[u16],
-    line: &[u16; MOST_HOPS],
+    sorted: &[u16; MOST_HOPS],
     n: usize,
     sense: u32,
     marks: &mut [u8],
     was: &mut [u64; WORD_BITS],
     touched: &mut [u64; MOST_STATES],
 ) -> usize
-    requires sweepable { ⌜ Sweepable shape (now hops) (now line) n ⌝ }
+    requires sweepable { ⌜ SweepInput shape (now hops) (now sorted) n ⌝ }
     requires marking { ⌜ Marking (now hops) (markedBy sense shape (now hops)) (now marks) ⌝ }
-    ensures { λ r. ⌜ Swept (now (hops .entry)) (markedBy sense shape (now (hops .entry))) Anything (now (marks .entry)) (now (marks .exit)) r ⌝ }
+    ensures { λ r. ⌜ Swept (now (hops .entry)) (markedBy sense shape (now (hops .entry))) NothingKnown (now (marks .entry)) (now (marks .exit)) r ⌝ }
 {
-    let mut due = due_after(hops, marks, was, touched);
+    let mut pending = pending_after(hops, marks, was, touched);
     let mut down = false;
     let mut lost = 1;
     let mut all = 0;
     while lost > 0 {
-        let turn = pass_due(shape, hops, line, n, sense, down, due, marks, was, touched);
-        due = turn.due;
-        lost = turn.lost;
+        let outcome = pass_pending(
+            shape,
+            hops,
+            sorted,
+            n,
+            sense,
+            down,
+            pending,
+            marks,
+            was,
+            touched,
+        );
+        pending = outcome.pending;
+        lost = outcome.lost;
         all += lost;
         down = !down;
     }
@@ -261,7 +283,7 @@ fn catch_up(
 }
 
 // The batches for which a sweep notes what they touch, when so many plain ones are still to come: none or all.
-fn noted_after(plain: usize) -> u64 {
+fn recorded_after(plain: usize) -> u64 {
     if plain > 0 {
         return 0;
     }
@@ -278,15 +300,15 @@ fn one_less(plain: usize) -> usize {
 
 // Sweeps until one takes nothing. After a sweep that takes something the batches catch up that are due by it: where marks fall one after the other, a sweep
 // each would run all batches for one mark. The first sweeps note nothing, so that nothing is due after them.
-fn settle(
+fn sweep_to_fixpoint(
     shape: Shape,
     hops: &[u16],
-    line: &[u16; MOST_HOPS],
+    sorted: &[u16; MOST_HOPS],
     n: usize,
     sense: u32,
     marks: &mut [u8],
 )
-    requires sweepable { ⌜ Sweepable shape (now hops) (now line) n ⌝ }
+    requires sweepable { ⌜ SweepInput shape (now hops) (now sorted) n ⌝ }
     requires marking { ⌜ Marking (now hops) (markedBy sense shape (now hops)) (now marks) ⌝ }
     ensures { λ r. ⌜ now (marks .exit) ≡
         onFront (marksOf (now (hops .entry)) (markedBy sense shape (now (hops .entry)))) (now (marks .entry)) ⌝ }
@@ -296,11 +318,11 @@ fn settle(
     let mut plain = PLAIN_SWEEPS;
     let mut fell = 1;
     while fell > 0 {
-        let noted = noted_after(plain);
-        fell = sweep(shape, hops, line, n, sense, noted, marks, &mut touched);
+        let recorded = recorded_after(plain);
+        fell = sweep(shape, hops, sorted, n, sense, recorded, marks, &mut touched);
         plain = one_less(plain);
         if fell > 0 {
-            catch_up(shape, hops, line, n, sense, marks, &mut was, &mut touched);
+            run_all_pending(shape, hops, sorted, n, sense, marks, &mut was, &mut touched);
         }
     }
 }
@@ -320,8 +342,8 @@ pub fn mark_by_sweeps(
     ensures { λ r. ⌜ now (marks .exit) ≡
         onFront (marksOf (now (hops .entry)) (markedBy sense shape (now (hops .entry)))) (now (marks .entry)) ⌝ }
 {
-    let mut line = [0u16; MOST_HOPS];
-    let n = order_of(shape, hops, starts, &mut line);
+    let mut sorted = [0u16; MOST_HOPS];
+    let n = order_of(shape, hops, starts, &mut sorted);
     start_marks(hops, marks);
-    settle(shape, hops, &line, n, sense, marks);
+    sweep_to_fixpoint(shape, hops, &sorted, n, sense, marks);
 }

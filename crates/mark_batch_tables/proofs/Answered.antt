@@ -19,7 +19,7 @@ use Rattle.graph.proofs.Places.{has-place, place-has}
 use Rattle.walk_silent.specs.Silent.{HopOf}
 use Rattle.base_bitset.specs.Bits.{bitIn, bitAt}
 use Rattle.base_bitset.proofs.Laws.{bit-and, table-or, table-out, word-of, or-nothing}
-use Rattle.mark_batch_tables.specs.Trials.{Still, Answering}
+use Rattle.mark_batch_tables.specs.BatchTables.{StayTable, AnswerTable}
 
 -- two words cut, as tables have them
 cut-of : (xs ys : List ℕ) (s t b : ℕ) → bitAt (bitAnd (getD xs s 0) (getD ys t 0)) b ≡ (bitIn xs s b && bitIn ys t b)
@@ -38,7 +38,7 @@ stayed-more {ends} {out} {silent} {i} h l = record { word = λ p k. go p k (eq-o
   go p k (inl e) = rw e (getD-set-same out i (bitAnd (getD ends i 0) silent) 0 l)
   go p k (inr n) = getD-set-other out i p (bitAnd (getD ends i 0) silent) 0 n ∙ h .word p (omega arith)
 
-pub stayed-all : (labels : List ℕ) {ends out : List ℕ} {n : ℕ} → length ends ≡ n → length out ≡ n → Stayed ends (getD labels 0 0) n out → Still labels ends out
+pub stayed-all : (labels : List ℕ) {ends out : List ℕ} {n : ℕ} → length ends ≡ n → length out ≡ n → Stayed ends (getD labels 0 0) n out → StayTable labels ends out
 stayed-all labels {ends} {out} {n} d e h p b = go (lt-or-le p n) where
   go : (p < n) ⊎ (n ≤ p) → bitIn out p b ≡ (bitIn ends p b && bitIn labels 0 b)
   go (inl l) = sym (word-of out p b) ∙ ap (λ (w : ℕ). bitAt w b) (h .word p l) ∙ cut-of ends labels p 0 b
@@ -53,7 +53,7 @@ module _ (hs labels ends : List ℕ) where
   pub record Answered (i : ℕ) (out : List ℕ) : Type 0 where
     pub bit : (p b : ℕ) → bitIn out p b ≡ ((bitIn ends p b && bitIn labels 0 b) || any i (by p b))
 
-  pub answered-none : (out : List ℕ) → Still labels ends out → Answered 0 out
+  pub answered-none : (out : List ℕ) → StayTable labels ends out → Answered 0 out
   unfolding any
   answered-none out h = record { bit = λ p b. h p b ∙ sym (or-nothing (bitIn ends p b && bitIn labels 0 b)) }
 
@@ -105,5 +105,5 @@ module _ (hs labels ends : List ℕ) where
         (any-found (by p b) (count hs) (w .within) (and-yes (eq-eqb _ _ (sym (w .from-is))) (and-yes e o)))
     some-back (a, q, inr (z, e), la, en) = or-left _ (and-yes (rw e at en) (rw z at la))
 
-  pub answered-all : {out : List ℕ} → Answered (count hs) out → Answering hs labels ends out
+  pub answered-all : {out : List ℕ} → Answered (count hs) out → AnswerTable hs labels ends out
   answered-all {out} h p b = (λ e. some-there p b (or-yes _ _ (sym (h .bit p b) ∙ e)), λ w. h .bit p b ∙ some-back p b w)

@@ -12,7 +12,7 @@ use lib.ListN.{length, getD, set, replicate, length-set}
 use Rattle.base_bounded.proofs.Bools.{lt-or-le, eq-or-not}
 use Rattle.base_bitset.specs.Bits.{bitIn}
 use Rattle.base_bitset.proofs.Laws.{bit-one, table-none, table-or, or-nothing}
-use Rattle.mark_batch_tables.specs.Trials.{Keyed}
+use Rattle.mark_batch_tables.specs.BatchTables.{KeyTable}
 
 eqb-swap : (a b : ℕ) → eqb a b ≡ eqb b a
 eqb-swap a b = go (eq-or-not a b) where
@@ -33,19 +33,19 @@ pub put-length : (ws : List ℕ) (at b : ℕ) {new : List ℕ} → new ≡ set w
 put-length ws at b e = ap length e ∙ length-set ws at (bitOr (getD ws at 0) (2 ^ b))
 
 module _ (key : ℕ → ℕ) (base : ℕ) where
-  pub keyed-none : (n : ℕ) (ws : List ℕ) → ws ≡ replicate n 0 → Keyed key base 0 ws
-  keyed-none n ws e s b = rw (e, le-ltb b 0 (omega arith)) (table-none n s b)
+  pub key-table-none : (n : ℕ) (ws : List ℕ) → ws ≡ replicate n 0 → KeyTable key base 0 ws
+  key-table-none n ws e s b = rw (e, le-ltb b 0 (omega arith)) (table-none n s b)
 
   -- one bit more
-  module _ (m : ℕ) (ws new : List ℕ) (at : ℕ) (k : Keyed key base m ws) (here : at ≡ key (base + m)) (l : at < length ws)
+  module _ (m : ℕ) (ws new : List ℕ) (at : ℕ) (k : KeyTable key base m ws) (here : at ≡ key (base + m)) (l : at < length ws)
       (e : new ≡ set ws at (bitOr (getD ws at 0) (2 ^ m))) where
     turn : (s b : ℕ) → bitIn new s b ≡ ((ltb b m && eqb (key (base + b)) s) || (eqb s at && eqb b m))
     turn s b =
         ap (λ (l : List ℕ). bitIn l s b) e ∙ table-or ws at (2 ^ m) s b l ∙
         ap (λ (x : Bool). bitIn ws s b || (eqb s at && x)) (bit-one m b) ∙ ap (λ (x : Bool). x || (eqb s at && eqb b m)) (k s b)
 
-    pub keyed-more : Keyed key base (m + 1) new
-    keyed-more s b = turn s b ∙ go (lt-or-le b m) (eq-or-not b m) where
+    pub key-table-more : KeyTable key base (m + 1) new
+    key-table-more s b = turn s b ∙ go (lt-or-le b m) (eq-or-not b m) where
       go : (b < m) ⊎ (m ≤ b) → (b ≡ m) ⊎ (b ≡ m → ⊥) →
           ((ltb b m && eqb (key (base + b)) s) || (eqb s at && eqb b m)) ≡ (ltb b (m + 1) && eqb (key (base + b)) s)
       go (inl l) q = rw (lt-ltb b m l, lt-ltb b (m + 1) (omega arith), ne-eqb b m (λ e. omega arith), and-false (eqb s at)) (or-nothing (eqb (key (base + b)) s))

@@ -1,1 +1,1 @@
-pub mod Trials  -- tables for a batch of hops tried, and who answers them
+pub mod BatchTables  -- tables for a batch of hops tried, and who answers them

@@ -25,7 +25,7 @@ ghost use Rattle.graph.specs.Answers.{most-states};
 ghost use Rattle.graph_check.specs.Check.{Admitted};
 ghost use Rattle.graph_successors.specs.SuccessorIndex.{Indexable};
 ghost use Rattle.base_bitset.specs.Bits.{word-bits};
-ghost use Rattle.mark_batch_tables.specs.Trials.{Keyed, Still, Answering};
+ghost use Rattle.mark_batch_tables.specs.BatchTables.{KeyTable, StayTable, AnswerTable};
 
 // No bit anywhere.
 pub fn clear(words: &mut [u64; MOST_STATES])
@@ -48,7 +48,7 @@ pub fn put_ends(hops: &[u16], base: usize, m: usize, words: &mut [u64; MOST_STAT
     requires ready { ⌜ Indexable (now hops) ⌝ }
     requires batch { ⌜ m ≤ word-bits ⌝ }
     requires within { ⌜ base + m ≤ count (now hops) ⌝ }
-    ensures { λ r. ⌜ Keyed (to (now (hops .entry))) base m (now (words .exit)) ⌝ }
+    ensures { λ r. ⌜ KeyTable (to (now (hops .entry))) base m (now (words .exit)) ⌝ }
 {
     clear(words);
     let mut b = 0;
@@ -63,7 +63,7 @@ pub fn put_froms(hops: &[u16], base: usize, m: usize, words: &mut [u64; MOST_STA
     requires ready { ⌜ Indexable (now hops) ⌝ }
     requires batch { ⌜ m ≤ word-bits ⌝ }
     requires within { ⌜ base + m ≤ count (now hops) ⌝ }
-    ensures { λ r. ⌜ Keyed (from (now (hops .entry))) base m (now (words .exit)) ⌝ }
+    ensures { λ r. ⌜ KeyTable (from (now (hops .entry))) base m (now (words .exit)) ⌝ }
 {
     clear(words);
     let mut b = 0;
@@ -78,7 +78,7 @@ pub fn put_labels(shape: Shape, hops: &[u16], base: usize, m: usize, words: &mut
     requires admitted { ⌜ Admitted shape (now hops) ⌝ }
     requires batch { ⌜ m ≤ word-bits ⌝ }
     requires within { ⌜ base + m ≤ count (now hops) ⌝ }
-    ensures { λ r. ⌜ Keyed (label (now (hops .entry))) base m (now (words .exit)) ⌝ }
+    ensures { λ r. ⌜ KeyTable (label (now (hops .entry))) base m (now (words .exit)) ⌝ }
 {
     clear(words);
     let mut b = 0;
@@ -89,8 +89,8 @@ pub fn put_labels(shape: Shape, hops: &[u16], base: usize, m: usize, words: &mut
 }
 
 // Who answers by staying: a state that has a bit itself, where the silent label has it.
-fn put_still(labels: &[u64; MOST_LABELS], ends: &[u64; MOST_STATES], out: &mut [u64; MOST_STATES])
-    ensures { λ r. ⌜ Still (now (labels .entry)) (now (ends .entry)) (now (out .exit)) ⌝ }
+fn put_stay(labels: &[u64; MOST_LABELS], ends: &[u64; MOST_STATES], out: &mut [u64; MOST_STATES])
+    ensures { λ r. ⌜ StayTable (now (labels .entry)) (now (ends .entry)) (now (out .exit)) ⌝ }
 {
     sized(ends);
     sized(out);
@@ -111,9 +111,9 @@ pub fn put_answers(
     out: &mut [u64; MOST_STATES],
 )
     requires { ⌜ Admitted shape (now hops) ⌝ }
-    ensures { λ r. ⌜ Answering (now (hops .entry)) (now (labels .entry)) (now (ends .entry)) (now (out .exit)) ⌝ }
+    ensures { λ r. ⌜ AnswerTable (now (hops .entry)) (now (labels .entry)) (now (ends .entry)) (now (out .exit)) ⌝ }
 {
-    put_still(labels, ends, out);
+    put_stay(labels, ends, out);
     sized(out);
     let n = hop_count(hops);
     let mut i = 0;

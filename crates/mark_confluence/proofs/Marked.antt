@@ -68,14 +68,14 @@ module _ (hs : List ℕ) where
     unfolding closes
     x-put s1 s2 = sol .x-is s1 s2 ∙ rw y-put
 
-    pub solution-x : (s1 s2 : ℕ) → X s1 s2 ≡ true → marked hs s1 s2 ≡ true
-    solution-x = marked-greatest (In X) (fixed-confluent X x-put)
+    pub solution-x-within : (s1 s2 : ℕ) → X s1 s2 ≡ true → marked hs s1 s2 ≡ true
+    solution-x-within = marked-greatest (In X) (fixed-confluent X x-put)
 
-    pub solution-y : (s2 a s3 : ℕ) → Y s2 a s3 ≡ true → answers hs (closing (marked hs)) s2 a s3 ≡ true
-    solution-y s2 a s3 e = answers-mono hs X (marked hs) solution-x s2 a s3 (rw y-put at e)
+    pub solution-y-within : (s2 a s3 : ℕ) → Y s2 a s3 ≡ true → answers hs (closing (marked hs)) s2 a s3 ≡ true
+    solution-y-within s2 a s3 e = answers-mono hs X (marked hs) solution-x-within s2 a s3 (rw y-put at e)
 
-    pub solution-z : (s3 s4 : ℕ) → Z s3 s4 ≡ true → closing (marked hs) s3 s4 ≡ true
-    solution-z s3 s4 e = closing-mono hs X (marked hs) solution-x s3 s4 (rw z-put at e)
+    pub solution-z-within : (s3 s4 : ℕ) → Z s3 s4 ≡ true → closing (marked hs) s3 s4 ≡ true
+    solution-z-within s3 s4 e = closing-mono hs X (marked hs) solution-x-within s3 s4 (rw z-put at e)
 
   -- "The marked set is what survives every k"
   pub marked-every : (s t : ℕ) →

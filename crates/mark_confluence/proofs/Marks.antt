@@ -17,8 +17,8 @@ use Rattle.graph.specs.Hops.{count, from, label, to, has}
 use Rattle.graph.proofs.Places.{is-yes, is-from, is-to, has-place, place-has}
 use Rattle.base_fixpoint.specs.Pairs.{Pairs, In, Subset}
 use Rattle.mark_confluence.specs.Rounds.{silentHops}
-use Rattle.mark_confluence.specs.Held.{isMarked, heldBy, markOf, marksOf, everyPair}
-use Rattle.mark_confluence.proofs.Held.{held-says, held-yes}
+use Rattle.mark_confluence.specs.MarkSet.{isMarked, markSet, markOf, marksOf, everyPair}
+use Rattle.mark_confluence.proofs.MarkSet.{mark-set-says, mark-set-yes}
 
 -- a list that is written from the front keeps its length
 pub length-so-far : (f : ℕ → ℕ) (old : List ℕ) {new : List ℕ} (i : ℕ) → i ≤ length old → new ≡ onFront (tabulate i f) old → length new ≡ length old
@@ -93,30 +93,30 @@ module _ (hs : List ℕ) (u : Pairs) where
     marks-silent i l o = mark-says i (sym (marks-at l) ∙ eqb-true (getD ms i 0) 1 o) .0
 
     -- the set that the marks hold
-    pub marks-held : (s t : ℕ) → heldBy hs ms s t ≡ (has hs s 0 t && u s t)
+    pub marks-mark-set : (s t : ℕ) → markSet hs ms s t ≡ (has hs s 0 t && u s t)
     unfolding isMarked
-    marks-held s t = same-test (heldBy hs ms s t) (has hs s 0 t && u s t) into back where
-      into : heldBy hs ms s t ≡ true → (has hs s 0 t && u s t) ≡ true
+    marks-mark-set s t = same-test (markSet hs ms s t) (has hs s 0 t && u s t) into back where
+      into : markSet hs ms s t ≡ true → (has hs s 0 t && u s t) ≡ true
       into h =
-          let (i, l, p, o) = held-says hs ms s t h in
+          let (i, l, p, o) = mark-set-says hs ms s t h in
           let (q, m) = mark-says i (sym (marks-at l) ∙ eqb-true (getD ms i 0) 1 o) in
           and-yes
           (place-has hs s 0 t (record { at = i; within = l; from-is = is-from hs s 0 t i p; label-is = q; to-is = is-to hs s 0 t i p }))
           (rw (is-from hs s 0 t i p, is-to hs s 0 t i p) at m)
 
-      back : (has hs s 0 t && u s t) ≡ true → heldBy hs ms s t ≡ true
+      back : (has hs s 0 t && u s t) ≡ true → markSet hs ms s t ≡ true
       back h =
           let p = has-place hs s 0 t (and-left (has hs s 0 t) (u s t) h) in
           let m : u (from hs (p .at)) (to hs (p .at)) ≡ true = rw (p .from-is, p .to-is) (and-right (has hs s 0 t) (u s t) h) in
-          held-yes hs ms s t (p .within) (is-yes hs s 0 t (p .at) (p .from-is) (p .label-is) (p .to-is))
+          mark-set-yes hs ms s t (p .within) (is-yes hs s 0 t (p .at) (p .from-is) (p .label-is) (p .to-is))
           (eq-eqb (getD ms (p .at) 0) 1 (marks-at (p .within) ∙ mark-one (p .at) (p .label-is) m))
 
     -- which is u where u has silent hops only
-    pub held-set : Subset (In u) (In (silentHops hs)) → heldBy hs ms ≡ u
-    held-set w = λ k s t. same s t k where
-      same : (s t : ℕ) → heldBy hs ms s t ≡ u s t
+    pub mark-set-set : Subset (In u) (In (silentHops hs)) → markSet hs ms ≡ u
+    mark-set-set w = λ k s t. same s t k where
+      same : (s t : ℕ) → markSet hs ms s t ≡ u s t
       same s t =
-          marks-held s t ∙ same-test (has hs s 0 t && u s t) (u s t) (and-right (has hs s 0 t) (u s t)) (λ h. and-yes (w s t h) h)
+          marks-mark-set s t ∙ same-test (has hs s 0 t && u s t) (u s t) (and-right (has hs s 0 t) (u s t)) (λ h. and-yes (w s t h) h)
 
 -- the marks that marking begins with
 module _ (hs : List ℕ) where

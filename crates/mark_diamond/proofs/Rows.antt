@@ -25,7 +25,7 @@ use Rattle.graph_successors.proofs.Firsts.{first-below, first-next}
 use Rattle.graph_successors.proofs.Rows.{row-bracket}
 use Rattle.mark_diamond_merge.specs.Row.{Row}
 use Rattle.mark_diamond_merge.proofs.Rows.{ascending-label}
-use Rattle.mark_diamond.specs.Walk.{Skipped}
+use Rattle.mark_diamond.specs.Skipped.{Skipped}
 use Rattle.mark_confluence.proofs.Closing.{answers-still, answers-else, answers-yes, answered-at, answered-itself, tried-own, tried-other}
 
 module _ (hs : List ℕ) (up : Ascending hs) where

@@ -1,1 +1,1 @@
-pub mod Walk  -- where a walk over a state's hops has come to
+pub mod Skipped  -- where a walk over a state's hops has come to

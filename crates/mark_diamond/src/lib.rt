@@ -30,10 +30,10 @@ ghost use mathlib.Core.Bool.{_&&_};
 ghost use Rattle.graph.specs.Hops.{count, label, to, has};
 ghost use Rattle.graph.specs.Answers.{most-states};
 ghost use Rattle.mark_confluence.specs.Rounds.{answered, closesAt};
-ghost use Rattle.mark_confluence.specs.Held.{heldBy};
+ghost use Rattle.mark_confluence.specs.MarkSet.{markSet};
 ghost use Rattle.graph_successors.specs.SuccessorIndex.{SuccessorIndex, Indexable};
 ghost use Rattle.mark_diamond_merge.specs.Row.{Row};
-ghost use Rattle.mark_diamond.specs.Walk.{Skipped};
+ghost use Rattle.mark_diamond.specs.Skipped.{Skipped};
 
 // The first place from `at` on whose label is not below a, or `past`.
 fn skip(hops: &[u16], at: usize, past: usize, a: Label) -> usize
@@ -59,7 +59,7 @@ pub fn is_answered(hops: &[u16], starts: &[u16; STARTS], marks: &[u8], rest: Res
     requires place { ⌜ j < count (now hops) ⌝ }
     requires row { ⌜ Row (now hops) (rest .state .0) (label (now hops) j) (rest .at) (rest .past) ⌝ }
     requires asked { ⌜ rest .state .0 < most-states ⌝ }
-    ensures { λ r. ⌜ r ≡ answered (now (hops .entry)) (heldBy (now (hops .entry)) (now (marks .entry))) (rest .state .0) j ⌝ }
+    ensures { λ r. ⌜ r ≡ answered (now (hops .entry)) (markSet (now (hops .entry)) (now (marks .entry))) (rest .state .0) j ⌝ }
 {
     let a = label_at(hops, j);
     let s3 = to_at(hops, j);
@@ -73,7 +73,7 @@ pub fn is_answered(hops: &[u16], starts: &[u16; STARTS], marks: &[u8], rest: Res
 }
 
 // The same, where `alike` is whether that state has a hop with the label and the end of j: then s4 is s3 itself, and no more is asked.
-fn is_met(
+fn is_answered_unless_alike(
     hops: &[u16],
     starts: &[u16; STARTS],
     marks: &[u8],
@@ -88,7 +88,7 @@ fn is_met(
     requires row { ⌜ Row (now hops) (rest .state .0) (label (now hops) j) (rest .at) (rest .past) ⌝ }
     requires asked { ⌜ rest .state .0 < most-states ⌝ }
     requires alike { ⌜ alike ≡ has (now hops) (rest .state .0) (label (now hops) j) (to (now hops) j) ⌝ }
-    ensures { λ r. ⌜ r ≡ answered (now (hops .entry)) (heldBy (now (hops .entry)) (now (marks .entry))) (rest .state .0) j ⌝ }
+    ensures { λ r. ⌜ r ≡ answered (now (hops .entry)) (markSet (now (hops .entry)) (now (marks .entry))) (rest .state .0) j ⌝ }
 {
     if alike {
         return true;
@@ -113,7 +113,7 @@ pub fn closes_at(hops: &[u16], starts: &[u16; STARTS], marks: &[u8], i: usize) -
     requires table { ⌜ SuccessorIndex (now hops) (now starts) ⌝ }
     requires capacity { ⌜ count (now hops) ≤ length (now marks) ⌝ }
     requires place { ⌜ i < count (now hops) ⌝ }
-    ensures { λ r. ⌜ r ≡ closesAt (now (hops .entry)) (heldBy (now (hops .entry)) (now (marks .entry))) i ⌝ }
+    ensures { λ r. ⌜ r ≡ closesAt (now (hops .entry)) (markSet (now (hops .entry)) (now (marks .entry))) i ⌝ }
 {
     let s1 = wide(from_at(hops, i).0);
     let s2 = to_at(hops, i);
@@ -129,7 +129,7 @@ pub fn closes_at(hops: &[u16], starts: &[u16; STARTS], marks: &[u8], i: usize) -
             at = skip(hops, at, past, a);
             let found = find_ahead(hops, hop_of(s2.0, a.0, to_at(hops, j).0), same, past);
             same = place_of(found);
-            if !is_met(
+            if !is_answered_unless_alike(
                 hops,
                 starts,
                 marks,

@@ -15,11 +15,11 @@ use Rattle.graph.proofs.Ordered.{Below, before-below, below-before, ascending-l
 use Rattle.graph.proofs.Lookup.{found-lower, Onward, onward}
 use Rattle.graph_successors.proofs.Rows.{row-bracket}
 use Rattle.mark_confluence.specs.Rounds.{closing}
-use Rattle.mark_confluence.specs.Held.{heldBy}
+use Rattle.mark_confluence.specs.MarkSet.{markSet}
 use Rattle.mark_confluence.proofs.Closing.{closing-other}
-use Rattle.mark_confluence.proofs.Held.{held-found, held-missing}
+use Rattle.mark_confluence.proofs.MarkSet.{mark-set-found, mark-set-missing}
 use Rattle.mark_diamond_merge.specs.Row.{Row}
-use Rattle.mark_diamond_merge.specs.Found.{markedAt}
+use Rattle.mark_diamond_merge.specs.Found.{foundMarked}
 
 -- m and `end` bracket the silent hop from s3 to the end of each hop labelled a from k on
 abbrev pub Along : List ℕ → ℕ → ℕ → ℕ → ℕ → ℕ → ℕ → Type 0
@@ -47,10 +47,10 @@ module _ (hs : List ℕ) (up : Ascending hs) where
 -- what the code found out, v, of the silent hop from s3 to s4, another state, by the search that came to f
 module _ (hs ms : List ℕ) (up : Ascending hs) (s3 s4 : ℕ) {h : Hop} {f : Found} (q : h ≡ hopOf s3 0 s4) (e : f ≡ placed hs h) where
   pub found-marked : {p : ℕ} → f ≡ At p → p < count hs
-  found-marked d = held-found hs ms up s3 s4 q e d .0
+  found-marked d = mark-set-found hs ms up s3 s4 q e d .0
 
-  pub found-closes : {v : Bool} → (s3 ≡ s4 → ⊥) → v ≡ markedAt ms f → v ≡ closing (heldBy hs ms) s3 s4
-  found-closes {v} n d = d ∙ told f refl ∙ sym (closing-other (heldBy hs ms) s3 s4 n) where
-    told : (x : Found) → f ≡ x → markedAt ms x ≡ heldBy hs ms s3 s4
-    told (At p) g = held-found hs ms up s3 s4 q e g .1
-    told (Gap p) g = held-missing hs ms up s3 s4 q e g
+  pub found-closes : {v : Bool} → (s3 ≡ s4 → ⊥) → v ≡ foundMarked ms f → v ≡ closing (markSet hs ms) s3 s4
+  found-closes {v} n d = d ∙ told f refl ∙ sym (closing-other (markSet hs ms) s3 s4 n) where
+    told : (x : Found) → f ≡ x → foundMarked ms x ≡ markSet hs ms s3 s4
+    told (At p) g = mark-set-found hs ms up s3 s4 q e g .1
+    told (Gap p) g = mark-set-missing hs ms up s3 s4 q e g

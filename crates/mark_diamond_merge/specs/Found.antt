@@ -4,9 +4,9 @@ use mathlib.Core.Bool.{Bool, false}
 use mathlib.Core.List.{List}
 use Rattle.graph.specs.declared.Found.{Found}
 use Rattle.graph.specs.declared.Found.the-variants.{At, Gap}
-use Rattle.mark_confluence.specs.Held.{isMarked}
+use Rattle.mark_confluence.specs.MarkSet.{isMarked}
 
 -- a hop that was found is marked; one that was not found has no mark
-abbrev pub markedAt : List ℕ → Found → Bool
-markedAt ms (At i) = isMarked ms i
-markedAt ms (Gap i) = false
+abbrev pub foundMarked : List ℕ → Found → Bool
+foundMarked ms (At i) = isMarked ms i
+foundMarked ms (Gap i) = false

@@ -23,10 +23,10 @@ ghost use Rattle.graph.specs.Hops.{count};
 ghost use Rattle.graph.specs.Answers.{most-states};
 ghost use Rattle.graph.specs.declared.Found.the-variants.{At};
 ghost use Rattle.mark_confluence.specs.Rounds.{closing, hopAnswers};
-ghost use Rattle.mark_confluence.specs.Held.{heldBy};
+ghost use Rattle.mark_confluence.specs.MarkSet.{markSet};
 ghost use Rattle.graph_successors.specs.SuccessorIndex.{SuccessorIndex, Indexable};
 ghost use Rattle.mark_diamond_merge.specs.Row.{Row};
-ghost use Rattle.mark_diamond_merge.specs.Found.{markedAt};
+ghost use Rattle.mark_diamond_merge.specs.Found.{foundMarked};
 
 // The hops of a state from place `at` on; `past` is the place past its last.
 pub struct Rest {
@@ -65,7 +65,7 @@ pub fn is_fewer(hops: &[u16], few: Rest, a: Label, many: Rest, b: Label) -> bool
 // Whether a hop that was searched for was found, and is marked.
 fn is_held(marks: &[u8], found: Found) -> bool
     requires { ⌜ ((p : ℕ) → found ≡ At p → p < length (now marks)) ⌝ }
-    ensures { λ r. ⌜ r ≡ markedAt (now (marks .entry)) found ⌝ }
+    ensures { λ r. ⌜ r ≡ foundMarked (now (marks .entry)) found ⌝ }
 {
     match found {
         Found::At(p) => marks[p] == 1,
@@ -87,7 +87,7 @@ pub fn row_answers(
     requires capacity { ⌜ count (now hops) ≤ length (now marks) ⌝ }
     requires row { ⌜ Row (now hops) (rest .state .0) (a .0) (rest .at) (rest .past) ⌝ }
     requires state { ⌜ s3 .0 < most-states ⌝ }
-    ensures { λ r. ⌜ r ≡ hopAnswers (now (hops .entry)) (closing (heldBy (now (hops .entry)) (now (marks .entry)))) (rest .state .0) (a .0) (s3 .0) ⌝ }
+    ensures { λ r. ⌜ r ≡ hopAnswers (now (hops .entry)) (closing (markSet (now (hops .entry)) (now (marks .entry)))) (rest .state .0) (a .0) (s3 .0) ⌝ }
 {
     let past = rest.past;
     let t3 = wide(s3.0);

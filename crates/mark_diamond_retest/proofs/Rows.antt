@@ -15,9 +15,9 @@ use Rattle.graph.proofs.Ordered.{Below, before-below, below-before}
 use Rattle.graph.proofs.Lookup.{lower-law, first-within, range-holds, range-only}
 use Rattle.graph_successors.proofs.Rows.{first-labelled}
 use Rattle.mark_confluence.specs.Rounds.{answered}
-use Rattle.mark_confluence.specs.Held.{heldBy, isMarked}
+use Rattle.mark_confluence.specs.MarkSet.{markSet, isMarked}
 use Rattle.mark_diamond_merge.specs.Row.{Row}
-use Rattle.mark_diamond_retest.specs.Again.{Unshed}
+use Rattle.mark_diamond_retest.specs.Retest.{CleanAnswered}
 
 -- the hops of s labelled a or more
 pub labelled-row : (hs : List ℕ) → Ascending hs → (s a : ℕ) → Row hs s a (labelledFrom hs s a) (firstOf hs (s + 1))
@@ -47,7 +47,7 @@ pub row-is : (hs : List ℕ) → Ascending hs → (s : ℕ) {a b at past : ℕ} 
 row-is hs up s {a} q e p = rw (e, p, q) (labelled-row hs up s a)
 
 -- a hop of the state that the one at place i leaves, tried against t, its end: where it leads to a state that is not shed it is answered
-pub unshed-at : (hs ms sh : List ℕ) (i : ℕ) → Unshed hs ms sh i → {j t : ℕ} → j < count hs → from hs j ≡ from hs i → t ≡ to hs i →
-    isMarked sh (to hs j) ≡ false → answered hs (heldBy hs ms) t j ≡ true
-unfolding Unshed
-unshed-at hs ms sh i u {j} l f q e = rw q (u j l f e)
+pub clean-at : (hs ms sh : List ℕ) (i : ℕ) → CleanAnswered hs ms sh i → {j t : ℕ} → j < count hs → from hs j ≡ from hs i → t ≡ to hs i →
+    isMarked sh (to hs j) ≡ false → answered hs (markSet hs ms) t j ≡ true
+unfolding CleanAnswered
+clean-at hs ms sh i u {j} l f q e = rw q (u j l f e)

@@ -1,1 +1,1 @@
-pub mod Again  -- what need not be tried again
+pub mod Retest  -- what need not be tried again

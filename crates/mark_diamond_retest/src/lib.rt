@@ -26,9 +26,9 @@ ghost use mathlib.Core.Bool.{true};
 ghost use Rattle.graph.specs.Hops.{count};
 ghost use Rattle.graph.specs.Answers.{most-states};
 ghost use Rattle.mark_confluence.specs.Rounds.{answered, closesAt};
-ghost use Rattle.mark_confluence.specs.Held.{heldBy};
+ghost use Rattle.mark_confluence.specs.MarkSet.{markSet};
 ghost use Rattle.graph_successors.specs.SuccessorIndex.{SuccessorIndex, Indexable};
-ghost use Rattle.mark_diamond_retest.specs.Again.{Unshed};
+ghost use Rattle.mark_diamond_retest.specs.Retest.{CleanAnswered};
 
 // Y of the hop at place j against a silent hop to s2. The walk that `mark_diamond` goes side by side would pass over most of s2's hops here, so the like hop and
 // the place of the label are found by halving.
@@ -38,7 +38,7 @@ fn passes(hops: &[u16], starts: &[u16; STARTS], marks: &[u8], s2: OldState, j: u
     requires capacity { ⌜ count (now hops) ≤ length (now marks) ⌝ }
     requires place { ⌜ j < count (now hops) ⌝ }
     requires asked { ⌜ s2 .0 < most-states ⌝ }
-    ensures { λ r. ⌜ r ≡ answered (now (hops .entry)) (heldBy (now (hops .entry)) (now (marks .entry))) (s2 .0) j ⌝ }
+    ensures { λ r. ⌜ r ≡ answered (now (hops .entry)) (markSet (now (hops .entry)) (now (marks .entry))) (s2 .0) j ⌝ }
 {
     let s3 = to_at(hops, j);
     let a = label_at(hops, j);
@@ -66,22 +66,22 @@ pub fn closes_again(
     hops: &[u16],
     starts: &[u16; STARTS],
     marks: &[u8],
-    shed: &[u8; MOST_STATES],
+    dirty: &[u8; MOST_STATES],
     i: usize,
 ) -> bool
     requires ready { ⌜ Indexable (now hops) ⌝ }
     requires table { ⌜ SuccessorIndex (now hops) (now starts) ⌝ }
     requires capacity { ⌜ count (now hops) ≤ length (now marks) ⌝ }
     requires place { ⌜ i < count (now hops) ⌝ }
-    requires others { ⌜ Unshed (now hops) (now marks) (now shed) i ⌝ }
-    ensures { λ r. ⌜ r ≡ closesAt (now (hops .entry)) (heldBy (now (hops .entry)) (now (marks .entry))) i ⌝ }
+    requires others { ⌜ CleanAnswered (now hops) (now marks) (now dirty) i ⌝ }
+    ensures { λ r. ⌜ r ≡ closesAt (now (hops .entry)) (markSet (now (hops .entry)) (now (marks .entry))) i ⌝ }
 {
     let s1 = wide(from_at(hops, i).0);
     let s2 = to_at(hops, i);
     let end = start_of(starts, s1 + 1);
     let mut j = start_of(starts, s1);
     while j < end {
-        if shed[wide(to_at(hops, j).0)] == 1 {
+        if dirty[wide(to_at(hops, j).0)] == 1 {
             if !passes(hops, starts, marks, s2, j) {
                 return false;
             }

@@ -14,9 +14,9 @@ use Rattle.graph.proofs.Lookup.{range-holds, range-only, past-within}
 use Rattle.graph_successors.proofs.Firsts.{range-more}
 use Rattle.base_fixpoint.specs.Pairs.{Pairs, In}
 use Rattle.mark_confluence.specs.Rounds.{closing, hopAnswers}
-use Rattle.mark_confluence.specs.Held.{isMarked, heldBy}
+use Rattle.mark_confluence.specs.MarkSet.{isMarked, markSet}
 use Rattle.mark_confluence.proofs.Closing.{closing-yes, closing-says, hop-answers, none-answers}
-use Rattle.mark_confluence.proofs.Held.{held-yes, held-says}
+use Rattle.mark_confluence.proofs.MarkSet.{mark-set-yes, mark-set-says}
 use Rattle.mark_diamond_merge.proofs.Rows.{ascending-label}
 
 -- a hop of s2 leads to an s4 that closes s3
@@ -38,8 +38,8 @@ pub record Passed (hs ms : List ℕ) (s2 a s3 past k : ℕ) : Type 0 where
 
 module _ (hs ms : List ℕ) (s2 a s3 : ℕ) where
   -- s4 is s3
-  pub itself-answers : {v : Bool} → v ≡ has hs s2 a s3 → v ≡ true → true ≡ hopAnswers hs (closing (heldBy hs ms)) s2 a s3
-  itself-answers e d = sym (end-answers hs (heldBy hs ms) s2 a s3 s3 (sym e ∙ d) (inl refl))
+  pub itself-answers : {v : Bool} → v ≡ has hs s2 a s3 → v ≡ true → true ≡ hopAnswers hs (closing (markSet hs ms)) s2 a s3
+  itself-answers e d = sym (end-answers hs (markSet hs ms) s2 a s3 s3 (sym e ∙ d) (inl refl))
 
   pub passed-start : {past k : ℕ} → k ≡ firstOf hs s3 → past ≡ firstOf hs (s3 + 1) → {v : Bool} → v ≡ has hs s2 a s3 → v ≡ false → Passed hs ms s2 a s3 past k
   passed-start p q e d =
@@ -57,19 +57,19 @@ module _ (hs ms : List ℕ) (s2 a s3 : ℕ) where
 
     -- s4 is the end of the marked hop at k
     pub marked-answers : {s4 : ℕ} {v : Bool} → k < past → label hs k ≡ 0 → isMarked ms k ≡ true → s4 ≡ to hs k → v ≡ has hs s2 a s4 → v ≡ true →
-        true ≡ hopAnswers hs (closing (heldBy hs ms)) s2 a s3
+        true ≡ hopAnswers hs (closing (markSet hs ms)) s2 a s3
     marked-answers {s4} m z d t e f =
-        sym (end-answers hs (heldBy hs ms) s2 a s3 s4 (sym e ∙ f) (inr (held-yes hs ms s3 s4 (passed-in m) (is-yes hs s3 0 s4 k (passed-from m) z (sym t)) d)))
+        sym (end-answers hs (markSet hs ms) s2 a s3 s4 (sym e ∙ f) (inr (mark-set-yes hs ms s3 s4 (passed-in m) (is-yes hs s3 0 s4 k (passed-from m) z (sym t)) d)))
 
     -- the walk goes on: s2 does not lead to the end of the hop at k, or it is not marked
     pub passed-next : (isMarked ms k ≡ true → has hs s2 a (to hs k) ≡ false) → Passed hs ms s2 a s3 past (k + 1)
     passed-next f = record { after = omega (arith, w .after); past-is = w .past-is; itself = w .itself; none = range-more (w .none) f }
 
     -- the walk ends: the hop at k, if it is one of s3, is not silent. So no hop answers.
-    pub passed-ends : (k < past → label hs k ≡ 0 → ⊥) → false ≡ hopAnswers hs (closing (heldBy hs ms)) s2 a s3
+    pub passed-ends : (k < past → label hs k ≡ 0 → ⊥) → false ≡ hopAnswers hs (closing (markSet hs ms)) s2 a s3
     unfolding pastOf
     passed-ends g =
-        sym (none-answers hs (heldBy hs ms) s2 a s3 0 (count hs) (λ j m e. (omega arith, m)) (λ j b m e. no-test _ (λ d. other j m e (closing-says (heldBy hs ms) s3 (to hs j) d)))) where
+        sym (none-answers hs (markSet hs ms) s2 a s3 0 (count hs) (λ j m e. (omega arith, m)) (λ j b m e. no-test _ (λ d. other j m e (closing-says (markSet hs ms) s3 (to hs j) d)))) where
           leads : (j : ℕ) → j < count hs → labelled hs s2 a j ≡ true → has hs s2 a (to hs j) ≡ true
           leads j m e = let (x, y) = labelled-parts hs s2 a j e in rw (x, y) at (has-at hs m)
 
@@ -82,10 +82,10 @@ module _ (hs ms : List ℕ) (s2 a s3 : ℕ) where
                 let h : label hs k ≤ label hs i = ascending-label hs up b m (passed-from c ∙ sym x) in
                 absurd (g c (omega arith))
 
-          other : (j : ℕ) → j < count hs → labelled hs s2 a j ≡ true → (s3 ≡ to hs j) ⊎ In (heldBy hs ms) s3 (to hs j) → ⊥
+          other : (j : ℕ) → j < count hs → labelled hs s2 a j ≡ true → (s3 ≡ to hs j) ⊎ In (markSet hs ms) s3 (to hs j) → ⊥
           other j m e (inl t) = clash (rw (← t) at (leads j m e)) (w .itself)
           other j m e (inr h) =
-              let (i, l, p, d) = held-says hs ms s3 (to hs j) h in
+              let (i, l, p, d) = mark-set-says hs ms s3 (to hs j) h in
               let x = is-from hs s3 0 (to hs j) i p in
               let (lo, hi) = range-holds hs up s3 l x in
               clash (leads j m e) (rw (is-to hs s3 0 (to hs j) i p) at (w .none i lo (early i l hi x (is-label hs s3 0 (to hs j) i p)) d))

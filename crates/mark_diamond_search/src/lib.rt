@@ -25,7 +25,7 @@ ghost use lib.ListN.{length};
 ghost use Rattle.graph.specs.Hops.{count, has};
 ghost use Rattle.graph.specs.Answers.{most-states};
 ghost use Rattle.mark_confluence.specs.Rounds.{closing, hopAnswers};
-ghost use Rattle.mark_confluence.specs.Held.{heldBy};
+ghost use Rattle.mark_confluence.specs.MarkSet.{markSet};
 ghost use Rattle.graph_successors.specs.SuccessorIndex.{SuccessorIndex, Indexable};
 ghost use Rattle.mark_diamond_merge.specs.Row.{Row};
 
@@ -35,7 +35,7 @@ fn holds(hops: &[u16], starts: &[u16; STARTS], marks: &[u8], x: OldState, y: Old
     requires table { ⌜ SuccessorIndex (now hops) (now starts) ⌝ }
     requires capacity { ⌜ count (now hops) ≤ length (now marks) ⌝ }
     requires state { ⌜ x .0 < most-states ⌝ }
-    ensures { λ r. ⌜ r ≡ heldBy (now (hops .entry)) (now (marks .entry)) (x .0) (y .0) ⌝ }
+    ensures { λ r. ⌜ r ≡ markSet (now (hops .entry)) (now (marks .entry)) (x .0) (y .0) ⌝ }
 {
     match find_row(hops, starts, hop_of(x.0, 0, y.0)) {
         Found::At(p) => marks[p] == 1,
@@ -55,7 +55,7 @@ pub fn is_closed(
     requires table { ⌜ SuccessorIndex (now hops) (now starts) ⌝ }
     requires capacity { ⌜ count (now hops) ≤ length (now marks) ⌝ }
     requires state { ⌜ s3 .0 < most-states ⌝ }
-    ensures { λ r. ⌜ r ≡ closing (heldBy (now (hops .entry)) (now (marks .entry))) (s3 .0) (s4 .0) ⌝ }
+    ensures { λ r. ⌜ r ≡ closing (markSet (now (hops .entry)) (now (marks .entry))) (s3 .0) (s4 .0) ⌝ }
 {
     if s3.0 == s4.0 {
         return true;
@@ -77,7 +77,7 @@ fn few_answer(
     requires capacity { ⌜ count (now hops) ≤ length (now marks) ⌝ }
     requires row { ⌜ Row (now hops) (rest .state .0) (a .0) (rest .at) (rest .past) ⌝ }
     requires state { ⌜ s3 .0 < most-states ⌝ }
-    ensures { λ r. ⌜ r ≡ hopAnswers (now (hops .entry)) (closing (heldBy (now (hops .entry)) (now (marks .entry)))) (rest .state .0) (a .0) (s3 .0) ⌝ }
+    ensures { λ r. ⌜ r ≡ hopAnswers (now (hops .entry)) (closing (markSet (now (hops .entry)) (now (marks .entry)))) (rest .state .0) (a .0) (s3 .0) ⌝ }
 {
     let past = rest.past;
     let mut k = rest.at;
@@ -120,7 +120,7 @@ fn ends_answer(
     requires capacity { ⌜ count (now hops) ≤ length (now marks) ⌝ }
     requires asked { ⌜ s2 .0 < most-states ⌝ }
     requires state { ⌜ s3 .0 < most-states ⌝ }
-    ensures { λ r. ⌜ r ≡ hopAnswers (now (hops .entry)) (closing (heldBy (now (hops .entry)) (now (marks .entry)))) (s2 .0) (a .0) (s3 .0) ⌝ }
+    ensures { λ r. ⌜ r ≡ hopAnswers (now (hops .entry)) (closing (markSet (now (hops .entry)) (now (marks .entry)))) (s2 .0) (a .0) (s3 .0) ⌝ }
 {
     if leads_to(hops, starts, s2, a, s3) {
         return true;
@@ -157,7 +157,7 @@ fn long_answer(
     requires row { ⌜ Row (now hops) (rest .state .0) (a .0) (rest .at) (rest .past) ⌝ }
     requires asked { ⌜ rest .state .0 < most-states ⌝ }
     requires state { ⌜ s3 .0 < most-states ⌝ }
-    ensures { λ r. ⌜ r ≡ hopAnswers (now (hops .entry)) (closing (heldBy (now (hops .entry)) (now (marks .entry)))) (rest .state .0) (a .0) (s3 .0) ⌝ }
+    ensures { λ r. ⌜ r ≡ hopAnswers (now (hops .entry)) (closing (markSet (now (hops .entry)) (now (marks .entry)))) (rest .state .0) (a .0) (s3 .0) ⌝ }
 {
     let t3 = wide(s3.0);
     let at = start_of(starts, t3);
@@ -206,7 +206,7 @@ pub fn hop_answers(
     requires row { ⌜ Row (now hops) (rest .state .0) (a .0) (rest .at) (rest .past) ⌝ }
     requires asked { ⌜ rest .state .0 < most-states ⌝ }
     requires state { ⌜ s3 .0 < most-states ⌝ }
-    ensures { λ r. ⌜ r ≡ hopAnswers (now (hops .entry)) (closing (heldBy (now (hops .entry)) (now (marks .entry)))) (rest .state .0) (a .0) (s3 .0) ⌝ }
+    ensures { λ r. ⌜ r ≡ hopAnswers (now (hops .entry)) (closing (markSet (now (hops .entry)) (now (marks .entry)))) (rest .state .0) (a .0) (s3 .0) ⌝ }
 {
     if is_single(hops, rest, a) {
         return few_answer(hops, starts, marks, rest, a, s3);

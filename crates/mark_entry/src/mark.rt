@@ -20,7 +20,7 @@ ghost use Rattle.graph.specs.Hops.{count};
 ghost use Rattle.graph.specs.Answers.{andThen, capacityAnswer};
 ghost use Rattle.graph_successors.specs.SuccessorIndex.{Indexed};
 ghost use Rattle.walk_silent.specs.Silent.{ringAnswer};
-ghost use Rattle.mark_confluence.specs.Held.{marksOf};
+ghost use Rattle.mark_confluence.specs.MarkSet.{marksOf};
 ghost use Rattle.mark_senses.specs.Senses.{markedBy};
 ghost use Rattle.mark_entry.specs.Mark.{markAnswer, markOutput};
 

@@ -12,9 +12,9 @@ use Rattle.graph_check.specs.Check.{checkOf}
 use Rattle.walk_silent.specs.Silent.{ringAnswer}
 use Rattle.base_fixpoint.specs.Pairs.{Pairs}
 use Rattle.mark_confluence.specs.Rounds.{marked}
-use Rattle.mark_confluence.specs.Held.{marksOf}
+use Rattle.mark_confluence.specs.MarkSet.{marksOf}
 use Rattle.mark_senses.specs.Senses.{isSense, senseAnswer}
-use Rattle.mark_senses.proofs.Marked.{first-set}
+use Rattle.mark_senses.proofs.Marked.{marked-by-1}
 use Rattle.mark_senses.proofs.Row.{sense-passes}
 use Rattle.mark_entry.specs.Mark.{markAnswer, markOutput}
 use Rattle.mark_entry.proofs.Entry.{mark-later, mark-admitted, output-marked}
@@ -32,4 +32,4 @@ module _ (sh : Shape) (hs : List ℕ) where
 
     pub first-marked : markAnswer sh hs 1 out .number ≡ 0 → {ms : List ℕ} → ms ≡ onFront (marksOf hs (marked hs)) out → ms ≡ markOutput sh hs 1 out
     first-marked y m =
-        output-marked sh hs 1 out y (m ∙ ap (λ (u : Pairs). onFront (marksOf hs u) out) (sym (first-set sh hs (mark-admitted sh hs 1 out y .range))))
+        output-marked sh hs 1 out y (m ∙ ap (λ (u : Pairs). onFront (marksOf hs u) out) (sym (marked-by-1 sh hs (mark-admitted sh hs 1 out y .range))))

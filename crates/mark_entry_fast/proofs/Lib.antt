@@ -1,3 +1,3 @@
 pub mod First  -- the entry's marking is that of `mark` in sense 1
 pub mod Counting  -- what the entry returns, with a refusal and without
-pub mod Joined  -- the two markings leave the same marks
+pub mod SameMarks  -- the two markings leave the same marks

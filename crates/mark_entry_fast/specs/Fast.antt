@@ -7,8 +7,8 @@ use mathlib.Core.List.{List}
 use lib.Dec.{eqb}
 use Rattle.graph.specs.declared.Shape.{Shape}
 use Rattle.mark_entry.specs.Mark.{markAnswer}
-use Rattle.mark_worklist.specs.Due.{testsOf}
+use Rattle.mark_worklist.specs.Tests.{testsOf}
 use Rattle.mark_entry_fast.specs.declared.Counted.{Counted}
 
-unfoldable pub countedOf : Shape → List ℕ → List ℕ → Counted
-countedOf sh hs out = record { answer = markAnswer sh hs 1 out; tests = cond (eqb (markAnswer sh hs 1 out .number) 0) (testsOf hs) 0 }
+unfoldable pub markFastOf : Shape → List ℕ → List ℕ → Counted
+markFastOf sh hs out = record { answer = markAnswer sh hs 1 out; tests = cond (eqb (markAnswer sh hs 1 out .number) 0) (testsOf hs) 0 }

@@ -25,8 +25,8 @@ use Rattle.mark_senses.proofs.Tests.{closes-says, closes-mono, closes-y
 
 module _ (sense : Sense) (sh : Shape) (hs : List ℕ) where
   -- "the condition grows with U"
-  pub grows : Monotone (closesIn sense sh hs)
-  grows = closes-mono sense sh hs
+  pub closes-monotone : Monotone (closesIn sense sh hs)
+  closes-monotone = closes-mono sense sh hs
 
   pub in-silent : Subset (In (markedIn sense sh hs)) (In (silentHops hs))
   unfolding markedIn
@@ -35,17 +35,17 @@ module _ (sense : Sense) (sh : Shape) (hs : List ℕ) where
   -- a hop of the marked set closes with any set that holds the marked set
   pub in-kept : PostFixed (closesIn sense sh hs) (In (markedIn sense sh hs))
   unfolding markedIn
-  in-kept = approximant-post-fixed (closesIn sense sh hs) (silentHops hs) grows (silent-listed hs)
+  in-kept = approximant-post-fixed (closesIn sense sh hs) (silentHops hs) closes-monotone (silent-listed hs)
 
   -- and such a set of silent hops that all close with it is the marked set
   pub in-same : (v : Pairs) → Subset (In v) (In (silentHops hs)) → Subset (In v) (In (closesIn sense sh hs v)) → Subset (In (markedIn sense sh hs)) (In v) →
       v ≡ markedIn sense sh hs
   unfolding markedIn
-  in-same = approximant-same (closesIn sense sh hs) (silentHops hs) grows (silent-listed hs)
+  in-same = approximant-same (closesIn sense sh hs) (silentHops hs) closes-monotone (silent-listed hs)
 
   -- "the marked set is of that sense"
-  pub marked-of : ConfluentIn sense (HopOf hs) (In (markedIn sense sh hs))
-  marked-of =
+  pub marked-confluent-in : ConfluentIn sense (HopOf hs) (In (markedIn sense sh hs))
+  marked-confluent-in =
       record {
         silent = in-silent;
         closed = λ s t e. closes-says sense sh hs (markedIn sense sh hs) s t (in-kept (markedIn sense sh hs) (λ x y m. m) s t e);
@@ -57,43 +57,43 @@ module _ (sense : Sense) (sh : Shape) (hs : List ℕ) where
     set-kept c v f s t m = closes-yes sense sh hs ranged (c .silent) v f s t m (c .closed s t m)
 
     -- ".. and holds every set of it"
-    pub holds-every : Greatest sense (HopOf hs) (In (markedIn sense sh hs))
+    pub marked-greatest-in : Greatest sense (HopOf hs) (In (markedIn sense sh hs))
     unfolding markedIn
-    holds-every W c = approximant-greatest (closesIn sense sh hs) (silentHops hs) grows (silent-listed hs) (c .silent) (set-kept c)
+    marked-greatest-in W c = approximant-greatest (closesIn sense sh hs) (silentHops hs) closes-monotone (silent-listed hs) (c .silent) (set-kept c)
 
     -- a hop is marked exactly when some set of the sense has it
     pub marked-in-iff : (s t : ℕ) →
         (markedIn sense sh hs s t ≡ true → (W : ℕ → ℕ → Type 0) × ConfluentIn sense (HopOf hs) W × W s t) ×
         ((W : ℕ → ℕ → Type 0) × ConfluentIn sense (HopOf hs) W × W s t → markedIn sense sh hs s t ≡ true)
-    marked-in-iff s t = ((λ e. (In (markedIn sense sh hs), marked-of, e)), (λ (W, c, m). holds-every W c s t m))
+    marked-in-iff s t = ((λ e. (In (markedIn sense sh hs), marked-confluent-in, e)), (λ (W, c, m). marked-greatest-in W c s t m))
 
 module _ (sh : Shape) (hs : List ℕ) (ranged : InRange sh hs) where
   -- what is marked in a sense is marked in a weaker one
-  pub among : {sense weaker : Sense} → Implies sense weaker → Subset (In (markedIn sense sh hs)) (In (markedIn weaker sh hs))
-  among {sense} {weaker} k = confluent-within-greatest k (marked-of sense sh hs) (holds-every weaker sh hs ranged)
+  pub marked-mono : {sense weaker : Sense} → Implies sense weaker → Subset (In (markedIn sense sh hs)) (In (markedIn weaker sh hs))
+  marked-mono {sense} {weaker} k = confluent-within-greatest k (marked-confluent-in sense sh hs) (marked-greatest-in weaker sh hs ranged)
 
   -- "R1's marks are among R2's and R3's, and theirs among R8's"
-  pub among-r2 : Subset (In (markedIn r1 sh hs)) (In (markedIn r2 sh hs))
-  among-r2 = among r1→r2
+  pub marked-r1-r2 : Subset (In (markedIn r1 sh hs)) (In (markedIn r2 sh hs))
+  marked-r1-r2 = marked-mono r1→r2
 
-  pub among-r3 : Subset (In (markedIn r1 sh hs)) (In (markedIn r3 sh hs))
-  among-r3 = among r1→r3
+  pub marked-r1-r3 : Subset (In (markedIn r1 sh hs)) (In (markedIn r3 sh hs))
+  marked-r1-r3 = marked-mono r1→r3
 
-  pub among-r8 : (sense : Sense) → Subset (In (markedIn sense sh hs)) (In (markedIn r8 sh hs))
-  among-r8 sense = among (implies-r8 sense)
+  pub marked-r8 : (sense : Sense) → Subset (In (markedIn sense sh hs)) (In (markedIn r8 sh hs))
+  marked-r8 sense = marked-mono (implies-r8 sense)
 
   -- sense 1 is document 01's condition, and its marked set is document 01's
-  pub strong-set : {W : ℕ → ℕ → Type 0} → ConfluentSet hs W ↔ ConfluentIn r1 (HopOf hs) W
-  strong-set {W} = (
+  pub confluent-r1-iff : {W : ℕ → ℕ → Type 0} → ConfluentSet hs W ↔ ConfluentIn r1 (HopOf hs) W
+  confluent-r1-iff {W} = (
     (λ c. record { silent = c .silent; closed = r1-iff (HopOf hs) W .1 (c .closed) }),
     (λ c. record { silent = c .silent; closed = r1-iff (HopOf hs) W .0 (c .closed) }),
   )
 
-  pub strong : markedIn r1 sh hs ≡ marked hs
-  strong = λ k s t. same-test (markedIn r1 sh hs s t) (marked hs s t)
-      (marked-greatest hs (In (markedIn r1 sh hs)) (strong-set .1 (marked-of r1 sh hs)) s t)
-      (holds-every r1 sh hs ranged (In (marked hs)) (strong-set .0 (marked-confluent hs)) s t) k
+  pub marked-in-r1 : markedIn r1 sh hs ≡ marked hs
+  marked-in-r1 = λ k s t. same-test (markedIn r1 sh hs s t) (marked hs s t)
+      (marked-greatest hs (In (markedIn r1 sh hs)) (confluent-r1-iff .1 (marked-confluent-in r1 sh hs)) s t)
+      (marked-greatest-in r1 sh hs ranged (In (marked hs)) (confluent-r1-iff .0 (marked-confluent hs)) s t) k
 
   -- which is that of the sense with number 1
-  pub first-set : markedBy 1 sh hs ≡ marked hs
-  first-set = ap (λ (k : Sense). markedIn k sh hs) sense-1 ∙ strong
+  pub marked-by-1 : markedBy 1 sh hs ≡ marked hs
+  marked-by-1 = ap (λ (k : Sense). markedIn k sh hs) sense-1 ∙ marked-in-r1

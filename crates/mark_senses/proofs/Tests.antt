@@ -23,7 +23,7 @@ use Rattle.walk_silent.specs.Silent.{HopOf}
 use Rattle.walk_silent.proofs.Hops.{silent-end}
 use Rattle.base_fixpoint.specs.Pairs.{Pairs, In, Subset}
 use Rattle.mark_confluence.specs.Rounds.{Trials, tried}
-use Rattle.mark_senses.specs.Senses.{setAt, comes, takes, meets, takesTo, answersFrom, answeredIn, closesIn}
+use Rattle.mark_senses.specs.Senses.{inSetAt, reachesBy, hopOrStay, joinsAt, answersTo, answersFrom, answeredIn, closesIn}
 
 -- a walk of at most k hops of a set is one of a larger set
 leads-mono : (hs : List ℕ) (c d : ℕ → Bool) → ((i : ℕ) → c i ≡ true → d i ≡ true) → (k s t : ℕ) → leadsBy hs c k s t ≡ true → leadsBy hs d k s t ≡ true
@@ -37,12 +37,12 @@ leads-mono hs c d f (suc k) s t e =
 
 module _ (hs : List ℕ) (n : ℕ) (u : Pairs) where
   -- a chosen hop is one of the set
-  pub chosen-in : (s t : ℕ) → ChosenOf hs (setAt hs u) s t → In u s t
-  unfolding setAt
+  pub chosen-in : (s t : ℕ) → ChosenOf hs (inSetAt hs u) s t → In u s t
+  unfolding inSetAt
   chosen-in s t p = rw (p .from-is, p .to-is) at (and-right (eqb (label hs (p .at)) 0) (u (from hs (p .at)) (to hs (p .at))) (p .chosen))
 
-  pub in-chosen : (s t : ℕ) → has hs s 0 t ≡ true → In u s t → ChosenOf hs (setAt hs u) s t
-  unfolding setAt
+  pub in-chosen : (s t : ℕ) → has hs s 0 t ≡ true → In u s t → ChosenOf hs (inSetAt hs u) s t
+  unfolding inSetAt
   in-chosen s t h m =
       let p = has-place hs s 0 t h in
       record {
@@ -53,43 +53,43 @@ module _ (hs : List ℕ) (n : ℕ) (u : Pairs) where
         to-is = p .to-is;
       }
 
-  pub comes-says : (r : Reach) (s t : ℕ) → comes hs n u r s t ≡ true → Via (In u) r s t
-  unfolding comes
-  comes-says nowhere s t e = rw (eqb-true s t e) here
-  comes-says single s t e = ⊎-elim (λ q. rw (eqb-true s t q) here) (λ m. hop m) (or-yes (eqb s t) (u s t) e)
-  comes-says walks s t e = walk (star-mono chosen-in (leads-walk hs (setAt hs u) n s t e))
+  pub reaches-by-says : (r : Reach) (s t : ℕ) → reachesBy hs n u r s t ≡ true → Via (In u) r s t
+  unfolding reachesBy
+  reaches-by-says nowhere s t e = rw (eqb-true s t e) here
+  reaches-by-says single s t e = ⊎-elim (λ q. rw (eqb-true s t q) here) (λ m. hop m) (or-yes (eqb s t) (u s t) e)
+  reaches-by-says walks s t e = walk (star-mono chosen-in (leads-walk hs (inSetAt hs u) n s t e))
 
-  comes-self : (r : Reach) (s : ℕ) → comes hs n u r s s ≡ true
-  unfolding comes
+  comes-self : (r : Reach) (s : ℕ) → reachesBy hs n u r s s ≡ true
+  unfolding reachesBy
   comes-self nowhere s = eq-eqb s s refl
   comes-self single s = or-left (u s s) (eq-eqb s s refl)
-  comes-self walks s = leads-self hs (setAt hs u) n s
+  comes-self walks s = leads-self hs (inSetAt hs u) n s
 
-  pub takes-says : (p a q : ℕ) → takes hs p a q ≡ true → HopOrStay (HopOf hs) (In u) p a q
-  unfolding takes
-  takes-says p a q e =
+  pub hop-or-stay-says : (p a q : ℕ) → hopOrStay hs p a q ≡ true → HopOrStay (HopOf hs) (In u) p a q
+  unfolding hopOrStay
+  hop-or-stay-says p a q e =
       ⊎-elim (λ h. inl h) (λ h. inr (eqb-true a 0 (and-left (eqb a 0) (eqb q p) h), eqb-true q p (and-right (eqb a 0) (eqb q p) h)))
       (or-yes (has hs p a q) (eqb a 0 && eqb q p) e)
 
-  pub takes-yes : (p a q : ℕ) → HopOrStay (HopOf hs) (In u) p a q → takes hs p a q ≡ true
-  unfolding takes
-  takes-yes p a q (inl h) = or-left (eqb a 0 && eqb q p) h
-  takes-yes p a q (inr (z, e)) = or-right (has hs p a q) (and-yes (eq-eqb a 0 z) (eq-eqb q p e))
+  pub hop-or-stay-yes : (p a q : ℕ) → HopOrStay (HopOf hs) (In u) p a q → hopOrStay hs p a q ≡ true
+  unfolding hopOrStay
+  hop-or-stay-yes p a q (inl h) = or-left (eqb a 0 && eqb q p) h
+  hop-or-stay-yes p a q (inr (z, e)) = or-right (has hs p a q) (and-yes (eq-eqb a 0 z) (eq-eqb q p e))
 
 module _ (sense : Sense) (hs : List ℕ) (n : ℕ) (u : Pairs) where
   pub answered-says : (s2 a s3 : ℕ) → answeredIn sense hs n u s2 a s3 ≡ true → Answered sense (HopOf hs) (In u) s2 a s3
-  unfolding answeredIn answersFrom takesTo meets
+  unfolding answeredIn answersFrom answersTo joinsAt
   answered-says s2 a s3 e =
       let (p, _, x) = any-at (answersFrom sense hs n u s2 a s3) n e in
-      let (q, _, y) = any-at (takesTo sense hs n u p a s3) n (and-right (comes hs n u (sense .before) s2 p) _ x) in
-      let (s4, _, z) = any-at (meets sense hs n u q s3) n (and-right (takes hs p a q) _ y) in (
+      let (q, _, y) = any-at (answersTo sense hs n u p a s3) n (and-right (reachesBy hs n u (sense .before) s2 p) _ x) in
+      let (s4, _, z) = any-at (joinsAt sense hs n u q s3) n (and-right (hopOrStay hs p a q) _ y) in (
         p,
         q,
         s4,
-        comes-says hs n u (sense .before) s2 p (and-left (comes hs n u (sense .before) s2 p) _ x),
-        takes-says hs n u p a q (and-left (takes hs p a q) _ y),
-        comes-says hs n u (sense .after) q s4 (and-left (comes hs n u (sense .after) q s4) _ z),
-        comes-says hs n u (sense .closing) s3 s4 (and-right (comes hs n u (sense .after) q s4) _ z),
+        reaches-by-says hs n u (sense .before) s2 p (and-left (reachesBy hs n u (sense .before) s2 p) _ x),
+        hop-or-stay-says hs n u p a q (and-left (hopOrStay hs p a q) _ y),
+        reaches-by-says hs n u (sense .after) q s4 (and-left (reachesBy hs n u (sense .after) q s4) _ z),
+        reaches-by-says hs n u (sense .closing) s3 s4 (and-right (reachesBy hs n u (sense .after) q s4) _ z),
       )
 
 -- what is tried, whatever a trial is
@@ -117,29 +117,29 @@ module _ (sense : Sense) (sh : Shape) (hs : List ℕ) where
 
   -- the tests grow with the set
   module _ (u v : Pairs) (f : Subset (In u) (In v)) where
-    comes-mono : (r : Reach) (s t : ℕ) → comes hs (sh .states) u r s t ≡ true → comes hs (sh .states) v r s t ≡ true
-    unfolding comes setAt
+    comes-mono : (r : Reach) (s t : ℕ) → reachesBy hs (sh .states) u r s t ≡ true → reachesBy hs (sh .states) v r s t ≡ true
+    unfolding reachesBy inSetAt
     comes-mono nowhere s t e = e
     comes-mono single s t e = ⊎-elim (λ q. or-left (v s t) q) (λ m. or-right (eqb s t) (f s t m)) (or-yes (eqb s t) (u s t) e)
-    comes-mono walks s t e = leads-mono hs (setAt hs u) (setAt hs v) more (sh .states) s t e where
-      more : (i : ℕ) → setAt hs u i ≡ true → setAt hs v i ≡ true
+    comes-mono walks s t e = leads-mono hs (inSetAt hs u) (inSetAt hs v) more (sh .states) s t e where
+      more : (i : ℕ) → inSetAt hs u i ≡ true → inSetAt hs v i ≡ true
       more i q =
           and-yes (and-left (eqb (label hs i) 0) (u (from hs i) (to hs i)) q) (f (from hs i) (to hs i) (and-right (eqb (label hs i) 0) (u (from hs i) (to hs i)) q))
 
     answered-mono : (s2 a s3 : ℕ) → answeredIn sense hs (sh .states) u s2 a s3 ≡ true → answeredIn sense hs (sh .states) v s2 a s3 ≡ true
-    unfolding answeredIn answersFrom takesTo meets
+    unfolding answeredIn answersFrom answersTo joinsAt
     answered-mono s2 a s3 e =
         let n = sh .states in
         let (p, l, x) = any-at (answersFrom sense hs n u s2 a s3) n e in
-        let (q, k, y) = any-at (takesTo sense hs n u p a s3) n (and-right (comes hs n u (sense .before) s2 p) _ x) in
-        let (s4, j, z) = any-at (meets sense hs n u q s3) n (and-right (takes hs p a q) _ y) in
+        let (q, k, y) = any-at (answersTo sense hs n u p a s3) n (and-right (reachesBy hs n u (sense .before) s2 p) _ x) in
+        let (s4, j, z) = any-at (joinsAt sense hs n u q s3) n (and-right (hopOrStay hs p a q) _ y) in
         any-found (answersFrom sense hs n v s2 a s3) n l
-        (and-yes (comes-mono (sense .before) s2 p (and-left (comes hs n u (sense .before) s2 p) _ x))
-        (any-found (takesTo sense hs n v p a s3) n k
-        (and-yes (and-left (takes hs p a q) _ y)
-        (any-found (meets sense hs n v q s3) n j
-        (and-yes (comes-mono (sense .after) q s4 (and-left (comes hs n u (sense .after) q s4) _ z))
-        (comes-mono (sense .closing) s3 s4 (and-right (comes hs n u (sense .after) q s4) _ z)))))))
+        (and-yes (comes-mono (sense .before) s2 p (and-left (reachesBy hs n u (sense .before) s2 p) _ x))
+        (any-found (answersTo sense hs n v p a s3) n k
+        (and-yes (and-left (hopOrStay hs p a q) _ y)
+        (any-found (joinsAt sense hs n v q s3) n j
+        (and-yes (comes-mono (sense .after) q s4 (and-left (reachesBy hs n u (sense .after) q s4) _ z))
+        (comes-mono (sense .closing) s3 s4 (and-right (reachesBy hs n u (sense .after) q s4) _ z)))))))
 
     pub closes-mono : Subset (In (closesIn sense sh hs u)) (In (closesIn sense sh hs v))
     unfolding closesIn
@@ -165,23 +165,23 @@ module _ (sense : Sense) (sh : Shape) (hs : List ℕ) where
     answer-in p a q l (inr (z, e)) = rw e l
 
     module _ (u : Pairs) (f : Subset W (In u)) where
-      comes-yes : {r : Reach} {s t : ℕ} → Via W r s t → comes hs (sh .states) u r s t ≡ true
-      unfolding comes
+      comes-yes : {r : Reach} {s t : ℕ} → Via W r s t → reachesBy hs (sh .states) u r s t ≡ true
+      unfolding reachesBy
       comes-yes (here {r} {s}) = comes-self hs (sh .states) u r s
       comes-yes (hop {s} {t} m) = or-right (eqb s t) (f s t m)
-      comes-yes (walk p) = walk-leads ranged (setAt hs u) (star-mono (λ s t m. in-chosen hs (sh .states) u s t (silent s t m) (f s t m)) p)
+      comes-yes (walk p) = walk-leads ranged (inSetAt hs u) (star-mono (λ s t m. in-chosen hs (sh .states) u s t (silent s t m) (f s t m)) p)
 
       answered-yes : (s2 a s3 : ℕ) → s2 < sh .states → Answered sense (HopOf hs) W s2 a s3 → answeredIn sense hs (sh .states) u s2 a s3 ≡ true
-      unfolding answeredIn answersFrom takesTo meets
+      unfolding answeredIn answersFrom answersTo joinsAt
       answered-yes s2 a s3 l (p, q, s4, x, y, z, w) =
           let n = sh .states in
           let i = via-in l x in
           let j = answer-in p a q i y in
           any-found (answersFrom sense hs n u s2 a s3) n i
           (and-yes (comes-yes x)
-          (any-found (takesTo sense hs n u p a s3) n j
-          (and-yes (takes-yes hs n u p a q y)
-          (any-found (meets sense hs n u q s3) n (via-in j z) (and-yes (comes-yes z) (comes-yes w))))))
+          (any-found (answersTo sense hs n u p a s3) n j
+          (and-yes (hop-or-stay-yes hs n u p a q y)
+          (any-found (joinsAt sense hs n u q s3) n (via-in j z) (and-yes (comes-yes z) (comes-yes w))))))
 
       pub closes-yes : (s1 s2 : ℕ) → W s1 s2 → Closes sense (HopOf hs) W s1 s2 → closesIn sense sh hs u s1 s2 ≡ true
       unfolding closesIn

@@ -17,30 +17,30 @@ use Rattle.base_fixpoint.specs.Approximants.{approximant}
 use Rattle.mark_confluence.specs.Rounds.{Trials, tried, silentHops}
 
 -- the hop at place i is silent, and in the set u
-unfoldable pub setAt : List ℕ → Pairs → ℕ → Bool
-setAt hs u i = eqb (label hs i) 0 && u (from hs i) (to hs i)
+unfoldable pub inSetAt : List ℕ → Pairs → ℕ → Bool
+inSetAt hs u i = eqb (label hs i) 0 && u (from hs i) (to hs i)
 
 -- s comes to t: not at all (t is s), by at most one hop of u, or "by zero or more hops of U", for which as many as there are states are enough
-unfoldable pub comes : List ℕ → ℕ → Pairs → Reach → Pairs
-comes hs n u nowhere s t = eqb s t
-comes hs n u single s t = eqb s t || u s t
-comes hs n u walks s t = leadsBy hs (setAt hs u) n s t
+unfoldable pub reachesBy : List ℕ → ℕ → Pairs → Reach → Pairs
+reachesBy hs n u nowhere s t = eqb s t
+reachesBy hs n u single s t = eqb s t || u s t
+reachesBy hs n u walks s t = leadsBy hs (inSetAt hs u) n s t
 
 -- "p has a hop labelled a to q, or a is silent and q = p"
-unfoldable pub takes : List ℕ → ℕ → ℕ → ℕ → Bool
-takes hs p a q = has hs p a q || (eqb a 0 && eqb q p)
+unfoldable pub hopOrStay : List ℕ → ℕ → ℕ → ℕ → Bool
+hopOrStay hs p a q = has hs p a q || (eqb a 0 && eqb q p)
 
 -- "s4 is q, or q leads to s4; s3 = s4, or s3 leads to s4": q and s3 meet in s4
-unfoldable pub meets : Sense → List ℕ → ℕ → Pairs → ℕ → ℕ → ℕ → Bool
-meets sense hs n u q s3 s4 = comes hs n u (sense .after) q s4 && comes hs n u (sense .closing) s3 s4
+unfoldable pub joinsAt : Sense → List ℕ → ℕ → Pairs → ℕ → ℕ → ℕ → Bool
+joinsAt sense hs n u q s3 s4 = reachesBy hs n u (sense .after) q s4 && reachesBy hs n u (sense .closing) s3 s4
 
 -- p answers by a hop to q, and q and s3 meet
-unfoldable pub takesTo : Sense → List ℕ → ℕ → Pairs → ℕ → ℕ → ℕ → ℕ → Bool
-takesTo sense hs n u p a s3 q = takes hs p a q && any n (meets sense hs n u q s3)
+unfoldable pub answersTo : Sense → List ℕ → ℕ → Pairs → ℕ → ℕ → ℕ → ℕ → Bool
+answersTo sense hs n u p a s3 q = hopOrStay hs p a q && any n (joinsAt sense hs n u q s3)
 
 -- "p is s2, or s2 leads to p", and p answers
 unfoldable pub answersFrom : Sense → List ℕ → ℕ → Pairs → ℕ → ℕ → ℕ → ℕ → Bool
-answersFrom sense hs n u s2 a s3 p = comes hs n u (sense .before) s2 p && any n (takesTo sense hs n u p a s3)
+answersFrom sense hs n u s2 a s3 p = reachesBy hs n u (sense .before) s2 p && any n (answersTo sense hs n u p a s3)
 
 -- "there are states p, q, s4 such that": a hop labelled a to s3 is answered from s2
 unfoldable pub answeredIn : Sense → List ℕ → ℕ → Pairs → Trials

@@ -16,19 +16,19 @@ use Rattle.graph.specs.Hops.{count, from, to, is}
 use Rattle.graph.specs.Order.{Ascending}
 use Rattle.graph.proofs.Places.{is-from, is-to}
 use Rattle.mark_confluence.specs.Rounds.{closes, closesAt, marked}
-use Rattle.mark_confluence.specs.Held.{isMarked, heldBy, marksOf}
+use Rattle.mark_confluence.specs.MarkSet.{isMarked, markSet, marksOf}
 use Rattle.mark_confluence.proofs.Marked.{marked-kept, marked-same}
-use Rattle.mark_confluence.proofs.Held.{held-says, held-yes}
-use Rattle.mark_sweeps.specs.Sweep.{markCount, Marking, Swept, Stands, StandsTo}
-use Rattle.mark_sweeps.proofs.Settling.{on-or-off, swept-none, settled-marks}
+use Rattle.mark_confluence.proofs.MarkSet.{mark-set-says, mark-set-yes}
+use Rattle.mark_sweeps.specs.Sweep.{markCount, Marking, Swept, ClosesIfMarked, ClosesUpTo}
+use Rattle.mark_sweeps.proofs.Fixpoint.{on-or-off, swept-none, fixpoint-marks}
 
 module _ (hs : List ℕ) {ms : List ℕ} (m : Marking hs (marked hs) ms) where
-  pub tested-off : (i : ℕ) → getD ms i 0 ≡ 0 → Swept hs (marked hs) (Stands hs i) ms ms 0
-  unfolding Stands isMarked
+  pub tested-off : (i : ℕ) → getD ms i 0 ≡ 0 → Swept hs (marked hs) (ClosesIfMarked hs i) ms ms 0
+  unfolding ClosesIfMarked isMarked
   tested-off i z = swept-none m (λ o. absurd (omega (arith, eqb-true (getD ms i 0) 1 o)))
 
-  pub tested-closes : (i : ℕ) {v : Bool} → v ≡ closesAt hs (heldBy hs ms) i → v ≡ true → Swept hs (marked hs) (Stands hs i) ms ms 0
-  unfolding Stands
+  pub tested-closes : (i : ℕ) {v : Bool} → v ≡ closesAt hs (markSet hs ms) i → v ≡ true → Swept hs (marked hs) (ClosesIfMarked hs i) ms ms 0
+  unfolding ClosesIfMarked
   tested-closes i e d = swept-none m (λ o. sym e ∙ d)
 
   module _ {i : ℕ} (l : i < count hs) where
@@ -46,7 +46,7 @@ module _ (hs : List ℕ) {ms : List ℕ} (m : Marking hs (marked hs) ms) where
       go (inl q) = clash (rw q at e) off-here
       go (inr n) = sym (off-there j n) ∙ e
 
-    pub tested-lost : (getD ms i 0 ≡ 0 → ⊥) → {v : Bool} → v ≡ closesAt hs (heldBy hs ms) i → v ≡ false → Swept hs (marked hs) (Stands hs i) ms (set ms i 0) 1
+    pub tested-lost : (getD ms i 0 ≡ 0 → ⊥) → {v : Bool} → v ≡ closesAt hs (markSet hs ms) i → v ≡ false → Swept hs (marked hs) (ClosesIfMarked hs i) ms (set ms i 0) 1
     unfolding markCount
     tested-lost n x d =
         record {
@@ -61,17 +61,17 @@ module _ (hs : List ℕ) {ms : List ℕ} (m : Marking hs (marked hs) ms) where
             go (inl q) = inl (rw q (getD-set-same ms i 0 0 (omega (arith, m .capacity))))
             go (inr n) = rw (getD-set-other ms i j 0 0 n) (m .bits j k)
 
-          holds : (s t : ℕ) → marked hs s t ≡ true → heldBy hs (set ms i 0) s t ≡ true
-          holds s t e = let (j, k, h, o) = held-says hs ms s t (m .holds s t e) in go j k h o (eq-or-not j i) where
-            go : (j : ℕ) → j < count hs → is hs s 0 t j ≡ true → isMarked ms j ≡ true → (j ≡ i) ⊎ (j ≡ i → ⊥) → heldBy hs (set ms i 0) s t ≡ true
+          holds : (s t : ℕ) → marked hs s t ≡ true → markSet hs (set ms i 0) s t ≡ true
+          holds s t e = let (j, k, h, o) = mark-set-says hs ms s t (m .holds s t e) in go j k h o (eq-or-not j i) where
+            go : (j : ℕ) → j < count hs → is hs s 0 t j ≡ true → isMarked ms j ≡ true → (j ≡ i) ⊎ (j ≡ i → ⊥) → markSet hs (set ms i 0) s t ≡ true
             go j k h o (inl q) =
                 let f : from hs i ≡ s = rw q at (is-from hs s 0 t j h) in
                 let g : to hs i ≡ t = rw q at (is-to hs s 0 t j h) in
-                clash (rw (f, g) (marked-kept hs (heldBy hs ms) (m .holds) s t e)) (sym x ∙ d)
-            go j k h o (inr n) = held-yes hs (set ms i 0) s t k h (off-there j n ∙ o)
+                clash (rw (f, g) (marked-kept hs (markSet hs ms) (m .holds) s t e)) (sym x ∙ d)
+            go j k h o (inr n) = mark-set-yes hs (set ms i 0) s t k h (off-there j n ∙ o)
 
 -- where no marked hop fails to close, the marks are those of the marked set
-pub rested-marks : (hs : List ℕ) → Ascending hs → {ms : List ℕ} → Marking hs (marked hs) ms → StandsTo hs (count hs) ms → (out : List ℕ) →
+pub rested-marks : (hs : List ℕ) → Ascending hs → {ms : List ℕ} → Marking hs (marked hs) ms → ClosesUpTo hs (count hs) ms → (out : List ℕ) →
     drop (count hs) ms ≡ drop (count hs) out → ms ≡ onFront (marksOf hs (marked hs)) out
-unfolding Stands
-rested-marks hs up m rest = settled-marks (closes hs) (marked-same hs) up m rest
+unfolding ClosesIfMarked
+rested-marks hs up m rest = fixpoint-marks (closes hs) (marked-same hs) up m rest

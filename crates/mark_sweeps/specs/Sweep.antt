@@ -10,7 +10,7 @@ use Rattle.base_bounded.specs.Quantifiers.{tally}
 use Rattle.graph.specs.Hops.{count, label}
 use Rattle.base_fixpoint.specs.Pairs.{Pairs}
 use Rattle.mark_confluence.specs.Rounds.{closesAt}
-use Rattle.mark_confluence.specs.Held.{isMarked, heldBy}
+use Rattle.mark_confluence.specs.MarkSet.{isMarked, markSet}
 
 -- how many hops are marked
 unfoldable pub markCount : List ℕ → List ℕ → ℕ
@@ -21,7 +21,7 @@ pub record Marking (hs : List ℕ) (m : Pairs) (ms : List ℕ) : Type 0 where
   pub capacity : count hs ≤ length ms
   pub bits : (i : ℕ) → i < count hs → (getD ms i 0 ≡ 0) ⊎ (getD ms i 0 ≡ 1)
   pub silent : (i : ℕ) → i < count hs → isMarked ms i ≡ true → label hs i ≡ 0
-  pub holds : (s t : ℕ) → m s t ≡ true → heldBy hs ms s t ≡ true
+  pub holds : (s t : ℕ) → m s t ≡ true → markSet hs ms s t ≡ true
 
 -- what tests leave of marks: r marks went, none of them of the set m, and if none went then something is known of the marks
 pub record Swept (hs : List ℕ) (m : Pairs) (Known : List ℕ → Type 0) (ms new : List ℕ) (r : ℕ) : Type 0 where
@@ -31,9 +31,9 @@ pub record Swept (hs : List ℕ) (m : Pairs) (Known : List ℕ → Type 0) (ms n
   pub same : r ≡ 0 → (new ≡ ms) × Known ms
 
 -- the hop at place i, if it is marked, closes with the set that the marks are
-unfoldable pub Stands : List ℕ → ℕ → List ℕ → Type 0
-Stands hs i ms = isMarked ms i ≡ true → closesAt hs (heldBy hs ms) i ≡ true
+unfoldable pub ClosesIfMarked : List ℕ → ℕ → List ℕ → Type 0
+ClosesIfMarked hs i ms = isMarked ms i ≡ true → closesAt hs (markSet hs ms) i ≡ true
 
 -- and so does each before place n
-abbrev pub StandsTo : List ℕ → ℕ → List ℕ → Type 0
-StandsTo hs n ms = (i : ℕ) → i < n → Stands hs i ms
+abbrev pub ClosesUpTo : List ℕ → ℕ → List ℕ → Type 0
+ClosesUpTo hs n ms = (i : ℕ) → i < n → ClosesIfMarked hs i ms

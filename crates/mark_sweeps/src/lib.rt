@@ -2,7 +2,7 @@
 // (tau) hop that fails the condition loses its mark at once, until a sweep takes none.
 // Marks start at 1 for every silent hop; a sweep visits the places in list order. The marks contain
 // the marked set throughout, and at the fixpoint they are a confluent set. The entries mark sense 1
-// with `mark_worklist_loop`, which leaves the same marks (`mark_entry_fast: joined`); this is the
+// with `mark_worklist_loop`, which leaves the same marks (`mark_entry_fast: sweeps-same-marks`); this is the
 // plain algorithm, with a proof that needs no rounds. That removing marks ends with the greatest
 // set is proved here for any condition (proofs/Settling); `mark_batch_sweeps` rests on it too.
 // Uses `mark_confluence` for the marked set and its theorems, `mark_diamond` for the test of a hop.
@@ -17,8 +17,8 @@ ghost use lib.ListN.{length};
 ghost use Rattle.base_outputs.specs.Output.{onFront};
 ghost use Rattle.graph.specs.Hops.{count};
 ghost use Rattle.mark_confluence.specs.Rounds.{marked};
-ghost use Rattle.mark_confluence.specs.Held.{marksOf};
-ghost use Rattle.mark_sweeps.specs.Sweep.{Marking, Swept, Stands, StandsTo};
+ghost use Rattle.mark_confluence.specs.MarkSet.{marksOf};
+ghost use Rattle.mark_sweeps.specs.Sweep.{Marking, Swept, ClosesIfMarked, ClosesUpTo};
 ghost use Rattle.graph_successors.specs.SuccessorIndex.{SuccessorIndex, Indexable};
 
 // Takes the mark of the hop at place i if it does not close; returns how many marks went.
@@ -27,7 +27,8 @@ fn test_at(hops: &[u16], starts: &[u16; STARTS], marks: &mut [u8], i: usize) -> 
     requires table { ⌜ SuccessorIndex (now hops) (now starts) ⌝ }
     requires marking { ⌜ Marking (now hops) (marked (now hops)) (now marks) ⌝ }
     requires place { ⌜ i < count (now hops) ⌝ }
-    ensures { λ r. ⌜ Swept (now (hops .entry)) (marked (now (hops .entry))) (Stands (now (hops .entry)) i) (now (marks .entry)) (now (marks .exit)) r ⌝ }
+    ensures { λ r. ⌜ Swept (now (hops .entry)) (marked (now (hops .entry))) (ClosesIfMarked (now (hops .entry)) i)
+        (now (marks .entry)) (now (marks .exit)) r ⌝ }
 {
     if marks[i] == 0 {
         return 0;
@@ -44,7 +45,7 @@ fn sweep(hops: &[u16], starts: &[u16; STARTS], marks: &mut [u8]) -> usize
     requires ready { ⌜ Indexable (now hops) ⌝ }
     requires table { ⌜ SuccessorIndex (now hops) (now starts) ⌝ }
     requires marking { ⌜ Marking (now hops) (marked (now hops)) (now marks) ⌝ }
-    ensures { λ r. ⌜ Swept (now (hops .entry)) (marked (now (hops .entry))) (StandsTo (now (hops .entry)) (count (now (hops .entry))))
+    ensures { λ r. ⌜ Swept (now (hops .entry)) (marked (now (hops .entry))) (ClosesUpTo (now (hops .entry)) (count (now (hops .entry))))
         (now (marks .entry)) (now (marks .exit)) r ⌝ }
 {
     let n = hop_count(hops);
@@ -58,7 +59,7 @@ fn sweep(hops: &[u16], starts: &[u16; STARTS], marks: &mut [u8]) -> usize
 }
 
 // Sweeps until one takes nothing.
-fn settle(hops: &[u16], starts: &[u16; STARTS], marks: &mut [u8])
+fn sweep_to_fixpoint(hops: &[u16], starts: &[u16; STARTS], marks: &mut [u8])
     requires ready { ⌜ Indexable (now hops) ⌝ }
     requires table { ⌜ SuccessorIndex (now hops) (now starts) ⌝ }
     requires marking { ⌜ Marking (now hops) (marked (now hops)) (now marks) ⌝ }
@@ -78,5 +79,5 @@ pub fn mark_all(hops: &[u16], marks: &mut [u8])
 {
     let starts = starts_of(hops);
     start_marks(hops, marks);
-    settle(hops, &starts, marks);
+    sweep_to_fixpoint(hops, &starts, marks);
 }

@@ -1,1 +1,1 @@
-pub mod Due  -- the hops that a round tests, and the number of tests
+pub mod Tests  -- the hops that a round tests, and the number of tests

@@ -20,36 +20,36 @@ use Rattle.graph.specs.Answers.{most-hops}
 use Rattle.graph.proofs.Places.{has-at}
 use Rattle.base_fixpoint.specs.Pairs.{In}
 use Rattle.mark_confluence.specs.Rounds.{answered, closes, survives, marked}
-use Rattle.mark_confluence.specs.Held.{isMarked, markOf, marksOf, everyPair}
+use Rattle.mark_confluence.specs.MarkSet.{isMarked, markOf, marksOf, everyPair}
 use Rattle.mark_confluence.proofs.Rounds.{survives-none}
 use Rattle.mark_confluence.proofs.Closing.{Answered, answers-yes, closes-says}
-use Rattle.mark_diamond_retest.specs.Again.{Unshed}
+use Rattle.mark_diamond_retest.specs.Retest.{CleanAnswered}
 use Rattle.mark_confluence.proofs.Marks.{mark-one, mark-visible, marks-at, marks-capacity, marks-beyond, marks-made}
-use Rattle.mark_worklist.specs.Due.{fell, standing, shaken, due, testsIn, testsUpTo, testsOf}
-use Rattle.mark_worklist.proofs.Due.{survives-closes, due-standing, fell-yes, fell-place, standing-yes, standing-silent, standing-survives, standing-falls, shaken-yes, shaken-says, not-due-stands, Idle, none-idle, idle-marked, due-early, tests-end}
-use Rattle.mark_worklist_push.specs.Queue.{Among, Leaving, Queue, Noted, ClosedByAny, Listed, Unset}
-use Rattle.mark_worklist_push.proofs.Queueing.{flag-no, queue-none}
-use Rattle.mark_worklist_round.specs.Testing.{Lists, Spared, Shed, Tested, Taken, Falls}
-use Rattle.mark_worklist_loop.specs.Falling.{After}
-use Rattle.mark_worklist_round.proofs.Parts.{held-survives, mark-test, falls-all, marks-next, taken-none}
+use Rattle.mark_worklist.specs.Tests.{fell, stillMarked, affected, testedIn, testsIn, testsUpTo, testsOf}
+use Rattle.mark_worklist.proofs.Tests.{survives-closes, tested-still-marked, fell-yes, fell-place, still-marked-yes, still-marked-silent, still-marked-survives, still-marked-falls, affected-yes, affected-says, untested-survives, Stable, none-stable, stable-marked, tested-early, tests-end}
+use Rattle.mark_worklist_push.specs.Queue.{Among, Leaving, Queue, Pushed, ClosedByAny, PlacesBelow, Unset}
+use Rattle.mark_worklist_push.proofs.Pushing.{flag-no, queue-none}
+use Rattle.mark_worklist_round.specs.Round.{Enumerates, SkipsClean, DirtyStates, Tested, Unmarked, FallenIn}
+use Rattle.mark_worklist_loop.specs.BetweenRounds.{After}
+use Rattle.mark_worklist_round.proofs.Parts.{held-survives, mark-test, falls-all, marks-next, unmarked-none}
 
 module _ (hs : List ℕ) where
   -- what fell is the set of the hops whose places are listed
-  module _ (k : ℕ) {fl : List ℕ} {n : ℕ} (f : Falls hs k fl n) where
+  module _ (k : ℕ) {fl : List ℕ} {n : ℕ} (f : FallenIn hs k fl n) where
     fell-listed : (p : ℕ) → Among fl n p → fell hs k (from hs p) (to hs p) ≡ true
     fell-listed p (q, m, e) =
         let (l, a, b) = f .each q m in
-        let on : standing hs k p ≡ true = rw e at a in
-        let off : standing hs (suc k) p ≡ false = rw e at b in
-        fell-yes hs k (from hs p) (to hs p) (standing-survives hs k p on)
-        (no-test (survives hs (suc k) (from hs p) (to hs p)) (λ h. clash (standing-yes hs (suc k) p (standing-silent hs k p on) h) off))
+        let on : stillMarked hs k p ≡ true = rw e at a in
+        let off : stillMarked hs (suc k) p ≡ false = rw e at b in
+        fell-yes hs k (from hs p) (to hs p) (still-marked-survives hs k p on)
+        (no-test (survives hs (suc k) (from hs p) (to hs p)) (λ h. clash (still-marked-yes hs (suc k) p (still-marked-silent hs k p on) h) off))
 
-    closed-shaken : (i : ℕ) → ClosedByAny hs fl n i → shaken hs (fell hs k) (from hs i) (to hs i) ≡ true
-    closed-shaken i (p, m, (a, h, x)) = shaken-yes hs (fell hs k) (from hs i) (to hs i) (a, from hs p, h, (to hs p, x, fell-listed p m))
+    closed-shaken : (i : ℕ) → ClosedByAny hs fl n i → affected hs (fell hs k) (from hs i) (to hs i) ≡ true
+    closed-shaken i (p, m, (a, h, x)) = affected-yes hs (fell hs k) (from hs i) (to hs i) (a, from hs p, h, (to hs p, x, fell-listed p m))
 
-    shaken-closed : (i : ℕ) → shaken hs (fell hs k) (from hs i) (to hs i) ≡ true → ClosedByAny hs fl n i
+    shaken-closed : (i : ℕ) → affected hs (fell hs k) (from hs i) (to hs i) ≡ true → ClosedByAny hs fl n i
     shaken-closed i e =
-        let (a, s3, h, (s4, x, d)) = shaken-says hs (fell hs k) (from hs i) (to hs i) e in
+        let (a, s3, h, (s4, x, d)) = affected-says hs (fell hs k) (from hs i) (to hs i) e in
         let p = fell-place hs k s3 s4 d in
         (p .at, f .all (p .at) (p .within) (p .stood) (p .falls), (a, rw (p .from-is) h, rw (p .to-is) x))
 
@@ -63,12 +63,12 @@ module _ (hs : List ℕ) where
     pub falls-early : 0 < n → k < count hs
     falls-early l =
         let (w, a, b) = f .each 0 l in
-        due-early hs k (getD fl 0 0) w (⊎-elim (λ d. d) (λ d. clash (not-due-stands hs k (getD fl 0 0) a d) b) (decided (due hs k (getD fl 0 0))))
+        tested-early hs k (getD fl 0 0) w (⊎-elim (λ d. d) (λ d. clash (untested-survives hs k (getD fl 0 0) a d) b) (decided (testedIn hs k (getD fl 0 0))))
 
   -- "The tests fit": at most 4,096 a round
   pub tests-most : (k : ℕ) → count hs ≤ most-hops → testsUpTo hs k ≤ k * most-hops
   unfolding testsUpTo testsIn
-  tests-most k l = total-most (testsIn hs) most-hops k (λ j m. omega (arith, tally-within (due hs j) (count hs)))
+  tests-most k l = total-most (testsIn hs) most-hops k (λ j m. omega (arith, tally-within (testedIn hs j) (count hs)))
 
   tests-next : (k : ℕ) {t r : ℕ} → t ≡ testsUpTo hs k → r ≡ testsIn hs k → t + r ≡ testsUpTo hs (suc k)
   unfolding testsUpTo
@@ -76,48 +76,48 @@ module _ (hs : List ℕ) where
 
   module _ {k : ℕ} {ms out fl : List ℕ} {n t : ℕ} (a : After hs k ms out fl n t) where
     -- what is noted is what is due
-    module _ {f0 q0 fs qs : List ℕ} {r : ℕ} (q : Queue hs f0 q0 0) (g : Noted hs ms (ClosedByAny hs fl n) f0 fs qs r) where
-      flag-due : (i : ℕ) → i < count hs → isMarked fs i ≡ due hs (suc k) i
-      unfolding due
-      flag-due i l = same-test (isMarked fs i) (standing hs (suc k) i && shaken hs (fell hs k) (from hs i) (to hs i)) on back where
+    module _ {f0 q0 fs qs : List ℕ} {r : ℕ} (q : Queue hs f0 q0 0) (g : Pushed hs ms (ClosedByAny hs fl n) f0 fs qs r) where
+      flag-due : (i : ℕ) → i < count hs → isMarked fs i ≡ testedIn hs (suc k) i
+      unfolding testedIn
+      flag-due i l = same-test (isMarked fs i) (stillMarked hs (suc k) i && affected hs (fell hs k) (from hs i) (to hs i)) on back where
         empty : isMarked f0 i ≡ true → ⊥
         empty e = let (j, m, x) = q .all i l e in not-suc-le-zero m
 
-        on : isMarked fs i ≡ true → (standing hs (suc k) i && shaken hs (fell hs k) (from hs i) (to hs i)) ≡ true
+        on : isMarked fs i ≡ true → (stillMarked hs (suc k) i && affected hs (fell hs k) (from hs i) (to hs i)) ≡ true
         on e =
             ⊎-elim (λ h. absurd (empty h))
             (λ w. and-yes (sym (mark-test hs (suc k) ms out (a .marks) l) ∙ w .marked) (closed-shaken k (a .falls) i (w .inside))) (g .came i l e)
 
-        back : (standing hs (suc k) i && shaken hs (fell hs k) (from hs i) (to hs i)) ≡ true → isMarked fs i ≡ true
+        back : (stillMarked hs (suc k) i && affected hs (fell hs k) (from hs i) (to hs i)) ≡ true → isMarked fs i ≡ true
         back e =
-            let s : standing hs (suc k) i ≡ true = and-left (standing hs (suc k) i) (shaken hs (fell hs k) (from hs i) (to hs i)) e in
+            let s : stillMarked hs (suc k) i ≡ true = and-left (stillMarked hs (suc k) i) (affected hs (fell hs k) (from hs i) (to hs i)) e in
             g .all i l (record {
-              silent = standing-silent hs (suc k) i s;
+              silent = still-marked-silent hs (suc k) i s;
               marked = mark-test hs (suc k) ms out (a .marks) l ∙ s;
-              inside = shaken-closed k (a .falls) i (and-right (standing hs (suc k) i) (shaken hs (fell hs k) (from hs i) (to hs i)) e);
+              inside = shaken-closed k (a .falls) i (and-right (stillMarked hs (suc k) i) (affected hs (fell hs k) (from hs i) (to hs i)) e);
             })
 
-      pub noted-lists : Lists (count hs) (due hs (suc k)) qs r
-      noted-lists = record {
-        counted = g .queue .counted ∙ tally-same (isMarked fs) (due hs (suc k)) (count hs) flag-due;
+      pub pushed-lists : Enumerates (count hs) (testedIn hs (suc k)) qs r
+      pushed-lists = record {
+        counted = g .queue .counted ∙ tally-same (isMarked fs) (testedIn hs (suc k)) (count hs) flag-due;
         each = λ j m. let (l, e) = g .queue .each j m in (l, sym (flag-due (getD qs j 0) l) ∙ e);
         all = λ i l e. g .queue .all i l (flag-due i l ∙ e);
       }
 
-      pub noted-most : r ≤ count hs
-      noted-most = omega (arith, g .queue .counted, tally-within (isMarked fs) (count hs))
+      pub pushed-most : r ≤ count hs
+      pushed-most = omega (arith, g .queue .counted, tally-within (isMarked fs) (count hs))
 
       -- what leads to a state that nothing fell from is answered as it was in the round before
-      pub noted-spared : (sh : List ℕ) → Shed hs fl n sh → Spared hs ms sh false qs r
-      unfolding Spared Shed Unshed answered
-      noted-spared sh f b m l j v e o = rw (held-survives hs (suc k) ms out (a .marks)) (answers-yes hs (survives hs (suc k)) (to hs i) (label hs j) (to hs j) (still (closes-says hs (survives hs k) (from hs i) (to hs i) closed (label hs j) (to hs j) (rw e at (has-at hs v))))) where
+      pub pushed-spared : (sh : List ℕ) → DirtyStates hs fl n sh → SkipsClean hs ms sh false qs r
+      unfolding SkipsClean DirtyStates CleanAnswered answered
+      pushed-spared sh f b m l j v e o = rw (held-survives hs (suc k) ms out (a .marks)) (answers-yes hs (survives hs (suc k)) (to hs i) (label hs j) (to hs j) (still (closes-says hs (survives hs k) (from hs i) (to hs i) closed (label hs j) (to hs j) (rw e at (has-at hs v))))) where
         i : ℕ
         i = getD qs m 0
 
         closed : closes hs (survives hs k) (from hs i) (to hs i) ≡ true
         closed =
             survives-closes hs k (from hs i) (to hs i)
-            (standing-survives hs (suc k) i (due-standing hs (suc k) i (noted-lists .each m l .0) (noted-lists .each m l .1)))
+            (still-marked-survives hs (suc k) i (tested-still-marked hs (suc k) i (pushed-lists .each m l .0) (pushed-lists .each m l .1)))
 
         still : Answered hs (In (survives hs k)) (to hs i) (label hs j) (to hs j) → Answered hs (In (survives hs (suc k))) (to hs i) (label hs j) (to hs j)
         still (s4, x, inl y) = (s4, x, inl y)
@@ -137,10 +137,10 @@ module _ (hs : List ℕ) where
           unset : Unset hs new
           unset i l = no-test (isMarked new i) (λ e. clash e (d .taken i (g .queue .all i l (d .kept i e))))
 
-        pub next-falls : Falls hs (suc k) fl' n'
-        next-falls = falls-all hs (suc k) ms out (a .marks) qs r noted-lists d
+        pub next-falls : FallenIn hs (suc k) fl' n'
+        next-falls = falls-all hs (suc k) ms out (a .marks) qs r pushed-lists d
 
-        module _ {ms' : List ℕ} (capacity : count hs ≤ length ms') (w : Taken ms fl' n' ms') where
+        module _ {ms' : List ℕ} (capacity : count hs ≤ length ms') (w : Unmarked ms fl' n' ms') where
           pub after-next : n' ≤ most-hops → After hs (suc k) ms' out fl' n' (t + r)
           unfolding testsIn
           after-next l = record {
@@ -148,13 +148,13 @@ module _ (hs : List ℕ) where
             falls = next-falls;
             most = l;
             capacity = d .capacity;
-            tests = tests-next (suc k) (a .tests) (noted-lists .counted);
+            tests = tests-next (suc k) (a .tests) (pushed-lists .counted);
           }
 
           fewer : (i : ℕ) → i < count hs → isMarked ms' i ≡ true → isMarked ms i ≡ true
           fewer i l e =
               mark-test hs (suc k) ms out (a .marks) l ∙
-              standing-falls hs (suc k) i (sym (mark-test hs (suc (suc k)) ms' out (marks-next hs (suc k) ms out (a .marks) capacity next-falls w) l) ∙ e)
+              still-marked-falls hs (suc k) i (sym (mark-test hs (suc (suc k)) ms' out (marks-next hs (suc k) ms out (a .marks) capacity next-falls w) l) ∙ e)
 
           pub leaving-next : (ls : List ℕ) → Leaving hs ms ls → Leaving hs ms' ls
           unfolding Leaving
@@ -176,14 +176,14 @@ module _ (hs : List ℕ) where
 
     -- the end
     module _ (z : n ≡ 0) where
-      idle : Idle hs (suc k)
-      idle = none-idle hs k (none-fell k (a .falls) z)
+      idle : Stable hs (suc k)
+      idle = none-stable hs k (none-fell k (a .falls) z)
 
       pub after-tests : t ≡ testsOf hs
       after-tests = a .tests ∙ tests-end hs (suc k) idle
 
       all-survive : survives hs (suc k) ≡ marked hs
-      all-survive = λ j s t. idle-marked hs (suc k) idle s t j
+      all-survive = λ j s t. stable-marked hs (suc k) idle s t j
 
       pub after-marks : ms ≡ onFront (marksOf hs (marked hs)) out
       after-marks = rw all-survive at (a .marks)
@@ -210,8 +210,8 @@ module _ (hs : List ℕ) where
                 mark-one hs everyPair i q refl ∙ sym (mark-one hs (survives hs 0) i q (survives-none hs (from hs i) (to hs i) ∙ (rw q at (has-at hs l))))
             go (inr q) = mark-visible hs everyPair i q ∙ sym (mark-visible hs (survives hs 0) i q)
 
-    pub after-first : {qs old new fl ms' : List ℕ} {n r : ℕ} → Lists (count hs) (due hs 0) qs n → Tested hs ms qs n old new fl r → r ≤ most-hops →
-        Taken ms fl r ms' → count hs ≤ length ms' → After hs 0 ms' out fl r n
+    pub after-first : {qs old new fl ms' : List ℕ} {n r : ℕ} → Enumerates (count hs) (testedIn hs 0) qs n → Tested hs ms qs n old new fl r → r ≤ most-hops →
+        Unmarked ms fl r ms' → count hs ≤ length ms' → After hs 0 ms' out fl r n
     unfolding testsUpTo testsIn total
     after-first {qs} {n = n} d x l w m = record {
       marks = marks-next hs 0 ms out first-marks m (falls-all hs 0 ms out first-marks qs n d x) w;
@@ -222,12 +222,12 @@ module _ (hs : List ℕ) where
     }
 
     -- in which nothing fell
-    pub after-still : {qs old new fl : List ℕ} {n r : ℕ} → Lists (count hs) (due hs 0) qs n → Tested hs ms qs n old new fl r → r ≡ 0 → After hs 0 ms out fl r n
+    pub after-still : {qs old new fl : List ℕ} {n r : ℕ} → Enumerates (count hs) (testedIn hs 0) qs n → Tested hs ms qs n old new fl r → r ≡ 0 → After hs 0 ms out fl r n
     after-still {fl = fl} d x z =
-        after-first d x (omega arith) (rw z (taken-none ms fl)) (rw (marks-capacity hs everyPair ms out e capacity) capacity)
+        after-first d x (omega arith) (rw z (unmarked-none ms fl)) (rw (marks-capacity hs everyPair ms out e capacity) capacity)
 
-  pub lists-listed : {p : ℕ → Bool} {qs : List ℕ} {n : ℕ} → Lists (count hs) p qs n → Listed hs qs n
-  unfolding Listed
+  pub lists-listed : {p : ℕ → Bool} {qs : List ℕ} {n : ℕ} → Enumerates (count hs) p qs n → PlacesBelow hs qs n
+  unfolding PlacesBelow
   lists-listed d j m = d .each j m .0
 
   pub first-queue : {ms qs old new fl : List ℕ} {n r : ℕ} → Tested hs ms qs n old new fl r → count hs ≤ length qs → Unset hs old → Queue hs new qs 0
@@ -235,11 +235,11 @@ module _ (hs : List ℕ) where
   first-queue {ms} {new = new} x l u = queue-none hs ms (x .flags) l (λ i m. no-test (isMarked new i) (λ h. clash (x .kept i h) (u i m)))
 
   -- what is listed as fallen was listed to be tested
-  pub tested-inside : {p : ℕ → Bool} {ms qs old new fl : List ℕ} {n r : ℕ} → Lists (count hs) p qs n → Tested hs ms qs n old new fl r →
+  pub tested-inside : {p : ℕ → Bool} {ms qs old new fl : List ℕ} {n r : ℕ} → Enumerates (count hs) p qs n → Tested hs ms qs n old new fl r →
       (q : ℕ) → q < r → getD fl q 0 < count hs
   tested-inside d x q l = let ((j, m, e), y) = x .each q l in rw e at (d .each j m .0)
 
-  pub lists-most : {p : ℕ → Bool} {qs : List ℕ} {n : ℕ} → Lists (count hs) p qs n → n ≤ count hs
+  pub lists-most : {p : ℕ → Bool} {qs : List ℕ} {n : ℕ} → Enumerates (count hs) p qs n → n ≤ count hs
   lists-most {p} d = omega (arith, d .counted, tally-within p (count hs))
 
   -- flags that are all 0

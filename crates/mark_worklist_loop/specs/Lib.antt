@@ -1,1 +1,1 @@
-pub mod Falling  -- what holds between two rounds
+pub mod BetweenRounds  -- what holds between two rounds

@@ -14,22 +14,22 @@ use graph_predecessors::predecessor_starts;
 use graph_successors::STARTS;
 use mark_confluence::start_marks;
 use mark_worklist_next::leaving_of;
-use mark_worklist_next::next_due;
+use mark_worklist_next::next_queue;
+use mark_worklist_round::dirty_of;
 use mark_worklist_round::list_silent;
-use mark_worklist_round::shed_of;
-use mark_worklist_round::take_fallen;
-use mark_worklist_round::test_due;
+use mark_worklist_round::test_queue;
+use mark_worklist_round::unmark_fallen;
 ghost use mathlib.Core.Path.{_≡_};
 ghost use Prim.Native.Nat.{_≤_};
 ghost use lib.ListN.{length};
 ghost use Rattle.base_outputs.specs.Output.{onFront};
 ghost use Rattle.graph.specs.Hops.{count};
 ghost use Rattle.mark_confluence.specs.Rounds.{marked};
-ghost use Rattle.mark_confluence.specs.Held.{marksOf};
+ghost use Rattle.mark_confluence.specs.MarkSet.{marksOf};
 ghost use Rattle.graph_successors.specs.SuccessorIndex.{SuccessorIndex, Indexable};
-ghost use Rattle.mark_worklist.specs.Due.{testsOf};
+ghost use Rattle.mark_worklist.specs.Tests.{testsOf};
 ghost use Rattle.mark_worklist_push.specs.Queue.{Queue};
-ghost use Rattle.mark_worklist_loop.specs.Falling.{AfterSome};
+ghost use Rattle.mark_worklist_loop.specs.BetweenRounds.{AfterSome};
 
 // The rounds after the first, in which `lost` hops fell; returns the number of all tests. The table of the hops into a state is made here, since most
 // graphs need none: nothing falls in the first round.
@@ -57,7 +57,7 @@ fn later_rounds(
     let mut left = lost;
     let mut sum = tests;
     while left > 0 {
-        let n = next_due(
+        let n = next_queue(
             hops,
             starts,
             &begins,
@@ -70,9 +70,9 @@ fn later_rounds(
             queue,
         );
         sum += n;
-        let shed = shed_of(hops, fallen, left);
-        left = test_due(hops, starts, marks, &shed, false, queue, n, flags, fallen);
-        take_fallen(marks, fallen, left);
+        let dirty = dirty_of(hops, fallen, left);
+        left = test_queue(hops, starts, marks, &dirty, false, queue, n, flags, fallen);
+        unmark_fallen(marks, fallen, left);
     }
     sum
 }
@@ -92,7 +92,7 @@ pub fn mark_rounds(hops: &[u16], starts: &[u16; STARTS], marks: &mut [u8]) -> us
     let n = list_silent(hops, &mut queue);
     // the first round leaves nothing out, and does not look at this
     let unasked = [0u8; MOST_STATES];
-    let lost = test_due(
+    let lost = test_queue(
         hops,
         starts,
         marks,
@@ -106,7 +106,7 @@ pub fn mark_rounds(hops: &[u16], starts: &[u16; STARTS], marks: &mut [u8]) -> us
     if lost == 0 {
         return n;
     }
-    take_fallen(marks, &fallen, lost);
+    unmark_fallen(marks, &fallen, lost);
     later_rounds(
         hops,
         starts,

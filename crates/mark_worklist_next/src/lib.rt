@@ -15,14 +15,14 @@ use graph_predecessors::place_at;
 use graph_successors::STARTS;
 use graph_successors::start_of;
 use graph_successors::wide;
-use mark_worklist_push::note_into;
-use mark_worklist_push::note_out;
+use mark_worklist_push::push_into;
+use mark_worklist_push::push_out;
 ghost use Prim.Native.Nat.{_<_, _≤_};
 ghost use lib.ListN.{length};
 ghost use Rattle.graph.specs.Hops.{count};
 ghost use Rattle.graph.specs.Answers.{most-hops};
 ghost use Rattle.graph_successors.specs.SuccessorIndex.{Indexable};
-ghost use Rattle.mark_worklist_push.specs.Queue.{Tables, Leaving, Queue, Noted, Trying, ClosedBy, ClosedByAny, Listed};
+ghost use Rattle.mark_worklist_push.specs.Queue.{Tables, Leaving, Queue, Pushed, Trying, ClosedBy, ClosedByAny, PlacesBelow};
 
 // A state with so few hops more than lead to s4 is gone over by its own: that asks for no search where none of them is marked.
 const FEW: usize = 16;
@@ -47,7 +47,7 @@ pub fn leaving_of(hops: &[u16], marks: &[u8]) -> [u8; MOST_STATES]
 }
 
 // Queues the silent hops that have the hop to try at place j and the end of the hop at place p for an s4, by the way that costs less.
-fn note_hop(
+fn push_hop(
     hops: &[u16],
     starts: &[u16; STARTS],
     begins: &[u16; STARTS],
@@ -66,7 +66,7 @@ fn note_hop(
     requires queue { ⌜ Queue (now hops) (now flags) (now queue) n ⌝ }
     requires tried { ⌜ j < count (now hops) ⌝ }
     requires fallen { ⌜ p < count (now hops) ⌝ }
-    ensures { λ r. ⌜ Noted (now (hops .entry)) (now (marks .entry)) (Trying (now (hops .entry)) j p)
+    ensures { λ r. ⌜ Pushed (now (hops .entry)) (now (marks .entry)) (Trying (now (hops .entry)) j p)
         (now (flags .entry)) (now (flags .exit)) (now (queue .exit)) r ⌝ }
 {
     let s1 = wide(from_at(hops, j).0);
@@ -77,13 +77,13 @@ fn note_hop(
     if start_of(starts, s1 + 1) + start_of(begins, s4)
         <= start_of(begins, s4 + 1) + start_of(starts, s1) + FEW
     {
-        return note_out(hops, starts, marks, flags, queue, n, j, p);
+        return push_out(hops, starts, marks, flags, queue, n, j, p);
     }
-    note_into(hops, starts, begins, places, marks, flags, queue, n, j, p)
+    push_into(hops, starts, begins, places, marks, flags, queue, n, j, p)
 }
 
 // Queues the marked hops of which the hop at place p, s3 to s4, is a closing hop: each hop into s3 is one to try.
-fn note_fallen(
+fn push_fallen(
     hops: &[u16],
     starts: &[u16; STARTS],
     begins: &[u16; STARTS],
@@ -100,7 +100,7 @@ fn note_fallen(
     requires capacity { ⌜ count (now hops) ≤ length (now marks) ⌝ }
     requires queue { ⌜ Queue (now hops) (now flags) (now queue) n ⌝ }
     requires fallen { ⌜ p < count (now hops) ⌝ }
-    ensures { λ r. ⌜ Noted (now (hops .entry)) (now (marks .entry)) (ClosedBy (now (hops .entry)) p)
+    ensures { λ r. ⌜ Pushed (now (hops .entry)) (now (marks .entry)) (ClosedBy (now (hops .entry)) p)
         (now (flags .entry)) (now (flags .exit)) (now (queue .exit)) r ⌝ }
 {
     let s3 = wide(from_at(hops, p).0);
@@ -109,7 +109,7 @@ fn note_fallen(
     let mut k = start_of(begins, s3);
     while k < past {
         let j = place_at(places, k);
-        length = note_hop(
+        length = push_hop(
             hops,
             starts,
             begins,
@@ -128,7 +128,7 @@ fn note_fallen(
 }
 
 // Queues the marked hops of which one of the fallen hops is a closing hop; returns how many there are.
-pub fn next_due(
+pub fn next_queue(
     hops: &[u16],
     starts: &[u16; STARTS],
     begins: &[u16; STARTS],
@@ -145,15 +145,15 @@ pub fn next_due(
     requires capacity { ⌜ count (now hops) ≤ length (now marks) ⌝ }
     requires queue { ⌜ Queue (now hops) (now flags) (now queue) 0 ⌝ }
     requires most { ⌜ lost ≤ most-hops ⌝ }
-    requires fallen { ⌜ Listed (now hops) (now fallen) lost ⌝ }
-    ensures { λ r. ⌜ Noted (now (hops .entry)) (now (marks .entry)) (ClosedByAny (now (hops .entry)) (now (fallen .entry)) lost)
+    requires fallen { ⌜ PlacesBelow (now hops) (now fallen) lost ⌝ }
+    ensures { λ r. ⌜ Pushed (now (hops .entry)) (now (marks .entry)) (ClosedByAny (now (hops .entry)) (now (fallen .entry)) lost)
         (now (flags .entry)) (now (flags .exit)) (now (queue .exit)) r ⌝ }
 {
     let mut length = 0;
     let mut q = 0;
     while q < lost {
         let p = place_at(fallen, q);
-        length = note_fallen(
+        length = push_fallen(
             hops,
             starts,
             begins,

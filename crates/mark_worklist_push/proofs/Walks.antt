@@ -24,21 +24,21 @@ use Rattle.graph.specs.Answers.{most-states, most-hops}
 use Rattle.graph_predecessors.specs.PredecessorIndex.{predecessorStart, PredecessorStarts, PredecessorPlaces}
 use Rattle.graph_predecessors.proofs.PredecessorIndex.{place-in}
 use Rattle.mark_confluence.specs.Rounds.{FirstPoint}
-use Rattle.mark_confluence.specs.Held.{isMarked}
-use Rattle.mark_worklist_push.specs.Queue.{Tables, Leaving, Queue, Wanted, Noted, Only, Joining, Like, Answering, Trying, Asked, Point, ClosedBy, ClosedByAny}
-use Rattle.mark_worklist_push.proofs.Queueing.{flag-yes, flag-says, noted-none, noted-then, noted-same}
+use Rattle.mark_confluence.specs.MarkSet.{isMarked}
+use Rattle.mark_worklist_push.specs.Queue.{Tables, Leaving, Queue, Wanted, Pushed, OnlyPlace, Joining, Like, AnsweredTo, Trying, Asked, DecidesPoint, ClosedBy, ClosedByAny}
+use Rattle.mark_worklist_push.proofs.Pushing.{flag-yes, flag-says, pushed-none, pushed-then, pushed-same}
 
 -- what the steps from lo on and before k bring, if step y brings X y
 abbrev pub Walked : (ℕ → ℕ → Type 0) → ℕ → ℕ → ℕ → Type 0
 Walked X lo k x = (y : ℕ) × (lo ≤ y) × (y < k) × X y x
 
 module _ (hs ms : List ℕ) (X : ℕ → ℕ → Type 0) where
-  pub walk-none : {fs qs : List ℕ} {lo k n : ℕ} → k ≡ lo → Queue hs fs qs n → Noted hs ms (Walked X lo k) fs fs qs n
-  walk-none {lo = lo} {k = k} e q = noted-none hs ms q (λ i l w. absurd (nothing (w .inside))) where
+  pub walk-none : {fs qs : List ℕ} {lo k n : ℕ} → k ≡ lo → Queue hs fs qs n → Pushed hs ms (Walked X lo k) fs fs qs n
+  walk-none {lo = lo} {k = k} e q = pushed-none hs ms q (λ i l w. absurd (nothing (w .inside))) where
     nothing : {x : ℕ} → Walked X lo k x → ⊥
     nothing (y, a, b, w) = omega arith
 
-  module _ {old mid qs : List ℕ} {lo k n : ℕ} (l : lo ≤ k) (g : Noted hs ms (Walked X lo k) old mid qs n) where
+  module _ {old mid qs : List ℕ} {lo k n : ℕ} (l : lo ≤ k) (g : Pushed hs ms (Walked X lo k) old mid qs n) where
     less : (x : ℕ) → Walked X lo k x → Walked X lo (k + 1) x
     less x (y, a, b, w) = (y, a, omega arith, w)
 
@@ -46,20 +46,20 @@ module _ (hs ms : List ℕ) (X : ℕ → ℕ → Type 0) where
     more x (y, a, b, w) = ⊎-elim (λ m. inl (y, a, m, w)) (λ m. let e : y ≡ k = omega arith in inr (rw e at w)) (lt-or-le y k)
 
     -- the step at k brings its own
-    pub walk-more : {new q : List ℕ} {r : ℕ} → Noted hs ms (X k) mid new q r → Noted hs ms (Walked X lo (k + 1)) old new q r
-    walk-more h = noted-then hs ms g h less (λ x w. (k, l, omega arith, w)) (λ x w. more x (w .inside))
+    pub walk-more : {new q : List ℕ} {r : ℕ} → Pushed hs ms (X k) mid new q r → Pushed hs ms (Walked X lo (k + 1)) old new q r
+    walk-more h = pushed-then hs ms g h less (λ x w. (k, l, omega arith, w)) (λ x w. more x (w .inside))
 
     -- or nothing
-    pub walk-skip : ((x : ℕ) → Wanted hs ms (X k) x → ⊥) → Noted hs ms (Walked X lo (k + 1)) old mid qs n
+    pub walk-skip : ((x : ℕ) → Wanted hs ms (X k) x → ⊥) → Pushed hs ms (Walked X lo (k + 1)) old mid qs n
     walk-skip f =
-        noted-same hs ms g less
+        pushed-same hs ms g less
         (λ x m w. ⊎-elim (λ a. a) (λ a. absurd (f x (record { silent = w .silent; marked = w .marked; inside = a }))) (more x (w .inside)))
 
 module _ (hs ms : List ℕ) where
   -- the silent hop from s1 to s2, as the search finds it
   module _ (up : Ascending hs) (s1 s2 : ℕ) {h : Hop} {f : Found} (q : h ≡ hopOf s1 0 s2) (e : f ≡ placed hs h) where
-    pub pair-gap : {fs qs : List ℕ} {n p : ℕ} → f ≡ Gap p → Queue hs fs qs n → Noted hs ms (Joining hs s1 s2) fs fs qs n
-    pair-gap {fs} {p = p} d c = noted-none hs ms c none where
+    pub pair-gap : {fs qs : List ℕ} {n p : ℕ} → f ≡ Gap p → Queue hs fs qs n → Pushed hs ms (Joining hs s1 s2) fs fs qs n
+    pair-gap {fs} {p = p} d c = pushed-none hs ms c none where
       gap : placed hs (hopOf s1 0 s2) ≡ Gap p
       gap = rw q at (sym e ∙ d)
 
@@ -76,20 +76,20 @@ module _ (hs ms : List ℕ) where
       pub pair-silent : label hs i ≡ 0
       pair-silent = is-label hs s1 0 s2 i (there .1)
 
-      pub pair-at : {fs new qs : List ℕ} {r : ℕ} → Noted hs ms (Only i) fs new qs r → Noted hs ms (Joining hs s1 s2) fs new qs r
+      pub pair-at : {fs new qs : List ℕ} {r : ℕ} → Pushed hs ms (OnlyPlace i) fs new qs r → Pushed hs ms (Joining hs s1 s2) fs new qs r
       pair-at g =
-          noted-same hs ms g (λ x w. rw w (is-from hs s1 0 s2 i (there .1), is-to hs s1 0 s2 i (there .1)))
+          pushed-same hs ms g (λ x w. rw w (is-from hs s1 0 s2 i (there .1), is-to hs s1 0 s2 i (there .1)))
           (λ x l w. one-place hs up s1 0 s2 l (there .0) (is-yes hs s1 0 s2 x (w .inside .0) (w .silent) (w .inside .1)) (there .1))
 
   -- with one label, or without
   module _ (j m : ℕ) {a b : ℕ} (e : a ≡ label hs m) (f : b ≡ label hs j) where
-    pub like-yes : {s t : ℕ} {fs new qs : List ℕ} {r : ℕ} → a ≡ b → s ≡ from hs j → t ≡ from hs m → Noted hs ms (Joining hs s t) fs new qs r → Noted hs ms (Like hs j m) fs new qs r
-    like-yes d p q g = noted-same hs ms g (λ x (u, v). (sym e ∙ (d ∙ f), (u ∙ p, v ∙ q))) (λ x l w. (w .inside .1 .0 ∙ sym p, w .inside .1 .1 ∙ sym q))
+    pub like-yes : {s t : ℕ} {fs new qs : List ℕ} {r : ℕ} → a ≡ b → s ≡ from hs j → t ≡ from hs m → Pushed hs ms (Joining hs s t) fs new qs r → Pushed hs ms (Like hs j m) fs new qs r
+    like-yes d p q g = pushed-same hs ms g (λ x (u, v). (sym e ∙ (d ∙ f), (u ∙ p, v ∙ q))) (λ x l w. (w .inside .1 .0 ∙ sym p, w .inside .1 .1 ∙ sym q))
 
-    pub like-no : (a ≡ b → ⊥) → {fs qs : List ℕ} {n : ℕ} → Queue hs fs qs n → Noted hs ms (Like hs j m) fs fs qs n
-    like-no n c = noted-none hs ms c (λ x l w. absurd (n (e ∙ (w .inside .0 ∙ sym f))))
+    pub like-no : (a ≡ b → ⊥) → {fs qs : List ℕ} {n : ℕ} → Queue hs fs qs n → Pushed hs ms (Like hs j m) fs fs qs n
+    like-no n c = pushed-none hs ms c (λ x l w. absurd (n (e ∙ (w .inside .0 ∙ sym f))))
 
-  pub pair-to : {s1 s2 t1 t2 : ℕ} {fs new qs : List ℕ} {r : ℕ} → s1 ≡ t1 → s2 ≡ t2 → Noted hs ms (Joining hs s1 s2) fs new qs r → Noted hs ms (Joining hs t1 t2) fs new qs r
+  pub pair-to : {s1 s2 t1 t2 : ℕ} {fs new qs : List ℕ} {r : ℕ} → s1 ≡ t1 → s2 ≡ t2 → Pushed hs ms (Joining hs s1 s2) fs new qs r → Pushed hs ms (Joining hs t1 t2) fs new qs r
   pair-to p q g = rw (p, q) at g
 
   -- over the hops into s4, the end of the hop at place p: those of the label of the hop at place j
@@ -97,19 +97,19 @@ module _ (hs ms : List ℕ) where
     abbrev pub Into : ℕ → ℕ → Type 0
     Into y x = Like hs j (getD ps y 0) x
 
-    pub into-at : (y : ℕ) {m : ℕ} {fs new qs : List ℕ} {r : ℕ} → m ≡ getD ps y 0 → Noted hs ms (Like hs j m) fs new qs r → Noted hs ms (Into y) fs new qs r
+    pub into-at : (y : ℕ) {m : ℕ} {fs new qs : List ℕ} {r : ℕ} → m ≡ getD ps y 0 → Pushed hs ms (Like hs j m) fs new qs r → Pushed hs ms (Into y) fs new qs r
     into-at y e g = rw e at g
 
     pub into-all : PredecessorPlaces hs (count hs) ps → p < count hs → {lo hi k : ℕ} → lo ≡ predecessorStart hs (to hs p) → hi ≡ predecessorStart hs (to hs p + 1) → hi ≤ k → k ≤ hi →
-        {fs new qs : List ℕ} {r : ℕ} → Noted hs ms (Walked Into lo k) fs new qs r → Noted hs ms (Answering hs j p) fs new qs r
+        {fs new qs : List ℕ} {r : ℕ} → Pushed hs ms (Walked Into lo k) fs new qs r → Pushed hs ms (AnsweredTo hs j p) fs new qs r
     unfolding PredecessorPlaces
-    into-all fl l {lo} {hi} {k} a b u v g = noted-same hs ms g on (λ x m w. back x (w .inside)) where
-      on : (x : ℕ) → Walked Into lo k x → Answering hs j p x
+    into-all fl l {lo} {hi} {k} a b u v g = pushed-same hs ms g on (λ x m w. back x (w .inside)) where
+      on : (x : ℕ) → Walked Into lo k x → AnsweredTo hs j p x
       on x (y, c, d, (e, (f, h))) =
           let (m, z) = place-in hs ps fl (to hs p) {k = y} (omega arith) (omega arith) in
           (f, place-has hs (to hs x) (label hs j) (to hs p) (record { at = getD ps y 0; within = m; from-is = sym h; label-is = e; to-is = z }))
 
-      back : (x : ℕ) → Answering hs j p x → Walked Into lo k x
+      back : (x : ℕ) → AnsweredTo hs j p x → Walked Into lo k x
       back x (f, h) =
           let q = has-place hs (to hs x) (label hs j) (to hs p) h in
           let (c, d) = slot-in (to hs) (count hs) (q .within) in
@@ -119,37 +119,37 @@ module _ (hs ms : List ℕ) where
   -- for the hop to try at place j, with s4 itself where it is silent
   module _ (j p : ℕ) where
     pub trying-silent : {a : ℕ} (s t : ℕ) {fs mid new qs q : List ℕ} {n r : ℕ} → a ≡ label hs j → a ≡ 0 → s ≡ from hs j → t ≡ to hs p →
-        Noted hs ms (Answering hs j p) fs mid qs n → Noted hs ms (Joining hs s t) mid new q r → Noted hs ms (Trying hs j p) fs new q r
+        Pushed hs ms (AnsweredTo hs j p) fs mid qs n → Pushed hs ms (Joining hs s t) mid new q r → Pushed hs ms (Trying hs j p) fs new q r
     trying-silent s t e z f h g i =
-        noted-then hs ms g i (λ x (u, v). (u, inl v)) (λ x (u, v). (u ∙ f, inr (sym e ∙ z, sym (v ∙ h))))
+        pushed-then hs ms g i (λ x (u, v). (u, inl v)) (λ x (u, v). (u ∙ f, inr (sym e ∙ z, sym (v ∙ h))))
         (λ x w. apart x (w .inside)) where
-          apart : (x : ℕ) → Trying hs j p x → Answering hs j p x ⊎ Joining hs s t x
+          apart : (x : ℕ) → Trying hs j p x → AnsweredTo hs j p x ⊎ Joining hs s t x
           apart x (u, inl v) = inl (u, v)
           apart x (u, inr (y, v)) = inr (u ∙ sym f, sym v ∙ sym h)
 
-    pub trying-visible : {a : ℕ} {fs new qs : List ℕ} {r : ℕ} → a ≡ label hs j → (a ≡ 0 → ⊥) → Noted hs ms (Answering hs j p) fs new qs r → Noted hs ms (Trying hs j p) fs new qs r
-    trying-visible e n g = noted-same hs ms g (λ x (u, v). (u, inl v)) (λ x l w. back x (w .inside)) where
-      back : (x : ℕ) → Trying hs j p x → Answering hs j p x
+    pub trying-visible : {a : ℕ} {fs new qs : List ℕ} {r : ℕ} → a ≡ label hs j → (a ≡ 0 → ⊥) → Pushed hs ms (AnsweredTo hs j p) fs new qs r → Pushed hs ms (Trying hs j p) fs new qs r
+    trying-visible e n g = pushed-same hs ms g (λ x (u, v). (u, inl v)) (λ x l w. back x (w .inside)) where
+      back : (x : ℕ) → Trying hs j p x → AnsweredTo hs j p x
       back x (u, inl v) = (u, v)
       back x (u, inr (y, v)) = absurd (n (e ∙ y))
 
     -- over the silent hops of s1, which the hop at place j leaves: the one at place i
     module _ (i : ℕ) where
-      pub asked-yes : {fs new qs : List ℕ} {r : ℕ} → FirstPoint hs (to hs i) (label hs j) (to hs p) → Noted hs ms (Only i) fs new qs r → Noted hs ms (Asked hs j p i) fs new qs r
-      asked-yes f g = noted-same hs ms g (λ x e. (e, rw e f)) (λ x l w. w .inside .0)
+      pub asked-yes : {fs new qs : List ℕ} {r : ℕ} → FirstPoint hs (to hs i) (label hs j) (to hs p) → Pushed hs ms (OnlyPlace i) fs new qs r → Pushed hs ms (Asked hs j p i) fs new qs r
+      asked-yes f g = pushed-same hs ms g (λ x e. (e, rw e f)) (λ x l w. w .inside .0)
 
-      pub asked-no : {fs qs : List ℕ} {n : ℕ} → (FirstPoint hs (to hs i) (label hs j) (to hs p) → ⊥) → Queue hs fs qs n → Noted hs ms (Asked hs j p i) fs fs qs n
-      asked-no f c = noted-none hs ms c (λ x l w. let e = w .inside .0 in absurd (f (rw e at (w .inside .1))))
+      pub asked-no : {fs qs : List ℕ} {n : ℕ} → (FirstPoint hs (to hs i) (label hs j) (to hs p) → ⊥) → Queue hs fs qs n → Pushed hs ms (Asked hs j p i) fs fs qs n
+      asked-no f c = pushed-none hs ms c (λ x l w. let e = w .inside .0 in absurd (f (rw e at (w .inside .1))))
 
-      pub asked-off : {fs qs : List ℕ} {n : ℕ} → (getD ms i 0 ≡ 1 → ⊥) → Queue hs fs qs n → Noted hs ms (Asked hs j p i) fs fs qs n
-      asked-off f c = noted-none hs ms c (λ x l w. let e = w .inside .0 in absurd (f (flag-says ms i (rw e at (w .marked)))))
+      pub asked-off : {fs qs : List ℕ} {n : ℕ} → (getD ms i 0 ≡ 1 → ⊥) → Queue hs fs qs n → Pushed hs ms (Asked hs j p i) fs fs qs n
+      asked-off f c = pushed-none hs ms c (λ x l w. let e = w .inside .0 in absurd (f (flag-says ms i (rw e at (w .marked)))))
 
-      pub asked-again : {fs qs : List ℕ} {n : ℕ} → getD fs i 0 ≡ 1 → Queue hs fs qs n → Noted hs ms (Asked hs j p i) fs fs qs n
-      asked-again {fs} f c = noted-none hs ms c (λ x l w. rw (w .inside .0) (flag-yes fs i f))
+      pub asked-again : {fs qs : List ℕ} {n : ℕ} → getD fs i 0 ≡ 1 → Queue hs fs qs n → Pushed hs ms (Asked hs j p i) fs fs qs n
+      asked-again {fs} f c = pushed-none hs ms c (λ x l w. rw (w .inside .0) (flag-yes fs i f))
 
     pub out-all : Ascending hs → {lo hi k : ℕ} → lo ≡ firstOf hs (from hs j) → hi ≡ labelledPast hs (from hs j) 0 → hi ≤ k → k ≤ hi →
-        {fs new qs : List ℕ} {r : ℕ} → Noted hs ms (Walked (Asked hs j p) lo k) fs new qs r → Noted hs ms (Trying hs j p) fs new qs r
-    out-all up {lo} {hi} {k} a b u v g = noted-same hs ms g on back where
+        {fs new qs : List ℕ} {r : ℕ} → Pushed hs ms (Walked (Asked hs j p) lo k) fs new qs r → Pushed hs ms (Trying hs j p) fs new qs r
+    out-all up {lo} {hi} {k} a b u v g = pushed-same hs ms g on back where
       on : (x : ℕ) → Walked (Asked hs j p) lo k x → Trying hs j p x
       on x (y, c, d, (e, f)) =
           let m : labelledFrom hs (from hs j) 0 ≤ x = omega (arith, silent-first hs (from hs j)) in
@@ -162,10 +162,10 @@ module _ (hs ms : List ℕ) where
           (x, omega (arith, silent-first hs (from hs j)), omega arith, (refl, w .inside .1))
 
     -- where no marked hop leaves s1
-    pub trying-none : (ls : List ℕ) {s : ℕ} → Leaving hs ms ls → s ≡ from hs j → (getD ls s 0 ≡ 1 → ⊥) → {fs qs : List ℕ} {n : ℕ} → Queue hs fs qs n → Noted hs ms (Trying hs j p) fs fs qs n
+    pub trying-none : (ls : List ℕ) {s : ℕ} → Leaving hs ms ls → s ≡ from hs j → (getD ls s 0 ≡ 1 → ⊥) → {fs qs : List ℕ} {n : ℕ} → Queue hs fs qs n → Pushed hs ms (Trying hs j p) fs fs qs n
     unfolding Leaving
     trying-none ls {s} f e n c =
-        noted-none hs ms c (λ x l w. absurd (n (flag-says ls s (rw (e ∙ sym (w .inside .0)) (f x l (w .marked))))))
+        pushed-none hs ms c (λ x l w. absurd (n (flag-says ls s (rw (e ∙ sym (w .inside .0)) (f x l (w .marked))))))
 
   -- over the hops into s3, where the hop at place p begins
   module _ (ps : List ℕ) (p : ℕ) where
@@ -173,9 +173,9 @@ module _ (hs ms : List ℕ) where
     Tries y x = Trying hs (getD ps y 0) p x
 
     pub tries-all : PredecessorPlaces hs (count hs) ps → p < count hs → {lo hi k : ℕ} → lo ≡ predecessorStart hs (from hs p) → hi ≡ predecessorStart hs (from hs p + 1) → hi ≤ k → k ≤ hi →
-        {fs new qs : List ℕ} {r : ℕ} → Noted hs ms (Walked Tries lo k) fs new qs r → Noted hs ms (ClosedBy hs p) fs new qs r
+        {fs new qs : List ℕ} {r : ℕ} → Pushed hs ms (Walked Tries lo k) fs new qs r → Pushed hs ms (ClosedBy hs p) fs new qs r
     unfolding PredecessorPlaces
-    tries-all fl l {lo} {hi} {k} a b u v g = noted-same hs ms g on (λ x m w. back x (w .inside)) where
+    tries-all fl l {lo} {hi} {k} a b u v g = pushed-same hs ms g on (λ x m w. back x (w .inside)) where
       on : (x : ℕ) → Walked Tries lo k x → ClosedBy hs p x
       on x (y, c, d, (e, f)) =
           let (m, z) = place-in hs ps fl (from hs p) {k = y} (omega arith) (omega arith) in
@@ -188,7 +188,7 @@ module _ (hs ms : List ℕ) where
           let e : getD ps (slot (to hs) (count hs) (q .at)) 0 ≡ q .at = fl (q .at) (q .within) in
           (slot (to hs) (count hs) (q .at), omega (arith, rw (q .to-is) at c), omega (arith, rw (q .to-is) at d), rw (e, q .label-is) (sym (q .from-is), f))
 
-    pub tries-at : (y : ℕ) {j : ℕ} {fs new qs : List ℕ} {r : ℕ} → j ≡ getD ps y 0 → Noted hs ms (Trying hs j p) fs new qs r → Noted hs ms (Tries y) fs new qs r
+    pub tries-at : (y : ℕ) {j : ℕ} {fs new qs : List ℕ} {r : ℕ} → j ≡ getD ps y 0 → Pushed hs ms (Trying hs j p) fs new qs r → Pushed hs ms (Tries y) fs new qs r
     tries-at y e g = rw e at g
 
   -- over the hops that fell
@@ -196,22 +196,22 @@ module _ (hs ms : List ℕ) where
     abbrev pub Falls : ℕ → ℕ → Type 0
     Falls y x = ClosedBy hs (getD fl y 0) x
 
-    pub falls-at : (y : ℕ) {p : ℕ} {fs new qs : List ℕ} {r : ℕ} → p ≡ getD fl y 0 → Noted hs ms (ClosedBy hs p) fs new qs r → Noted hs ms (Falls y) fs new qs r
+    pub falls-at : (y : ℕ) {p : ℕ} {fs new qs : List ℕ} {r : ℕ} → p ≡ getD fl y 0 → Pushed hs ms (ClosedBy hs p) fs new qs r → Pushed hs ms (Falls y) fs new qs r
     falls-at y e g = rw e at g
 
-    pub falls-all : {k : ℕ} → k ≤ lost → lost ≤ k → {fs new qs : List ℕ} {r : ℕ} → Noted hs ms (Walked Falls 0 k) fs new qs r → Noted hs ms (ClosedByAny hs fl lost) fs new qs r
+    pub falls-all : {k : ℕ} → k ≤ lost → lost ≤ k → {fs new qs : List ℕ} {r : ℕ} → Pushed hs ms (Walked Falls 0 k) fs new qs r → Pushed hs ms (ClosedByAny hs fl lost) fs new qs r
     falls-all {k} u v g =
-        noted-same hs ms g (λ x (y, a, b, w). (getD fl y 0, (y, omega arith, refl), w)) (λ x l w. back x (w .inside)) where
+        pushed-same hs ms g (λ x (y, a, b, w). (getD fl y 0, (y, omega arith, refl), w)) (λ x l w. back x (w .inside)) where
           back : (x : ℕ) → ClosedByAny hs fl lost x → Walked Falls 0 k x
           back x (p, (y, b, e), w) = (y, omega arith, omega arith, rw e w)
 
 -- document 01's first point, as the search answers it
 module _ (hs : List ℕ) where
-  pub point-itself : (s2 a s4 : ℕ) → a ≡ 0 → s4 ≡ s2 → Point hs s2 a s4 true
+  pub point-itself : (s2 a s4 : ℕ) → a ≡ 0 → s4 ≡ s2 → DecidesPoint hs s2 a s4 true
   point-itself s2 a s4 z e = record { yes = λ q. inr (z, e); no = λ q f. clash refl q }
 
   module _ (up : Ascending hs) (s2 a s4 : ℕ) {h : Hop} {f : Found} {p : ℕ} (q : h ≡ hopOf s2 a s4) (e : f ≡ placed hs h) where
-    pub point-found : f ≡ At p → Point hs s2 a s4 true
+    pub point-found : f ≡ At p → DecidesPoint hs s2 a s4 true
     point-found d = record { yes = λ r. inl there; no = λ r g. clash refl r } where
       there : has hs s2 a s4 ≡ true
       there =
@@ -219,7 +219,7 @@ module _ (hs : List ℕ) where
           let (l, i) = at-place hs (hopOf s2 a s4) found in
           place-has hs s2 a s4 (record { at = p; within = l; from-is = is-from hs s2 a s4 p i; label-is = is-label hs s2 a s4 p i; to-is = is-to hs s2 a s4 p i })
 
-    pub point-missing : f ≡ Gap p → (a ≡ 0 → s4 ≡ s2 → ⊥) → Point hs s2 a s4 false
+    pub point-missing : f ≡ Gap p → (a ≡ 0 → s4 ≡ s2 → ⊥) → DecidesPoint hs s2 a s4 false
     point-missing d n = record { yes = λ r. clash r refl; no = λ r. none } where
       none : FirstPoint hs s2 a s4 → ⊥
       none (inl g) = let gap : placed hs (hopOf s2 a s4) ≡ Gap p = rw q at (sym e ∙ d) in clash g (gap-has hs (hopOf s2 a s4) up gap)

@@ -11,7 +11,7 @@ use Rattle.graph.specs.Hops.{count, from, label, to, has}
 use Rattle.graph_successors.specs.SuccessorIndex.{SuccessorIndex, Indexable}
 use Rattle.graph_predecessors.specs.PredecessorIndex.{PredecessorStarts, PredecessorPlaces}
 use Rattle.mark_confluence.specs.Rounds.{FirstPoint}
-use Rattle.mark_confluence.specs.Held.{isMarked}
+use Rattle.mark_confluence.specs.MarkSet.{isMarked}
 
 -- i is one of the first n elements of xs
 abbrev pub Among : List ℕ → ℕ → ℕ → Type 0
@@ -43,15 +43,15 @@ pub record Wanted (hs ms : List ℕ) (W : ℕ → Type 0) (i : ℕ) : Type 0 whe
   pub inside : W i
 
 -- the wanted hops of W have come to the queue, which had the flags `old`, and no others
-pub record Noted (hs ms : List ℕ) (W : ℕ → Type 0) (old new qs : List ℕ) (r : ℕ) : Type 0 where
+pub record Pushed (hs ms : List ℕ) (W : ℕ → Type 0) (old new qs : List ℕ) (r : ℕ) : Type 0 where
   pub queue : Queue hs new qs r
   pub kept : (i : ℕ) → i < count hs → isMarked old i ≡ true → isMarked new i ≡ true
   pub came : (i : ℕ) → i < count hs → isMarked new i ≡ true → (isMarked old i ≡ true) ⊎ Wanted hs ms W i
   pub all : (i : ℕ) → i < count hs → Wanted hs ms W i → isMarked new i ≡ true
 
 -- the place i alone
-abbrev pub Only : ℕ → ℕ → Type 0
-Only i x = x ≡ i
+abbrev pub OnlyPlace : ℕ → ℕ → Type 0
+OnlyPlace i x = x ≡ i
 
 -- the places of hops from s1 to s2
 abbrev pub Joining : List ℕ → ℕ → ℕ → ℕ → Type 0
@@ -62,8 +62,8 @@ abbrev pub Like : List ℕ → ℕ → ℕ → ℕ → Type 0
 Like hs j m x = (label hs m ≡ label hs j) × Joining hs (from hs j) (from hs m) x
 
 -- of hops that leave s1, as the hop to try at place j does, and end in a state with a hop of its label to s4, where the hop that fell, at place p, ends
-abbrev pub Answering : List ℕ → ℕ → ℕ → ℕ → Type 0
-Answering hs j p x = (from hs x ≡ from hs j) × (has hs (to hs x) (label hs j) (to hs p) ≡ true)
+abbrev pub AnsweredTo : List ℕ → ℕ → ℕ → ℕ → Type 0
+AnsweredTo hs j p x = (from hs x ≡ from hs j) × (has hs (to hs x) (label hs j) (to hs p) ≡ true)
 
 -- the same with s4 = s2 too: document 01's first point
 abbrev pub Trying : List ℕ → ℕ → ℕ → ℕ → Type 0
@@ -82,13 +82,13 @@ abbrev pub Asked : List ℕ → ℕ → ℕ → ℕ → ℕ → Type 0
 Asked hs j p i x = (x ≡ i) × FirstPoint hs (to hs x) (label hs j) (to hs p)
 
 -- r is whether s4 is an s4 of s2 for the label a
-pub record Point (hs : List ℕ) (s2 a s4 : ℕ) (r : Bool) : Type 0 where
+pub record DecidesPoint (hs : List ℕ) (s2 a s4 : ℕ) (r : Bool) : Type 0 where
   pub yes : r ≡ true → FirstPoint hs s2 a s4
   pub no : r ≡ false → FirstPoint hs s2 a s4 → ⊥
 
 -- the first n of ps are places of hops
-unfoldable pub Listed : List ℕ → List ℕ → ℕ → Type 0
-Listed hs ps n = (k : ℕ) → k < n → getD ps k 0 < count hs
+unfoldable pub PlacesBelow : List ℕ → List ℕ → ℕ → Type 0
+PlacesBelow hs ps n = (k : ℕ) → k < n → getD ps k 0 < count hs
 
 -- no flag is set
 unfoldable pub Unset : List ℕ → List ℕ → Type 0

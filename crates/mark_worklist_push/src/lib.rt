@@ -2,7 +2,7 @@
 // lost its mark) s3 to s4.
 // These are the marked hops from s1 to a state that has s4 by document 01's first point: it has a
 // hop labelled a to s4, or a is silent (tau) and it is s4. They are found among s1's own silent
-// hops (`note_out`) or by the hops into s4 (`note_into`). Each comes to the queue once, by a flag a
+// hops (`push_out`) or by the hops into s4 (`push_into`). Each comes to the queue once, by a flag a
 // hop. `mark_worklist_next` asks this for each such pair.
 // Uses `graph_predecessors` for the hops into a state, `graph_successors` for those out of it, and
 // `mark_confluence` for marks and document 01's first point.
@@ -26,10 +26,10 @@ ghost use lib.ListN.{length};
 ghost use Rattle.graph.specs.Hops.{count, label};
 ghost use Rattle.graph.specs.Answers.{most-states};
 ghost use Rattle.graph_successors.specs.SuccessorIndex.{SuccessorIndex, Indexable};
-ghost use Rattle.mark_worklist_push.specs.Queue.{Tables, Queue, Noted, Only, Joining, Like, Answering, Trying, Asked, Point};
+ghost use Rattle.mark_worklist_push.specs.Queue.{Tables, Queue, Pushed, OnlyPlace, Joining, Like, AnsweredTo, Trying, Asked, DecidesPoint};
 
 // Queues the silent hop at place i if it is marked, and not queued yet; returns how long the queue is.
-fn note(
+fn push(
     hops: &[u16],
     marks: &[u8],
     flags: &mut [u8; MOST_HOPS],
@@ -42,7 +42,7 @@ fn note(
     requires queue { ⌜ Queue (now hops) (now flags) (now queue) n ⌝ }
     requires place { ⌜ i < count (now hops) ⌝ }
     requires silent { ⌜ label (now hops) i ≡ 0 ⌝ }
-    ensures { λ r. ⌜ Noted (now (hops .entry)) (now (marks .entry)) (Only i) (now (flags .entry)) (now (flags .exit)) (now (queue .exit)) r ⌝ }
+    ensures { λ r. ⌜ Pushed (now (hops .entry)) (now (marks .entry)) (OnlyPlace i) (now (flags .entry)) (now (flags .exit)) (now (queue .exit)) r ⌝ }
 {
     if marks[i] != 1 {
         return n;
@@ -56,7 +56,7 @@ fn note(
 }
 
 // Queues the silent hop from s1 to s2.
-fn note_pair(
+fn push_pair(
     hops: &[u16],
     starts: &[u16; STARTS],
     marks: &[u8],
@@ -71,17 +71,17 @@ fn note_pair(
     requires capacity { ⌜ count (now hops) ≤ length (now marks) ⌝ }
     requires queue { ⌜ Queue (now hops) (now flags) (now queue) n ⌝ }
     requires state { ⌜ s1 .0 < most-states ⌝ }
-    ensures { λ r. ⌜ Noted (now (hops .entry)) (now (marks .entry)) (Joining (now (hops .entry)) (s1 .0) (s2 .0))
+    ensures { λ r. ⌜ Pushed (now (hops .entry)) (now (marks .entry)) (Joining (now (hops .entry)) (s1 .0) (s2 .0))
         (now (flags .entry)) (now (flags .exit)) (now (queue .exit)) r ⌝ }
 {
     let Found::At(i) = find_row(hops, starts, hop_of(s1.0, 0, s2.0)) else {
         return n;
     };
-    note(hops, marks, flags, queue, n, i)
+    push(hops, marks, flags, queue, n, i)
 }
 
 // Queues the silent hop from where the hop at place j begins to where the one at place m does, if the two have one label.
-fn note_like(
+fn push_like(
     hops: &[u16],
     starts: &[u16; STARTS],
     marks: &[u8],
@@ -97,14 +97,14 @@ fn note_like(
     requires queue { ⌜ Queue (now hops) (now flags) (now queue) n ⌝ }
     requires tried { ⌜ j < count (now hops) ⌝ }
     requires answer { ⌜ m < count (now hops) ⌝ }
-    ensures { λ r. ⌜ Noted (now (hops .entry)) (now (marks .entry)) (Like (now (hops .entry)) j m)
+    ensures { λ r. ⌜ Pushed (now (hops .entry)) (now (marks .entry)) (Like (now (hops .entry)) j m)
         (now (flags .entry)) (now (flags .exit)) (now (queue .exit)) r ⌝ }
 {
     let a = label_at(hops, m);
     if a.0 != label_at(hops, j).0 {
         return n;
     }
-    note_pair(
+    push_pair(
         hops,
         starts,
         marks,
@@ -117,7 +117,7 @@ fn note_like(
 }
 
 // Queues s1's silent hops to states that have a hop to s4 of the label of the hop at place j, which leaves s1: each hop into s4 is asked.
-fn note_answers(
+fn push_answers(
     hops: &[u16],
     starts: &[u16; STARTS],
     begins: &[u16; STARTS],
@@ -134,7 +134,7 @@ fn note_answers(
     requires queue { ⌜ Queue (now hops) (now flags) (now queue) n ⌝ }
     requires tried { ⌜ j < count (now hops) ⌝ }
     requires fallen { ⌜ p < count (now hops) ⌝ }
-    ensures { λ r. ⌜ Noted (now (hops .entry)) (now (marks .entry)) (Answering (now (hops .entry)) j p)
+    ensures { λ r. ⌜ Pushed (now (hops .entry)) (now (marks .entry)) (AnsweredTo (now (hops .entry)) j p)
         (now (flags .entry)) (now (flags .exit)) (now (queue .exit)) r ⌝ }
 {
     let s4 = wide(to_at(hops, p).0);
@@ -143,14 +143,14 @@ fn note_answers(
     let mut k = start_of(begins, s4);
     while k < past {
         let m = place_at(places, k);
-        length = note_like(hops, starts, marks, flags, queue, length, j, m);
+        length = push_like(hops, starts, marks, flags, queue, length, j, m);
         k += 1;
     }
     length
 }
 
 // The same, with the silent hop to s4 itself where the hop to try is silent.
-pub fn note_into(
+pub fn push_into(
     hops: &[u16],
     starts: &[u16; STARTS],
     begins: &[u16; STARTS],
@@ -167,14 +167,14 @@ pub fn note_into(
     requires queue { ⌜ Queue (now hops) (now flags) (now queue) n ⌝ }
     requires tried { ⌜ j < count (now hops) ⌝ }
     requires fallen { ⌜ p < count (now hops) ⌝ }
-    ensures { λ r. ⌜ Noted (now (hops .entry)) (now (marks .entry)) (Trying (now (hops .entry)) j p)
+    ensures { λ r. ⌜ Pushed (now (hops .entry)) (now (marks .entry)) (Trying (now (hops .entry)) j p)
         (now (flags .entry)) (now (flags .exit)) (now (queue .exit)) r ⌝ }
 {
-    let length = note_answers(hops, starts, begins, places, marks, flags, queue, n, j, p);
+    let length = push_answers(hops, starts, begins, places, marks, flags, queue, n, j, p);
     if label_at(hops, j).0 == 0 {
         let s1 = from_at(hops, j);
         let s4 = to_at(hops, p);
-        return note_pair(hops, starts, marks, flags, queue, length, s1, s4);
+        return push_pair(hops, starts, marks, flags, queue, length, s1, s4);
     }
     length
 }
@@ -184,7 +184,7 @@ fn is_point(hops: &[u16], starts: &[u16; STARTS], s2: OldState, a: Label, s4: Ol
     requires ready { ⌜ Indexable (now hops) ⌝ }
     requires table { ⌜ SuccessorIndex (now hops) (now starts) ⌝ }
     requires state { ⌜ s2 .0 < most-states ⌝ }
-    ensures { λ r. ⌜ Point (now (hops .entry)) (s2 .0) (a .0) (s4 .0) r ⌝ }
+    ensures { λ r. ⌜ DecidesPoint (now (hops .entry)) (s2 .0) (a .0) (s4 .0) r ⌝ }
 {
     if a.0 == 0 {
         if s4.0 == s2.0 {
@@ -198,7 +198,7 @@ fn is_point(hops: &[u16], starts: &[u16; STARTS], s2: OldState, a: Label, s4: Ol
 }
 
 // Queues the silent hop at place i if it is marked, not queued yet, and the end of the one at p is an s4 of its end for the label of the one at j.
-fn note_answered(
+fn push_answered(
     hops: &[u16],
     starts: &[u16; STARTS],
     marks: &[u8],
@@ -217,7 +217,7 @@ fn note_answered(
     requires silent { ⌜ label (now hops) i ≡ 0 ⌝ }
     requires tried { ⌜ j < count (now hops) ⌝ }
     requires fallen { ⌜ p < count (now hops) ⌝ }
-    ensures { λ r. ⌜ Noted (now (hops .entry)) (now (marks .entry)) (Asked (now (hops .entry)) j p i)
+    ensures { λ r. ⌜ Pushed (now (hops .entry)) (now (marks .entry)) (Asked (now (hops .entry)) j p i)
         (now (flags .entry)) (now (flags .exit)) (now (queue .exit)) r ⌝ }
 {
     if marks[i] != 1 {
@@ -233,13 +233,13 @@ fn note_answered(
         label_at(hops, j),
         to_at(hops, p),
     ) {
-        return note(hops, marks, flags, queue, n, i);
+        return push(hops, marks, flags, queue, n, i);
     }
     n
 }
 
-// As `note_into`, each silent hop of s1 asked.
-pub fn note_out(
+// As `push_into`, each silent hop of s1 asked.
+pub fn push_out(
     hops: &[u16],
     starts: &[u16; STARTS],
     marks: &[u8],
@@ -255,7 +255,7 @@ pub fn note_out(
     requires queue { ⌜ Queue (now hops) (now flags) (now queue) n ⌝ }
     requires tried { ⌜ j < count (now hops) ⌝ }
     requires fallen { ⌜ p < count (now hops) ⌝ }
-    ensures { λ r. ⌜ Noted (now (hops .entry)) (now (marks .entry)) (Trying (now (hops .entry)) j p)
+    ensures { λ r. ⌜ Pushed (now (hops .entry)) (now (marks .entry)) (Trying (now (hops .entry)) j p)
         (now (flags .entry)) (now (flags .exit)) (now (queue .exit)) r ⌝ }
 {
     let s1 = from_at(hops, j);
@@ -263,7 +263,7 @@ pub fn note_out(
     let mut length = n;
     let mut i = start_of(starts, wide(s1.0));
     while i < past {
-        length = note_answered(hops, starts, marks, flags, queue, length, i, j, p);
+        length = push_answered(hops, starts, marks, flags, queue, length, i, j, p);
         i += 1;
     }
     length

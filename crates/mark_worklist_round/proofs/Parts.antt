@@ -17,14 +17,14 @@ use Rattle.base_outputs.specs.Output.{onFront}
 use Rattle.graph.specs.Hops.{count, from, label, to}
 use Rattle.graph.specs.Answers.{most-hops}
 use Rattle.mark_confluence.specs.Rounds.{closes, closesAt, survives}
-use Rattle.mark_confluence.specs.Held.{isMarked, heldBy, markOf, marksOf}
+use Rattle.mark_confluence.specs.MarkSet.{isMarked, markSet, markOf, marksOf}
 use Rattle.mark_confluence.proofs.Rounds.{survives-silent}
-use Rattle.mark_confluence.proofs.Marks.{marks-at, marks-beyond, marks-made, held-set}
-use Rattle.mark_worklist.specs.Due.{fell, standing, due}
-use Rattle.mark_worklist.proofs.Due.{survives-closes, survives-yes, standing-yes, standing-silent, standing-survives, standing-falls, due-standing, not-due-stands}
+use Rattle.mark_confluence.proofs.Marks.{marks-at, marks-beyond, marks-made, mark-set-set}
+use Rattle.mark_worklist.specs.Tests.{fell, stillMarked, testedIn}
+use Rattle.mark_worklist.proofs.Tests.{survives-closes, survives-yes, still-marked-yes, still-marked-silent, still-marked-survives, still-marked-falls, tested-still-marked, untested-survives}
 use Rattle.mark_worklist_push.specs.Queue.{Among}
-use Rattle.mark_worklist_push.proofs.Queueing.{flag-yes, flag-no, flag-here, flag-there}
-use Rattle.mark_worklist_round.specs.Testing.{Lists, Shed, Tested, Taken, Falls}
+use Rattle.mark_worklist_push.proofs.Pushing.{flag-yes, flag-no, flag-here, flag-there}
+use Rattle.mark_worklist_round.specs.Round.{Enumerates, DirtyStates, Tested, Unmarked, FallenIn}
 
 -- a list of places that grows by one
 module _ (xs : List ℕ) (n v : ℕ) where
@@ -80,13 +80,13 @@ module _ (c : ℕ) (p : ℕ → Bool) where
           (λ h. let d : j ≡ i = omega arith in clash (rw d at q) e) (lt-or-le j i)
 
   module _ {i n : ℕ} {qs : List ℕ} (s : ListsUpTo i qs n) where
-    pub lists-done : i ≡ c → Lists c p qs n
+    pub lists-done : i ≡ c → Enumerates c p qs n
     lists-done e = record { counted = rw e at (s .counted); each = rw e at (s .each); all = rw e at (s .all) }
 
 -- the states that hops fell from
-pub shed-more : (hs fl : List ℕ) (k : ℕ) {s : ℕ} (sh : List ℕ) → Shed hs fl k sh → s ≡ from hs (getD fl k 0) → s < length sh → Shed hs fl (k + 1) (set sh s 1)
-unfolding Shed
-shed-more hs fl k {s} sh f e l j m = go (eq-or-not (from hs (getD fl j 0)) s) where
+pub dirty-more : (hs fl : List ℕ) (k : ℕ) {s : ℕ} (sh : List ℕ) → DirtyStates hs fl k sh → s ≡ from hs (getD fl k 0) → s < length sh → DirtyStates hs fl (k + 1) (set sh s 1)
+unfolding DirtyStates
+dirty-more hs fl k {s} sh f e l j m = go (eq-or-not (from hs (getD fl j 0)) s) where
   go : (from hs (getD fl j 0) ≡ s) ⊎ (from hs (getD fl j 0) ≡ s → ⊥) → isMarked (set sh s 1) (from hs (getD fl j 0)) ≡ true
   go (inl d) = rw d (flag-here sh l)
   go (inr d) =
@@ -119,7 +119,7 @@ module _ (hs ms qs old : List ℕ) where
     kept-on : (j : ℕ) → isMarked (set new i 0) j ≡ true → isMarked old j ≡ true
     kept-on j e = ⊎-elim (λ d. clash (rw d at e) off-here) (λ d. t .kept j (sym (flag-there new i 0 j d) ∙ e)) (eq-or-not j i)
 
-    pub tested-closes : {v : Bool} → v ≡ closesAt hs (heldBy hs ms) i → v ≡ true → Tested hs ms qs (k + 1) old (set new i 0) fl r
+    pub tested-closes : {v : Bool} → v ≡ closesAt hs (markSet hs ms) i → v ≡ true → Tested hs ms qs (k + 1) old (set new i 0) fl r
     tested-closes e d = record {
       most = omega (arith, t .most);
       capacity = t .capacity;
@@ -130,7 +130,7 @@ module _ (hs ms qs old : List ℕ) where
       kept = kept-on;
     }
 
-    pub tested-falls : r < most-hops → {v : Bool} → v ≡ closesAt hs (heldBy hs ms) i → v ≡ false → Tested hs ms qs (k + 1) old (set new i 0) (set fl r i) (r + 1)
+    pub tested-falls : r < most-hops → {v : Bool} → v ≡ closesAt hs (markSet hs ms) i → v ≡ false → Tested hs ms qs (k + 1) old (set new i 0) (set fl r i) (r + 1)
     tested-falls w e d = record {
       most = omega (arith, t .most);
       capacity = simp length-set (t .capacity);
@@ -143,19 +143,19 @@ module _ (hs ms qs old : List ℕ) where
       fits : r < length fl
       fits = omega (arith, t .capacity)
 
-      each : (j : ℕ) → j < r + 1 → Among qs (k + 1) (getD (set fl r i) j 0) × (closesAt hs (heldBy hs ms) (getD (set fl r i) j 0) ≡ false)
+      each : (j : ℕ) → j < r + 1 → Among qs (k + 1) (getD (set fl r i) j 0) × (closesAt hs (markSet hs ms) (getD (set fl r i) j 0) ≡ false)
       each j m = go (eq-or-not j r) where
-        go : (j ≡ r) ⊎ (j ≡ r → ⊥) → Among qs (k + 1) (getD (set fl r i) j 0) × (closesAt hs (heldBy hs ms) (getD (set fl r i) j 0) ≡ false)
+        go : (j ≡ r) ⊎ (j ≡ r → ⊥) → Among qs (k + 1) (getD (set fl r i) j 0) × (closesAt hs (markSet hs ms) (getD (set fl r i) j 0) ≡ false)
         go (inl x) = rw (x, getD-set-same fl r i 0 fits) ((k, omega arith, sym q), sym e ∙ d)
         go (inr x) = let h = t .each j (omega arith) in rw (getD-set-other fl r j i 0 x) (among-wider qs k _ (h .0), h .1)
 
 -- taking marks
 module _ (ms fl : List ℕ) where
-  pub taken-none : Taken ms fl 0 ms
-  taken-none = record { taken = λ i a. absurd (among-none fl i a); other = λ i n. refl; beyond = λ c f. refl }
+  pub unmarked-none : Unmarked ms fl 0 ms
+  unmarked-none = record { taken = λ i a. absurd (among-none fl i a); other = λ i n. refl; beyond = λ c f. refl }
 
-  pub taken-more : {k i : ℕ} {new : List ℕ} → Taken ms fl k new → i ≡ getD fl k 0 → i < length new → Taken ms fl (k + 1) (set new i 0)
-  taken-more {k} {i} {new} t q l = record { taken = taken; other = other; beyond = beyond } where
+  pub unmarked-more : {k i : ℕ} {new : List ℕ} → Unmarked ms fl k new → i ≡ getD fl k 0 → i < length new → Unmarked ms fl (k + 1) (set new i 0)
+  unmarked-more {k} {i} {new} t q l = record { taken = taken; other = other; beyond = beyond } where
     taken : (j : ℕ) → Among fl (k + 1) j → getD (set new i 0) j 0 ≡ 0
     taken j a = go (eq-or-not j i) (among-next fl k j q a) where
       go : (j ≡ i) ⊎ (j ≡ i → ⊥) → Among fl k j ⊎ (j ≡ i) → getD (set new i 0) j 0 ≡ 0
@@ -173,63 +173,63 @@ module _ (ms fl : List ℕ) where
 module _ (hs : List ℕ) where
   -- the mark of a hop, where the marks are those of the hops that survive k rounds
   module _ (k : ℕ) (ms out : List ℕ) (e : ms ≡ onFront (marksOf hs (survives hs k)) out) where
-    pub mark-is : {i : ℕ} → i < count hs → getD ms i 0 ≡ cond (standing hs k i) 1 0
-    unfolding markOf standing
+    pub mark-is : {i : ℕ} → i < count hs → getD ms i 0 ≡ cond (stillMarked hs k i) 1 0
+    unfolding markOf stillMarked
     mark-is l = marks-at hs (survives hs k) ms out e l
 
-    pub mark-test : {i : ℕ} → i < count hs → isMarked ms i ≡ standing hs k i
-    mark-test {i} l = go (standing hs k i) (mark-is l) where
+    pub mark-test : {i : ℕ} → i < count hs → isMarked ms i ≡ stillMarked hs k i
+    mark-test {i} l = go (stillMarked hs k i) (mark-is l) where
       go : (b : Bool) → getD ms i 0 ≡ cond b 1 0 → isMarked ms i ≡ b
       go true d = flag-yes ms i d
       go false d = flag-no ms i (λ q. absurd (omega arith))
 
-    pub held-survives : heldBy hs ms ≡ survives hs k
-    held-survives = held-set hs (survives hs k) ms out e (survives-silent hs k)
+    pub held-survives : markSet hs ms ≡ survives hs k
+    held-survives = mark-set-set hs (survives hs k) ms out e (survives-silent hs k)
 
     -- what is due and does not close falls
-    module _ (qs : List ℕ) (n : ℕ) (d : Lists (count hs) (due hs k) qs n) {old new fl : List ℕ} {r : ℕ} (t : Tested hs ms qs n old new fl r) where
-      closes-is : (i : ℕ) → closesAt hs (heldBy hs ms) i ≡ closes hs (survives hs k) (from hs i) (to hs i)
+    module _ (qs : List ℕ) (n : ℕ) (d : Enumerates (count hs) (testedIn hs k) qs n) {old new fl : List ℕ} {r : ℕ} (t : Tested hs ms qs n old new fl r) where
+      closes-is : (i : ℕ) → closesAt hs (markSet hs ms) i ≡ closes hs (survives hs k) (from hs i) (to hs i)
       closes-is i = rw held-survives
 
-      pub falls-all : Falls hs k fl r
+      pub falls-all : FallenIn hs k fl r
       falls-all = record { each = each; all = all } where
-        each : (q : ℕ) → q < r → (getD fl q 0 < count hs) × (standing hs k (getD fl q 0) ≡ true) × (standing hs (suc k) (getD fl q 0) ≡ false)
+        each : (q : ℕ) → q < r → (getD fl q 0 < count hs) × (stillMarked hs k (getD fl q 0) ≡ true) × (stillMarked hs (suc k) (getD fl q 0) ≡ false)
         each q m =
             let ((j, l, x), c) = t .each q m in
             let (a, b) = d .each j l in
             let w : getD fl q 0 < count hs = rw x at a in
-            let y : due hs k (getD fl q 0) ≡ true = rw x at b in (
+            let y : testedIn hs k (getD fl q 0) ≡ true = rw x at b in (
               w,
-              due-standing hs k (getD fl q 0) w y,
-              no-test (standing hs (suc k) (getD fl q 0))
-                  (λ s. clash (survives-closes hs k (from hs (getD fl q 0)) (to hs (getD fl q 0)) (standing-survives hs (suc k) (getD fl q 0) s)) (sym (closes-is (getD fl q 0)) ∙ c)),
+              tested-still-marked hs k (getD fl q 0) w y,
+              no-test (stillMarked hs (suc k) (getD fl q 0))
+                  (λ s. clash (survives-closes hs k (from hs (getD fl q 0)) (to hs (getD fl q 0)) (still-marked-survives hs (suc k) (getD fl q 0) s)) (sym (closes-is (getD fl q 0)) ∙ c)),
             )
 
-        all : (i : ℕ) → i < count hs → standing hs k i ≡ true → standing hs (suc k) i ≡ false → Among fl r i
+        all : (i : ℕ) → i < count hs → stillMarked hs k i ≡ true → stillMarked hs (suc k) i ≡ false → Among fl r i
         all i l s f =
-            t .all i (d .all i l (⊎-elim (λ h. h) (λ h. clash (not-due-stands hs k i s h) f) (decided (due hs k i))))
+            t .all i (d .all i l (⊎-elim (λ h. h) (λ h. clash (untested-survives hs k i s h) f) (decided (testedIn hs k i))))
             (closes-is i ∙ no-test (closes hs (survives hs k) (from hs i) (to hs i))
-            (λ c. clash (standing-yes hs (suc k) i (standing-silent hs k i s) (survives-yes hs k (from hs i) (to hs i) (survives-silent hs k (from hs i) (to hs i) (standing-survives hs k i s)) c)) f))
+            (λ c. clash (still-marked-yes hs (suc k) i (still-marked-silent hs k i s) (survives-yes hs k (from hs i) (to hs i) (survives-silent hs k (from hs i) (to hs i) (still-marked-survives hs k i s)) c)) f))
 
     -- and without the marks of what fell, the marks are those of the next round
-    pub marks-next : {fl new : List ℕ} {r : ℕ} → count hs ≤ length new → Falls hs k fl r → Taken ms fl r new → new ≡ onFront (marksOf hs (survives hs (suc k))) out
-    unfolding markOf standing
+    pub marks-next : {fl new : List ℕ} {r : ℕ} → count hs ≤ length new → FallenIn hs k fl r → Unmarked ms fl r new → new ≡ onFront (marksOf hs (survives hs (suc k))) out
+    unfolding markOf stillMarked
     marks-next {fl} {new} {r} capacity f t =
         marks-made hs (survives hs (suc k)) new out capacity at-place (t .beyond (count hs) (λ q m. f .each q m .0) ∙ marks-beyond hs (survives hs k) ms out e) where
           at-place : (i : ℕ) → i < count hs → getD new i 0 ≡ markOf hs (survives hs (suc k)) i
-          at-place i l = go (decided (standing hs (suc k) i)) (decided (standing hs k i)) where
-            go : (standing hs (suc k) i ≡ true) ⊎ (standing hs (suc k) i ≡ false) → (standing hs k i ≡ true) ⊎ (standing hs k i ≡ false) →
-                getD new i 0 ≡ cond (standing hs (suc k) i) 1 0
+          at-place i l = go (decided (stillMarked hs (suc k) i)) (decided (stillMarked hs k i)) where
+            go : (stillMarked hs (suc k) i ≡ true) ⊎ (stillMarked hs (suc k) i ≡ false) → (stillMarked hs k i ≡ true) ⊎ (stillMarked hs k i ≡ false) →
+                getD new i 0 ≡ cond (stillMarked hs (suc k) i) 1 0
             go (inl a) b =
-                rw a (t .other i (λ (q, m, x). clash (rw (sym x) at a) (f .each q m .2)) ∙ (mark-is l ∙ (rw (standing-falls hs k i a))))
+                rw a (t .other i (λ (q, m, x). clash (rw (sym x) at a) (f .each q m .2)) ∙ (mark-is l ∙ (rw (still-marked-falls hs k i a))))
             go (inr a) (inl b) = rw a (t .taken i (f .all i l b a))
             go (inr a) (inr b) = rw a (t .other i (λ (q, m, x). clash (f .each q m .1) (rw (sym x) at b)) ∙ (mark-is l ∙ (rw b)))
 
   -- the first round tests the silent hops
-  pub first-yes : (i : ℕ) {a : ℕ} → a ≡ label hs i → a ≡ 0 → due hs 0 i ≡ true
-  unfolding due
+  pub first-yes : (i : ℕ) {a : ℕ} → a ≡ label hs i → a ≡ 0 → testedIn hs 0 i ≡ true
+  unfolding testedIn
   first-yes i e z = eq-eqb (label hs i) 0 (sym e ∙ z)
 
-  pub first-no : (i : ℕ) {a : ℕ} → a ≡ label hs i → (a ≡ 0 → ⊥) → due hs 0 i ≡ false
-  unfolding due
+  pub first-no : (i : ℕ) {a : ℕ} → a ≡ label hs i → (a ≡ 0 → ⊥) → testedIn hs 0 i ≡ false
+  unfolding testedIn
   first-no i e n = ne-eqb (label hs i) 0 (λ z. n (e ∙ z))

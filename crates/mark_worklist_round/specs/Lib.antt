@@ -1,1 +1,1 @@
-pub mod Testing  -- what listing, testing and taking ask and leave
+pub mod Round  -- what listing, testing and taking ask and leave

@@ -21,19 +21,19 @@ ghost use lib.ListN.{length, getD};
 ghost use Rattle.graph.specs.Hops.{count};
 ghost use Rattle.graph.specs.Answers.{most-hops};
 ghost use Rattle.mark_confluence.specs.Rounds.{closesAt};
-ghost use Rattle.mark_confluence.specs.Held.{heldBy};
+ghost use Rattle.mark_confluence.specs.MarkSet.{markSet};
 ghost use Rattle.graph_successors.specs.SuccessorIndex.{SuccessorIndex, Indexable};
-ghost use Rattle.mark_diamond_retest.specs.Again.{Unshed};
-ghost use Rattle.mark_worklist.specs.Due.{due};
-ghost use Rattle.mark_worklist_push.specs.Queue.{Listed};
-ghost use Rattle.mark_worklist_round.specs.Testing.{Lists, Spared, Shed, Tested, Taken};
+ghost use Rattle.mark_diamond_retest.specs.Retest.{CleanAnswered};
+ghost use Rattle.mark_worklist.specs.Tests.{testedIn};
+ghost use Rattle.mark_worklist_push.specs.Queue.{PlacesBelow};
+ghost use Rattle.mark_worklist_round.specs.Round.{Enumerates, SkipsClean, DirtyStates, Tested, Unmarked};
 
 // Lists the silent hops: the first round tests them all. Returns how many there are. Each place is put behind the list, and stays in it if it is silent, so
 // that nothing hangs on a branch that cannot be foreseen.
 pub fn list_silent(hops: &[u16], queue: &mut [u16; MOST_HOPS]) -> usize
     requires ready { ⌜ Indexable (now hops) ⌝ }
     requires capacity { ⌜ most-hops ≤ length (now queue) ⌝ }
-    ensures lists { λ r. ⌜ Lists (count (now (hops .entry))) (due (now (hops .entry)) 0) (now (queue .exit)) r ⌝ }
+    ensures lists { λ r. ⌜ Enumerates (count (now (hops .entry))) (testedIn (now (hops .entry)) 0) (now (queue .exit)) r ⌝ }
     ensures capacity { λ r. ⌜ most-hops ≤ length (now (queue .exit)) ⌝ }
 {
     let past = hop_count(hops);
@@ -50,28 +50,28 @@ pub fn list_silent(hops: &[u16], queue: &mut [u16; MOST_HOPS]) -> usize
 }
 
 // The states that a fallen hop leaves: 1 for each of them. Of the hops tried only those to such a state can have lost an answer.
-pub fn shed_of(hops: &[u16], fallen: &[u16; MOST_HOPS], n: usize) -> [u8; MOST_STATES]
+pub fn dirty_of(hops: &[u16], fallen: &[u16; MOST_HOPS], n: usize) -> [u8; MOST_STATES]
     requires ready { ⌜ Indexable (now hops) ⌝ }
     requires most { ⌜ n ≤ most-hops ⌝ }
-    requires listed { ⌜ Listed (now hops) (now fallen) n ⌝ }
-    ensures { λ r. ⌜ Shed (now (hops .entry)) (now (fallen .entry)) n r ⌝ }
+    requires listed { ⌜ PlacesBelow (now hops) (now fallen) n ⌝ }
+    ensures { λ r. ⌜ DirtyStates (now (hops .entry)) (now (fallen .entry)) n r ⌝ }
 {
-    let mut shed = [0u8; MOST_STATES];
+    let mut dirty = [0u8; MOST_STATES];
     let mut k = 0;
     while k < n {
         let s = wide(from_at(hops, place_at(fallen, k)).0);
-        shed[s] = 1;
+        dirty[s] = 1;
         k += 1;
     }
-    shed
+    dirty
 }
 
 // One test: in the first round of every hop tried, and later of those to a state that a hop fell from.
-fn stands(
+fn still_closes(
     hops: &[u16],
     starts: &[u16; STARTS],
     marks: &[u8],
-    shed: &[u8; MOST_STATES],
+    dirty: &[u8; MOST_STATES],
     first: bool,
     i: usize,
 ) -> bool
@@ -79,22 +79,22 @@ fn stands(
     requires table { ⌜ SuccessorIndex (now hops) (now starts) ⌝ }
     requires capacity { ⌜ count (now hops) ≤ length (now marks) ⌝ }
     requires place { ⌜ i < count (now hops) ⌝ }
-    requires others { ⌜ (first ≡ false → Unshed (now hops) (now marks) (now shed) i) ⌝ }
-    ensures { λ r. ⌜ r ≡ closesAt (now (hops .entry)) (heldBy (now (hops .entry)) (now (marks .entry))) i ⌝ }
+    requires others { ⌜ (first ≡ false → CleanAnswered (now hops) (now marks) (now dirty) i) ⌝ }
+    ensures { λ r. ⌜ r ≡ closesAt (now (hops .entry)) (markSet (now (hops .entry)) (now (marks .entry))) i ⌝ }
 {
     if first {
         return closes_at(hops, starts, marks, i);
     }
-    closes_again(hops, starts, marks, shed, i)
+    closes_again(hops, starts, marks, dirty, i)
 }
 
 // Tests the first n hops of the queue against the marks, which stay as they are, and takes their flags; lists those that do not close, and returns how
 // many.
-pub fn test_due(
+pub fn test_queue(
     hops: &[u16],
     starts: &[u16; STARTS],
     marks: &[u8],
-    shed: &[u8; MOST_STATES],
+    dirty: &[u8; MOST_STATES],
     first: bool,
     queue: &[u16; MOST_HOPS],
     n: usize,
@@ -104,11 +104,11 @@ pub fn test_due(
     requires ready { ⌜ Indexable (now hops) ⌝ }
     requires table { ⌜ SuccessorIndex (now hops) (now starts) ⌝ }
     requires marks { ⌜ count (now hops) ≤ length (now marks) ⌝ }
-    requires spared { ⌜ Spared (now hops) (now marks) (now shed) first (now queue) n ⌝ }
+    requires spared { ⌜ SkipsClean (now hops) (now marks) (now dirty) first (now queue) n ⌝ }
     requires flags { ⌜ count (now hops) ≤ length (now flags) ⌝ }
     requires capacity { ⌜ most-hops ≤ length (now fallen) ⌝ }
     requires most { ⌜ n ≤ most-hops ⌝ }
-    requires listed { ⌜ Listed (now hops) (now queue) n ⌝ }
+    requires listed { ⌜ PlacesBelow (now hops) (now queue) n ⌝ }
     ensures { λ r. ⌜ Tested (now (hops .entry)) (now (marks .entry)) (now (queue .entry)) n
         (now (flags .entry)) (now (flags .exit)) (now (fallen .exit)) r ⌝ }
 {
@@ -117,7 +117,7 @@ pub fn test_due(
     while k < n {
         let i = place_at(queue, k);
         flags[i] = 0;
-        if !stands(hops, starts, marks, shed, first, i) {
+        if !still_closes(hops, starts, marks, dirty, first, i) {
             fallen[lost] = i as u16;
             lost += 1;
         }
@@ -127,10 +127,10 @@ pub fn test_due(
 }
 
 // Takes the marks of the first n fallen hops.
-pub fn take_fallen(marks: &mut [u8], fallen: &[u16; MOST_HOPS], n: usize)
+pub fn unmark_fallen(marks: &mut [u8], fallen: &[u16; MOST_HOPS], n: usize)
     requires most { ⌜ n ≤ most-hops ⌝ }
     requires inside { ⌜ ((k : ℕ) → k < n → getD (now fallen) k 0 < length (now marks)) ⌝ }
-    ensures { λ _. ⌜ Taken (now (marks .entry)) (now (fallen .entry)) n (now (marks .exit)) ⌝ }
+    ensures { λ _. ⌜ Unmarked (now (marks .entry)) (now (fallen .entry)) n (now (marks .exit)) ⌝ }
 {
     let mut k = 0;
     while k < n {

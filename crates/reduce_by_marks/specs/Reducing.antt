@@ -8,7 +8,7 @@ use Rattle.graph.specs.Hops.{flat}
 use Rattle.graph.specs.Map.{mapped}
 use Rattle.graph.specs.declared.Shape.{Shape}
 use Rattle.base_fixpoint.specs.Pairs.{Pairs}
-use Rattle.mark_confluence.specs.Held.{heldBy}
+use Rattle.mark_confluence.specs.MarkSet.{markSet}
 use Rattle.reduce_short_graph.specs.Short.{shortHops, shortShape, mapList}
 use Rattle.reduce_by_marks.specs.declared.ShortGraph.{ShortGraph}
 
@@ -18,10 +18,10 @@ shortGraph sh hs u = record { shape = shortShape sh hs u; hops = length (shortHo
 
 -- the outputs afterwards, where ms are the marks: "Acceptance writes the named elements and none past them"
 abbrev pub mapLeft : Shape → List ℕ → List ℕ → List ℕ → List ℕ
-mapLeft sh hs ms map = onFront (mapList sh hs (heldBy hs ms)) map
+mapLeft sh hs ms map = onFront (mapList sh hs (markSet hs ms)) map
 
 abbrev pub shortLeft : Shape → List ℕ → List ℕ → List ℕ → List ℕ
-shortLeft sh hs ms short = onFront (flat (shortHops sh hs (heldBy hs ms))) short
+shortLeft sh hs ms short = onFront (flat (shortHops sh hs (markSet hs ms))) short
 
 -- the short graph's counts and initial state by the tables of new numbers and of the map
 abbrev pub shapeBy : Shape → List ℕ → List ℕ → Shape

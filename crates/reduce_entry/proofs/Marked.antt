@@ -17,10 +17,10 @@ use Rattle.walk_silent.specs.Silent.{HopOf}
 use Rattle.walk_silent.proofs.Rings.{rank}
 use Rattle.base_fixpoint.specs.Pairs.{Pairs, In, Subset}
 use Rattle.mark_confluence.specs.Rounds.{silentHops}
-use Rattle.mark_confluence.specs.Held.{marksOf, heldBy}
-use Rattle.mark_confluence.proofs.Marks.{marks-capacity, marks-silent, held-set}
+use Rattle.mark_confluence.specs.MarkSet.{marksOf, markSet}
+use Rattle.mark_confluence.proofs.Marks.{marks-capacity, marks-silent, mark-set-set}
 use Rattle.mark_senses.specs.Senses.{markedIn, senseOf, markedBy}
-use Rattle.mark_senses.proofs.Marked.{in-silent, marked-of}
+use Rattle.mark_senses.proofs.Marked.{in-silent, marked-confluent-in}
 use Rattle.reduce_representatives.specs.Representative.{Settles}
 use Rattle.reduce_representatives.specs.Tables.{Reducible, SilentMarks}
 use Rattle.reduce_representatives.proofs.Marked.{falls, silent-settles}
@@ -38,7 +38,7 @@ module _ {sh : Shape} {hs : List ℕ} (red : Reducible sh hs) (sense : Sense) wh
 
   -- confluence in any sense is weak confluence
   pub marked-weakly : Confluent (HopOf hs) (In (markedIn sense sh hs))
-  marked-weakly = confluent-in-weak (HopOf hs) (In (markedIn sense sh hs)) (marked-of sense sh hs) (rank sh hs) (falls red)
+  marked-weakly = confluent-in-weak (HopOf hs) (In (markedIn sense sh hs)) (marked-confluent-in sense sh hs) (rank sh hs) (falls red)
 
 -- what marking with the silent hops u leaves in ms is marks, one a hop, of which no visible hop has one, and they are of u
 module _ (sh : Shape) (hs : List ℕ) (u : Pairs) (ms out : List ℕ) (e : ms ≡ onFront (marksOf hs u) out) where
@@ -47,25 +47,25 @@ module _ (sh : Shape) (hs : List ℕ) (u : Pairs) (ms out : List ℕ) (e : ms �
 
   module _ (w : Subset (In u) (In (silentHops hs))) where
     -- so what is reduced along them is reduced along u
-    same-graph : {r : ShortGraph} → r ≡ shortGraph sh hs (heldBy hs ms) → r ≡ shortGraph sh hs u
-    same-graph q = q ∙ ap (shortGraph sh hs) (held-set hs u ms out e w)
+    same-graph : {r : ShortGraph} → r ≡ shortGraph sh hs (markSet hs ms) → r ≡ shortGraph sh hs u
+    same-graph q = q ∙ ap (shortGraph sh hs) (mark-set-set hs u ms out e w)
 
     pub left-map : (old : List ℕ) {map : List ℕ} → map ≡ mapLeft sh hs ms old → map ≡ onFront (mapList sh hs u) old
-    left-map old f = f ∙ ap (λ (v : Pairs). onFront (mapList sh hs v) old) (held-set hs u ms out e w)
+    left-map old f = f ∙ ap (λ (v : Pairs). onFront (mapList sh hs v) old) (mark-set-set hs u ms out e w)
 
     pub left-short : (old : List ℕ) {short : List ℕ} → short ≡ shortLeft sh hs ms old → short ≡ onFront (flat (shortHops sh hs u)) old
-    left-short old f = f ∙ ap (λ (v : Pairs). onFront (flat (shortHops sh hs v)) old) (held-set hs u ms out e w)
+    left-short old f = f ∙ ap (λ (v : Pairs). onFront (flat (shortHops sh hs v)) old) (mark-set-set hs u ms out e w)
 
     -- the short graph's shape and the number of its hops
-    pub left-shape : {r : ShortGraph} → r ≡ shortGraph sh hs (heldBy hs ms) → r .shape ≡ shortShape sh hs u
+    pub left-shape : {r : ShortGraph} → r ≡ shortGraph sh hs (markSet hs ms) → r .shape ≡ shortShape sh hs u
     left-shape q = ap (λ (x : ShortGraph). x .shape) (same-graph q)
 
-    pub left-hops : {r : ShortGraph} → r ≡ shortGraph sh hs (heldBy hs ms) → r .hops ≡ length (shortHops sh hs u)
+    pub left-hops : {r : ShortGraph} → r ≡ shortGraph sh hs (markSet hs ms) → r .hops ≡ length (shortHops sh hs u)
     left-hops q = ap (λ (x : ShortGraph). x .hops) (same-graph q)
 
 -- what is returned, if the set is that of the sense with the number k
 pub left-made : (sh : Shape) (hs : List ℕ) (k : ℕ) (ms out : List ℕ) → ms ≡ onFront (marksOf hs (markedBy k sh hs)) out →
-    {a : Answer} {r : ShortGraph} → a ≡ accepted → r ≡ shortGraph sh hs (heldBy hs ms) →
+    {a : Answer} {r : ShortGraph} → a ≡ accepted → r ≡ shortGraph sh hs (markSet hs ms) →
     _≡_ {A = Reduction} (record { answer = a; shape = r .shape; hops = r .hops }) (reduction sh hs k accepted)
 left-made sh hs k ms out e p q = λ d. record { answer = p d; shape = left-shape sh hs u ms out e w q d; hops = left-hops sh hs u ms out e w q d } where
   u : Pairs

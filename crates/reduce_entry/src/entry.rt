@@ -22,7 +22,7 @@ ghost use Rattle.graph.specs.Hops.{count, flat};
 ghost use Rattle.graph.specs.Answers.{accepted};
 ghost use Rattle.graph_successors.specs.SuccessorIndex.{SuccessorIndex, Indexed};
 ghost use Rattle.walk_silent.specs.Silent.{ringAnswer};
-ghost use Rattle.mark_confluence.specs.Held.{marksOf};
+ghost use Rattle.mark_confluence.specs.MarkSet.{marksOf};
 ghost use Rattle.mark_senses.specs.Senses.{markedBy};
 ghost use Rattle.reduce_representatives.specs.Tables.{Reducible};
 ghost use Rattle.reduce_entry.specs.Reduce.{reduceAnswer, reduceOf, mapOutput, shortOutput, reduction, markedMap, markedHops};

@@ -17,18 +17,18 @@ use Rattle.graph.proofs.Places.{is-yes}
 use Rattle.walk_silent.specs.Silent.{HopOf, leads}
 use Rattle.walk_silent.proofs.Rings.{rank, rank-falls-accepted}
 use Rattle.base_fixpoint.specs.Pairs.{Pairs, In}
-use Rattle.mark_confluence.specs.Held.{isMarked, heldBy}
-use Rattle.mark_confluence.proofs.Held.{held-says, held-at}
+use Rattle.mark_confluence.specs.MarkSet.{isMarked, markSet}
+use Rattle.mark_confluence.proofs.MarkSet.{mark-set-says, mark-set-at}
 use Rattle.reduce_representatives.specs.Representative.{Settles}
 use Rattle.reduce_representatives.specs.Tables.{Reducible, Marks, SilentMarks}
 
 -- the set that marks are has its own marks
-pub held-marks : {hs ms : List ℕ} → Ascending hs → SilentMarks hs ms → Marks hs (heldBy hs ms) ms
+pub held-marks : {hs ms : List ℕ} → Ascending hs → SilentMarks hs ms → Marks hs (markSet hs ms) ms
 held-marks {hs} {ms} up m = record { capacity = m .capacity; marks = mark } where
-  mark : (i : ℕ) → i < count hs → isMarked ms i ≡ (eqb (label hs i) 0 && heldBy hs ms (from hs i) (to hs i))
+  mark : (i : ℕ) → i < count hs → isMarked ms i ≡ (eqb (label hs i) 0 && markSet hs ms (from hs i) (to hs i))
   mark i l = go (eq-or-not (label hs i) 0) where
-    go : (label hs i ≡ 0) ⊎ (label hs i ≡ 0 → ⊥) → isMarked ms i ≡ (eqb (label hs i) 0 && heldBy hs ms (from hs i) (to hs i))
-    go (inl z) = rw (eq-eqb (label hs i) 0 z) (held-at hs ms up (from hs i) (to hs i) l (is-yes hs (from hs i) 0 (to hs i) i refl z refl))
+    go : (label hs i ≡ 0) ⊎ (label hs i ≡ 0 → ⊥) → isMarked ms i ≡ (eqb (label hs i) 0 && markSet hs ms (from hs i) (to hs i))
+    go (inl z) = rw (eq-eqb (label hs i) 0 z) (mark-set-at hs ms up (from hs i) (to hs i) l (is-yes hs (from hs i) 0 (to hs i) i refl z refl))
     go (inr n) = rw (ne-eqb (label hs i) 0 n) (no-test (isMarked ms i) (λ o. n (m .silent i l o)))
 
 -- in a graph without rings every set of silent hops settles
@@ -43,7 +43,7 @@ module _ {sh : Shape} {hs : List ℕ} (red : Reducible sh hs) where
   pub silent-settles : (u : Pairs) → ((s t : ℕ) → In u s t → HopOf hs s 0 t) → Settles sh hs u
   silent-settles u silent = record { silent = silent; rank = rank sh hs; falls = λ s t m. falls s t (silent s t m); bound = bound }
 
-  pub held-settles : (ms : List ℕ) → Settles sh hs (heldBy hs ms)
+  pub held-settles : (ms : List ℕ) → Settles sh hs (markSet hs ms)
   unfolding has
   held-settles ms =
-      silent-settles (heldBy hs ms) (λ s t e. let (i, l, h, o) = held-says hs ms s t e in any-found (is hs s 0 t) (count hs) l h)
+      silent-settles (markSet hs ms) (λ s t e. let (i, l, h, o) = mark-set-says hs ms s t e in any-found (is hs s 0 t) (count hs) l h)

@@ -15,7 +15,7 @@ use Rattle.graph.specs.Hops.{count, from, label, to}
 use Rattle.base_bounded.proofs.Bools.{eq-or-not, not-yes, not-no, and-yes, and-no-left, and-no-right}
 use Rattle.base_bounded.proofs.Quantifiers.{any-no, any-found, least-is}
 use Rattle.base_fixpoint.specs.Pairs.{Pairs}
-use Rattle.mark_confluence.specs.Held.{isMarked}
+use Rattle.mark_confluence.specs.MarkSet.{isMarked}
 use Rattle.reduce_representatives.specs.Representative.{markedFrom, resting, onward}
 use Rattle.reduce_representatives.specs.Tables.{Closed, entered, stepped}
 use Rattle.reduce_representatives.proofs.Resting.{rests-onward, moves-onward}

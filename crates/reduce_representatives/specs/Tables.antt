@@ -14,7 +14,7 @@ use Rattle.graph_check.specs.Check.{Admitted}
 use Rattle.graph.specs.declared.Shape.{Shape}
 use Rattle.walk_silent.specs.Silent.{ringAnswer}
 use Rattle.base_fixpoint.specs.Pairs.{Pairs}
-use Rattle.mark_confluence.specs.Held.{isMarked}
+use Rattle.mark_confluence.specs.MarkSet.{isMarked}
 use Rattle.reduce_representatives.specs.Representative.{onward}
 
 -- a graph that rows 1 to 5 let pass

@@ -11,7 +11,7 @@ ghost use Prim.Native.Nat.{_<_, _≤_};
 ghost use lib.ListN.{length};
 ghost use Rattle.graph.specs.Hops.{count, from};
 ghost use Rattle.graph.specs.Answers.{most-states};
-ghost use Rattle.mark_confluence.specs.Held.{heldBy};
+ghost use Rattle.mark_confluence.specs.MarkSet.{markSet};
 ghost use Rattle.reduce_representatives.specs.Tables.{Marks, Own, FromIn, Onward, Closed, Sinks, Noted, entered, stays, stepped};
 
 // A table that leads from each state to itself.
@@ -42,9 +42,9 @@ fn enter(hops: &[u16], marks: &[u8], next: &mut [u16; MOST_STATES], i: usize)
 
 // The table: the hops are entered from the last to the first, so that the first stands.
 pub fn next_states(hops: &[u16], marks: &[u8]) -> [u16; MOST_STATES]
-    requires marks { ⌜ Marks (now hops) (heldBy (now hops) (now marks)) (now marks) ⌝ }
+    requires marks { ⌜ Marks (now hops) (markSet (now hops) (now marks)) (now marks) ⌝ }
     requires tabled { ⌜ FromIn (now hops) ⌝ }
-    ensures { λ r. ⌜ Onward (now (hops .entry)) (heldBy (now (hops .entry)) (now (marks .entry))) r ⌝ }
+    ensures { λ r. ⌜ Onward (now (hops .entry)) (markSet (now (hops .entry)) (now (marks .entry))) r ⌝ }
 {
     let mut next = own_states();
     let mut i = hop_count(hops);

@@ -21,7 +21,7 @@ use Rattle.graph.specs.declared.Shape.{Shape}
 use Rattle.graph.specs.declared.Answer.{Answer}
 use Rattle.base_fixpoint.specs.Pairs.{Pairs}
 use Rattle.mark_confluence.specs.Rounds.{marked}
-use Rattle.mark_confluence.specs.Held.{markOf}
+use Rattle.mark_confluence.specs.MarkSet.{markOf}
 use Rattle.mark_confluence.proofs.Marked.{marked-confluent}
 use Rattle.reduce_representatives.specs.Representative.{Settles, markedFrom, resting, mapOf}
 use Rattle.reduce_representatives.specs.Tables.{Reducible}

@@ -22,7 +22,7 @@ use Rattle.graph_check.proofs.Checked.{check-admitted, admitted-check}
 use Rattle.walk_silent.specs.Silent.{ringAnswer}
 use Rattle.base_fixpoint.specs.Pairs.{In, Subset}
 use Rattle.mark_confluence.specs.Rounds.{silentHops, marked}
-use Rattle.mark_confluence.specs.Held.{heldBy, markOf, marksOf}
+use Rattle.mark_confluence.specs.MarkSet.{markSet, markOf, marksOf}
 use Rattle.mark_confluence.proofs.Marked.{marked-confluent}
 use Rattle.mark_confluence.proofs.Marks.{marks-at}
 use Rattle.reduce_representatives.specs.Representative.{mapOf}
@@ -103,7 +103,7 @@ module _ {sh : Shape} {hs : List ℕ} (red : Reducible sh hs) where
         (List·getD-append (tabulate (sh .states) (mapOf sh hs (marked hs))) _ 0 s (rw (length-tabulate (mapOf sh hs (marked hs)) (sh .states)) l) ∙
         getD-tabulate (mapOf sh hs (marked hs)) (sh .states) l)
 
-    module _ {r : ShortGraph} (d : r ≡ shortGraph sh hs (heldBy hs ms)) where
+    module _ {r : ShortGraph} (d : r ≡ shortGraph sh hs (markSet hs ms)) where
       pub reduced-shape : r .shape ≡ shortShape sh hs (marked hs)
       reduced-shape = left-shape sh hs (marked hs) ms ms0 e silent d
 

@@ -13,7 +13,7 @@ use Rattle.lts.specs.Closes.{r8}
 use Rattle.lts.proofs.Once.{once}
 use Rattle.base_fixpoint.specs.Pairs.{Pairs, In}
 use Rattle.mark_senses.specs.Senses.{markedIn, senseOf}
-use Rattle.mark_senses.proofs.Marked.{marked-of, holds-every}
+use Rattle.mark_senses.proofs.Marked.{marked-confluent-in, marked-greatest-in}
 use Rattle.reduce_representatives.specs.Representative.{mapOf}
 use Rattle.reduce_representatives.specs.Tables.{Reducible}
 use Rattle.reduce_representatives.proofs.Resting.{rep-rests}
@@ -34,11 +34,11 @@ module _ {sh : Shape} {hs : List ℕ} (red : Reducible sh hs) where
   -- every hop of the short graph leaves an image, and none from an image is in a set of R8
   pub left-unmarked : (n m : ℕ) → In (markedIn r8 (shortShape sh hs u) (flat (shortHops sh hs u))) n m → ⊥
   left-unmarked n m w =
-      let again = marked-of r8 (shortShape sh hs u) (flat (shortHops sh hs u)) in
+      let again = marked-confluent-in r8 (shortShape sh hs u) (flat (shortHops sh hs u)) in
       let (r, _, e, _, d, _) = short-only sh hs u n 0 m (again .silent n m w) in
       let at : mapOf sh hs u r ≡ n = map-own sh hs u r e ∙ d in
-      once (marked-of r8 sh hs) (rep-rests (marked-settles red r8)) (short-left (marked-settles red r8)) again
-      (holds-every r8 sh hs (red .admitted .range)) r m (rw at w)
+      once (marked-confluent-in r8 sh hs) (rep-rests (marked-settles red r8)) (short-left (marked-settles red r8)) again
+      (marked-greatest-in r8 sh hs (red .admitted .range)) r m (rw at w)
 
 -- so where a stage is reduced under R8 nothing is marked afterwards
 pub next-still : (g : Stage) → Reducible (g .shape) (g .hops) → marksSome 8 (nextStage 8 g) ≡ false

@@ -14,8 +14,8 @@ use Rattle.graph.specs.Hops.{count, from, label, to}
 use Rattle.graph.specs.declared.Shape.{Shape}
 use Rattle.graph.proofs.Places.{has-place, length-flat}
 use Rattle.base_fixpoint.specs.Pairs.{In}
-use Rattle.mark_senses.specs.Senses.{senseOf, setAt}
-use Rattle.mark_senses.proofs.Marked.{marked-of}
+use Rattle.mark_senses.specs.Senses.{senseOf, inSetAt}
+use Rattle.mark_senses.proofs.Marked.{marked-confluent-in}
 use Rattle.reduce_representatives.specs.Tables.{Reducible}
 use Rattle.reduce_short_graph.proofs.Again.{short-all}
 use Rattle.reduce_entry.specs.Reduce.{markedHops}
@@ -29,16 +29,16 @@ use Rattle.shrink_iterate.specs.Repeating.{Stage, firstStage, nextStage,
 -- the test that some hop is marked, and what it says
 module _ (k : ℕ) (g : Stage) where
   pub some-marked : marksSome k g ≡ true → (s : ℕ) × (t : ℕ) × In (markedAt k g) s t
-  unfolding someMarked setAt
+  unfolding someMarked inSetAt
   some-marked e =
-      let (i, l, p) = any-at (setAt (g .hops) (markedAt k g)) (count (g .hops)) e in
+      let (i, l, p) = any-at (inSetAt (g .hops) (markedAt k g)) (count (g .hops)) e in
       (from (g .hops) i, to (g .hops) i, and-right (eqb (label (g .hops) i) 0) _ p)
 
   pub marked-some : (s t : ℕ) → In (markedAt k g) s t → marksSome k g ≡ true
-  unfolding someMarked setAt
+  unfolding someMarked inSetAt
   marked-some s t m =
-      let p = has-place (g .hops) s 0 t (marked-of (senseOf k) (g .shape) (g .hops) .silent s t m) in
-      any-found (setAt (g .hops) (markedAt k g)) (count (g .hops)) (p .within) (and-yes (eq-eqb _ _ (p .label-is)) (rw (p .from-is, p .to-is) m))
+      let p = has-place (g .hops) s 0 t (marked-confluent-in (senseOf k) (g .shape) (g .hops) .silent s t m) in
+      any-found (inSetAt (g .hops) (markedAt k g)) (count (g .hops)) (p .within) (and-yes (eq-eqb _ _ (p .label-is)) (rw (p .from-is, p .to-is) m))
 
   pub none-marked : marksSome k g ≡ false → (s t : ℕ) → In (markedAt k g) s t → ⊥
   none-marked e s t m = clash (marked-some s t m) e

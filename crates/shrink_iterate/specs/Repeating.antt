@@ -9,7 +9,7 @@ use Rattle.graph.specs.Hops.{count, same, flat}
 use Rattle.graph.specs.declared.Hop.{Hop}
 use Rattle.graph.specs.declared.Shape.{Shape}
 use Rattle.base_fixpoint.specs.Pairs.{Pairs, In}
-use Rattle.mark_senses.specs.Senses.{setAt, markedBy}
+use Rattle.mark_senses.specs.Senses.{inSetAt, markedBy}
 use Rattle.reduce_representatives.specs.Representative.{resting}
 use Rattle.reduce_short_graph.specs.Short.{becomes}
 use Rattle.reduce_entry.specs.Reduce.{markedMap, markedHops, markedShape}
@@ -32,7 +32,7 @@ markedAt k g = markedBy k (g .shape) (g .hops)
 
 -- some hop of the graph is marked
 unfoldable pub someMarked : ℕ → Shape → List ℕ → Bool
-someMarked k sh hs = any (count hs) (setAt hs (markedBy k sh hs))
+someMarked k sh hs = any (count hs) (inSetAt hs (markedBy k sh hs))
 
 abbrev pub marksSome : ℕ → Stage → Bool
 marksSome k g = someMarked k (g .shape) (g .hops)

@@ -10,9 +10,9 @@ use Rattle.base_outputs.specs.Output.{onFront}
 use Rattle.graph.specs.Hops.{count, from, label, to}
 use Rattle.graph.specs.declared.Shape.{Shape}
 use Rattle.base_fixpoint.specs.Pairs.{Pairs}
-use Rattle.mark_confluence.specs.Held.{isMarked, markOf, marksOf}
+use Rattle.mark_confluence.specs.MarkSet.{isMarked, markOf, marksOf}
 use Rattle.mark_confluence.proofs.Marks.{marks-at}
-use Rattle.mark_senses.specs.Senses.{setAt, markedBy}
+use Rattle.mark_senses.specs.Senses.{inSetAt, markedBy}
 use Rattle.reduce_representatives.specs.Tables.{Reducible}
 use Rattle.shrink_iterate.specs.Repeating.{someMarked}
 
@@ -21,12 +21,12 @@ module _ (hs : List ℕ) (u : Pairs) (ms out : List ℕ) (e : ms ≡ onFront (ma
   told true = refl
   told false = refl
 
-  mark-told : (i : ℕ) → i < count hs → isMarked ms i ≡ setAt hs u i
-  unfolding isMarked markOf setAt
+  mark-told : (i : ℕ) → i < count hs → isMarked ms i ≡ inSetAt hs u i
+  unfolding isMarked markOf inSetAt
   mark-told i l = ap (λ (x : ℕ). eqb x 1) (marks-at hs u ms out e l) ∙ told (eqb (label hs i) 0 && u (from hs i) (to hs i))
 
-  any-told : any (count hs) (isMarked ms) ≡ any (count hs) (setAt hs u)
-  any-told = any-same (isMarked ms) (setAt hs u) (count hs) mark-told
+  any-told : any (count hs) (isMarked ms) ≡ any (count hs) (inSetAt hs u)
+  any-told = any-same (isMarked ms) (inSetAt hs u) (count hs) mark-told
 
 pub some-told : (k : ℕ) (sh : Shape) (hs ms out : List ℕ) → ms ≡ onFront (marksOf hs (markedBy k sh hs)) out → {n : ℕ} {r : Bool} → n ≡ count hs →
     r ≡ any n (isMarked ms) → r ≡ someMarked k sh hs

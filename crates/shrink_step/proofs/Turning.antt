@@ -14,7 +14,7 @@ use Rattle.graph.proofs.Fronts.{flat-front, between-count}
 use Rattle.graph.proofs.Places.{length-flat}
 use Rattle.base_fixpoint.specs.Pairs.{Pairs, In, Subset}
 use Rattle.mark_confluence.specs.Rounds.{silentHops}
-use Rattle.mark_confluence.specs.Held.{marksOf, heldBy}
+use Rattle.mark_confluence.specs.MarkSet.{marksOf, markSet}
 use Rattle.mark_senses.specs.Senses.{senseOf, markedBy}
 use Rattle.mark_senses.proofs.Marked.{in-silent}
 use Rattle.reduce_short_graph.specs.Short.{mapList}
@@ -30,7 +30,7 @@ use Rattle.shrink_step.specs.declared.Reached.{Reached}
 -- where the code stands, the part of the hops that it has marked and reduced, and what that returned
 module _
     (k : ℕ) (at : Reached) (hops map : List ℕ) {seen : List ℕ} (p : seen ≡ between hops 0 (at .hops)) (ms out : List ℕ)
-    (e : ms ≡ onFront (marksOf seen (markedBy k (at .shape) seen)) out) {made : ShortGraph} (made-is : made ≡ shortGraph (at .shape) seen (heldBy seen ms))
+    (e : ms ≡ onFront (marksOf seen (markedBy k (at .shape) seen)) out) {made : ShortGraph} (made-is : made ≡ shortGraph (at .shape) seen (markSet seen ms))
   where
     abbrev g : Stage
     g = stageOf at hops map

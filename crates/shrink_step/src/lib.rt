@@ -24,7 +24,7 @@ ghost use Rattle.base_bounded.specs.Quantifiers.{any};
 ghost use Rattle.base_outputs.specs.Output.{onFront};
 ghost use Rattle.graph.specs.Hops.{count, between};
 ghost use Rattle.graph.specs.Answers.{most-states};
-ghost use Rattle.mark_confluence.specs.Held.{isMarked, marksOf};
+ghost use Rattle.mark_confluence.specs.MarkSet.{isMarked, marksOf};
 ghost use Rattle.mark_senses.specs.Senses.{markedBy};
 ghost use Rattle.reduce_representatives.specs.Tables.{Reducible};
 ghost use Rattle.shrink_compose.specs.Chained.{Into};

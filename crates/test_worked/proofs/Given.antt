@@ -8,11 +8,11 @@ use Rattle.walk_reach.specs.Reach.{leadsBy}
 use Rattle.walk_silent.specs.Silent.{onRing, lowestOnRing, ringAnswer}
 use Rattle.base_fixpoint.specs.Approximants.{approximant}
 use Rattle.mark_confluence.specs.Rounds.{survives, marked, closes, tried, answered, answers, hopAnswers, answer, closing}
-use Rattle.mark_confluence.specs.Held.{marksOf, markOf}
-use Rattle.mark_senses.specs.Senses.{setAt, comes, takes, meets, takesTo, answersFrom, answeredIn, closesIn, markedIn, isSense, senseOf, senseAnswer}
+use Rattle.mark_confluence.specs.MarkSet.{marksOf, markOf}
+use Rattle.mark_senses.specs.Senses.{inSetAt, reachesBy, hopOrStay, joinsAt, answersTo, answersFrom, answeredIn, closesIn, markedIn, isSense, senseOf, senseAnswer}
 use Rattle.mark_entry.specs.Mark.{markAnswer}
-use Rattle.mark_worklist.specs.Due.{fell, standing, reached, shaken, due, testsIn, testsUpTo, testsOf}
-use Rattle.mark_entry_fast.specs.Fast.{countedOf}
+use Rattle.mark_worklist.specs.Tests.{fell, stillMarked, affectedAt, affected, testedIn, testsIn, testsUpTo, testsOf}
+use Rattle.mark_entry_fast.specs.Fast.{markFastOf}
 use Rattle.reduce_representatives.specs.Representative.{markedFrom, resting, onward, followed, repOf, newOf, mapOf}
 use Rattle.reduce_insertion.specs.Insertion.{insert, collected}
 use Rattle.reduce_short_graph.specs.Short.{gathered, shortHops, shortShape, mapList}
@@ -27,6 +27,6 @@ use Rattle.test_worked.specs.Table.{tableOf, table, outcomeOf, fallsIn}
 pub given : tableOf table ≡ table
 unfolding
     all any least tabulate tally total flat is labelled has before checkOf countsFit inside firstOutside ascendsAt firstNotAscending leadsBy onRing lowestOnRing ringAnswer
-    approximant survives marked closes tried answered answers hopAnswers answer closing setAt comes takes meets takesTo answersFrom answeredIn closesIn markedIn isSense senseOf senseAnswer marksOf markOf markAnswer fell standing reached shaken due testsIn testsUpTo testsOf countedOf markedFrom resting onward followed repOf newOf mapOf
+    approximant survives marked closes tried answered answers hopAnswers answer closing inSetAt reachesBy hopOrStay joinsAt answersTo answersFrom answeredIn closesIn markedIn isSense senseOf senseAnswer marksOf markOf markAnswer fell stillMarked affectedAt affected testedIn testsIn testsUpTo testsOf markFastOf markedFrom resting onward followed repOf newOf mapOf
     insert collected gathered shortHops shortShape mapList initialFault kept lostFaults offers backed matched madeUp madeUpFaults faultsOf firstInitial lostPlace firstLost madeUpPlace madeUpState firstMadeUp firstFault reduceAnswer reduceOf firstHigh mapFits auditAnswer auditOf hopsBefore findOf outcomeOf fallsIn
 given = refl

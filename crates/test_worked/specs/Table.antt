@@ -13,7 +13,7 @@ use Rattle.graph.specs.declared.Shape.{Shape}
 use Rattle.graph.specs.declared.Answer.{Answer}
 use Rattle.mark_confluence.specs.Rounds.{survives}
 use Rattle.mark_entry.specs.Mark.{marksMade, markAnswer}
-use Rattle.mark_entry_fast.specs.Fast.{countedOf}
+use Rattle.mark_entry_fast.specs.Fast.{markFastOf}
 use Rattle.reduce_entry.specs.Reduce.{markedMap, markedHops, reduceOf}
 use Rattle.reduce_entry.specs.declared.Reduction.{Reduction}
 use Rattle.audit_faults.specs.First.{fault, noFault}
@@ -88,7 +88,7 @@ outcomeOf sh hs =
       reduced = reduceOf sh hs 1 (sh .states) (length hs);
       marks = marksMade sh hs 1;
       falls = tabulate (count hs) (fallsIn hs);
-      tests = countedOf sh hs hs .tests;
+      tests = markFastOf sh hs hs .tests;
       map = markedMap sh hs 1;
       short = markedHops sh hs 1;
     })
@@ -97,7 +97,7 @@ outcomeOf sh hs =
       reduced = reduceOf sh hs 1 (sh .states) (length hs);
       marks = [];
       falls = [];
-      tests = countedOf sh hs hs .tests;
+      tests = markFastOf sh hs hs .tests;
       map = [];
       short = [];
     })

@@ -17,8 +17,8 @@ use Rattle.walk_silent.specs.Silent.{onRing, lowestOnRing, ringAnswer}
 use Rattle.base_fixpoint.specs.Approximants.{approximant}
 use Rattle.base_fixpoint.specs.Pairs.{Pairs}
 use Rattle.mark_confluence.specs.Rounds.{tried}
-use Rattle.mark_confluence.specs.Held.{isMarked, heldAt, heldBy, markOf, marksOf}
-use Rattle.mark_senses.specs.Senses.{setAt, comes, takes, meets, takesTo, answersFrom, answeredIn, closesIn, markedIn, isSense, senseOf, senseAnswer}
+use Rattle.mark_confluence.specs.MarkSet.{isMarked, markSetAt, markSet, markOf, marksOf}
+use Rattle.mark_senses.specs.Senses.{inSetAt, reachesBy, hopOrStay, joinsAt, answersTo, answersFrom, answeredIn, closesIn, markedIn, isSense, senseOf, senseAnswer}
 use Rattle.reduce_representatives.specs.Representative.{markedFrom, resting, onward, followed, repOf, newOf, mapOf}
 use Rattle.reduce_insertion.specs.Insertion.{insert, collected}
 use Rattle.reduce_short_graph.specs.Short.{gathered, shortHops, shortShape, mapList}
@@ -37,12 +37,12 @@ data Marks (k : ℕ) (g : Stage) (ms : List ℕ) : Type 0 where
   marks : all (count (g .hops)) (closesAt (senseOf k) (g .shape) (g .hops) ms) ≡ true →
       all (count (g .hops)) (leftAt (senseOf k) (g .shape) (g .hops) ms) ≡ true → Marks k g ms
 
-marks-are : {k : ℕ} {g : Stage} {ms : List ℕ} → Marks k g ms → markedAt k g ≡ heldBy (g .hops) ms
+marks-are : {k : ℕ} {g : Stage} {ms : List ℕ} → Marks k g ms → markedAt k g ≡ markSet (g .hops) ms
 marks-are {k} {g} {ms} (marks c l) = sym (settled (senseOf k) (g .shape) (g .hops) ms c l)
 
 -- a stage's test and its next stage, along any set
 abbrev some : Stage → Pairs → Bool
-some g u = any (count (g .hops)) (setAt (g .hops) u)
+some g u = any (count (g .hops)) (inSetAt (g .hops) u)
 
 abbrev next : Stage → Pairs → Stage
 next g u = record {
@@ -54,9 +54,9 @@ next g u = record {
 
 -- the reductions from g on: each but the last look marks something and leads to the next, and the last look marks nothing
 data Steps (k : ℕ) : Stage → List Turn → Type 0 where
-  still : {g : Stage} → Marks k g [] → some g (heldBy (g .hops) []) ≡ false → Steps k g []
-  step : {g : Stage} {t : Turn} {ts : List Turn} → Marks k g (t .marks) → some g (heldBy (g .hops) (t .marks)) ≡ true →
-      marksOf (g .hops) (heldBy (g .hops) (t .marks)) ≡ t .marks → next g (heldBy (g .hops) (t .marks)) ≡ t .stage → Steps k (t .stage) ts → Steps k g (t ∷ ts)
+  still : {g : Stage} → Marks k g [] → some g (markSet (g .hops) []) ≡ false → Steps k g []
+  step : {g : Stage} {t : Turn} {ts : List Turn} → Marks k g (t .marks) → some g (markSet (g .hops) (t .marks)) ≡ true →
+      marksOf (g .hops) (markSet (g .hops) (t .marks)) ≡ t .marks → next g (markSet (g .hops) (t .marks)) ≡ t .stage → Steps k (t .stage) ts → Steps k g (t ∷ ts)
 
 unfoldable end : Stage → List Turn → Stage
 end g [] = g
@@ -64,14 +64,14 @@ end g (t ∷ ts) = end (t .stage) ts
 
 -- what a step gives, in the definitions' words
 module _ {k : ℕ} {g : Stage} {ms : List ℕ} (m : Marks k g ms) where
-  some-is : {b : Bool} → some g (heldBy (g .hops) ms) ≡ b → marksSome k g ≡ b
+  some-is : {b : Bool} → some g (markSet (g .hops) ms) ≡ b → marksSome k g ≡ b
   unfolding someMarked
   some-is e = ap (some g) (marks-are m) ∙ e
 
-  next-is : {h : Stage} → next g (heldBy (g .hops) ms) ≡ h → nextStage k g ≡ h
+  next-is : {h : Stage} → next g (markSet (g .hops) ms) ≡ h → nextStage k g ≡ h
   next-is e = ap (next g) (marks-are m) ∙ e
 
-  marks-is : marksOf (g .hops) (heldBy (g .hops) ms) ≡ ms → marksOf (g .hops) (markedAt k g) ≡ ms
+  marks-is : marksOf (g .hops) (markSet (g .hops) ms) ≡ ms → marksOf (g .hops) (markedAt k g) ≡ ms
   marks-is e = ap (marksOf (g .hops)) (marks-are m) ∙ e
 
 -- so the repetition ends in the last of them
@@ -140,9 +140,9 @@ rows-given (row r rs) = λ d. row-given r d ∷ rows-given rs d
 rows : Rows (table .shrunk)
 unfolding
     all any least tabulate tally flat is labelled has before checkOf countsFit inside firstOutside ascendsAt firstNotAscending leadsBy onRing lowestOnRing ringAnswer approximant tried
-    setAt comes takes meets takesTo answersFrom answeredIn closesIn markedIn isSense senseOf senseAnswer markedFrom resting onward followed repOf newOf mapOf
+    inSetAt reachesBy hopOrStay joinsAt answersTo answersFrom answeredIn closesIn markedIn isSense senseOf senseAnswer markedFrom resting onward followed repOf newOf mapOf
     insert collected gathered shortHops shortShape mapList reduceAnswer
-    chained ownMap isMarked heldAt heldBy marksOf markOf closesAt leftAt end
+    chained ownMap isMarked markSetAt markSet marksOf markOf closesAt leftAt end
 rows = row chain-r1-row (row chain-r2-row (row chain-r3-row (row chain-r8-row (row p1-r1-row (row p2-r1-row (row twice-r2-row none)))))) where
   chain-r1-row : Row chain-r1
   chain-r1-row = record { answers = refl; few = refl; steps = step (marks refl refl) refl refl refl (step (marks refl refl) refl refl refl (still (marks refl refl) refl)); returns = refl; maps = refl; shorts = refl }
@@ -168,7 +168,7 @@ rows = row chain-r1-row (row chain-r2-row (row chain-r3-row (row chain-r8-row (r
 refusals : map refusedOf (table .refused) ≡ table .refused
 unfolding
     all any least tabulate tally flat is labelled has before checkOf countsFit inside firstOutside ascendsAt firstNotAscending leadsBy onRing lowestOnRing ringAnswer approximant tried
-    setAt comes takes meets takesTo answersFrom answeredIn closesIn markedIn isSense senseOf senseAnswer markedFrom resting onward followed repOf newOf mapOf
+    inSetAt reachesBy hopOrStay joinsAt answersTo answersFrom answeredIn closesIn markedIn isSense senseOf senseAnswer markedFrom resting onward followed repOf newOf mapOf
     insert collected gathered shortHops shortShape mapList reduceAnswer
     shrinkOf
 refusals = refl

@@ -1,7 +1,7 @@
 -- `c_mark::tell_mark_fast` meets its contract: where the answer slice is too short, only the answer is found. Assumes nothing.
 use mathlib.Core.Path.{ap}
 use Rattle.mark_entry_fast.specs.declared.Counted.{Counted}
-use Rattle.mark_entry_fast.specs.Fast.{countedOf}
+use Rattle.mark_entry_fast.specs.Fast.{markFastOf}
 use Rattle.c_mark.specs.Numbers.{countedNumbers}
 use Rattle.c_answer.proofs.Answers.{returned-of}
 use Rattle.c_answer.proofs.Told.{told-of, short-told, short-kept, left-long}
@@ -36,7 +36,7 @@ same-length-3 : tie.Need-same-length-3
 same-length-3 c = search needs
 
 returns-2 : tie.Need-returns-2
-unfolding countedOf
+unfolding markFastOf
 returns-2 c =
     let m = c .before .before .before .before .before .before .mark-fast .ensures in
     let l = c .before .before .before .before .before .before .before .before .if1 .left in

@@ -1,18 +1,18 @@
 -- `mark_batch::try_batch` meets its contract: the tables are those of a batch, and judging by them is a step of a sweep. Assumes nothing.
 use borrow.Author.Needs.{needs}
 use Rattle.mark_senses.specs.Senses.{senseOf}
-use Rattle.mark_batch.proofs.Trying.{Tables, judged-swept}
+use Rattle.mark_batch.proofs.Trying.{Tables, filtered-swept}
 use Rattle.mark_batch.proofs.try_batch.Statement.{statement}
 use Rattle.mark_batch.proofs.try_batch.Tie as tie
 
 put-ends-requires : tie.Need-put-ends-requires
 put-ends-requires c κs = let st = c .before .before .before in (st .pre .0 .ready, (st .pre .1 .1 .0, st .pre .1 .1 .1))
 
-close-requires : tie.Need-close-requires
-close-requires c κs = let st = c .before .before .before .before .before .before in (st .pre .0 .ready, (st .pre .0 .lined, st .pre .1 .0 .capacity))
+closing-table-requires : tie.Need-closing-table-requires
+closing-table-requires c κs = let st = c .before .before .before .before .before .before in (st .pre .0 .ready, (st .pre .0 .ordered, st .pre .1 .0 .capacity))
 
-follow-requires : tie.Need-follow-requires
-follow-requires c κs = let st = c .before .before .before .before .before .before .before .before .before in (st .pre .0 .ready, (st .pre .0 .lined, st .pre .1 .0 .capacity))
+after-table-requires : tie.Need-after-table-requires
+after-table-requires c κs = let st = c .before .before .before .before .before .before .before .before .before in (st .pre .0 .ready, (st .pre .0 .ordered, st .pre .1 .0 .capacity))
 
 put-labels-requires : tie.Need-put-labels-requires
 put-labels-requires c κs = let st = c .before .before .before .before .before .before .before .before .before .before .before in (st .pre .0 .admitted, (st .pre .1 .1 .0, st .pre .1 .1 .1))
@@ -20,17 +20,17 @@ put-labels-requires c κs = let st = c .before .before .before .before .before .
 put-answers-requires : tie.Need-put-answers-requires
 put-answers-requires c κs = let st = c .before .before .before .before .before .before .before .before .before .before .before .before .before .before .before in st .pre .0 .admitted
 
-lead-requires : tie.Need-lead-requires
-lead-requires c κs = let st = c .before .before .before .before .before .before .before .before .before .before .before .before .before .before .before .before .before .before in (st .pre .0 .ready, (st .pre .0 .lined, st .pre .1 .0 .capacity))
+before-table-requires : tie.Need-before-table-requires
+before-table-requires c κs = let st = c .before .before .before .before .before .before .before .before .before .before .before .before .before .before .before .before .before .before in (st .pre .0 .ready, (st .pre .0 .ordered, st .pre .1 .0 .capacity))
 
-touch-requires : tie.Need-touch-requires
-touch-requires c κs = search needs
+record-touched-requires : tie.Need-record-touched-requires
+record-touched-requires c κs = search needs
 
 put-froms-requires : tie.Need-put-froms-requires
 put-froms-requires c κs = let st = c .before .before .before .before .before .before .before .before .before .before .before .before .before .before .before .before .before .before .before .before .before .before .before .before in (st .pre .0 .ready, (st .pre .1 .1 .0, st .pre .1 .1 .1))
 
-judge-requires : tie.Need-judge-requires
-judge-requires c κs = let st = c .before .before .before .before .before .before .before .before .before .before .before .before .before .before .before .before .before .before .before .before .before .before .before .before .before .before .before .before in (st .pre .0 .ready, st .pre .1 .0 .capacity)
+filter-requires : tie.Need-filter-requires
+filter-requires c κs = let st = c .before .before .before .before .before .before .before .before .before .before .before .before .before .before .before .before .before .before .before .before .before .before .before .before .before .before .before .before in (st .pre .0 .ready, st .pre .1 .0 .capacity)
 
 same-length : tie.Need-same-length
 same-length c = search needs
@@ -46,27 +46,27 @@ returns c =
       labels = _;
       taken = _;
       ends-are = c .before .before .before .before .before .before .before .before .before .before .before .before .before .before .before .before .before .before .before .before .before .before .before .before .before .before .before .put-ends .ensures;
-      closed-are = c .before .before .before .before .before .before .before .before .before .before .before .before .before .before .before .before .before .before .before .before .before .before .before .before .close .ensures;
-      followed-are = c .before .before .before .before .before .before .before .before .before .before .before .before .before .before .before .before .before .before .before .before .before .follow .ensures;
+      closed-are = c .before .before .before .before .before .before .before .before .before .before .before .before .before .before .before .before .before .before .before .before .before .before .before .before .closing-table .ensures;
+      followed-are = c .before .before .before .before .before .before .before .before .before .before .before .before .before .before .before .before .before .before .before .before .before .after-table .ensures;
       labels-are = c .before .before .before .before .before .before .before .before .before .before .before .before .before .before .before .before .before .before .before .put-labels .ensures;
       taken-are = c .before .before .before .before .before .before .before .before .before .before .before .before .before .before .before .put-answers .ensures;
-      answers-are = c .before .before .before .before .before .before .before .before .before .before .before .before .lead .ensures;
+      answers-are = c .before .before .before .before .before .before .before .before .before .before .before .before .before-table .ensures;
     } in
-    judged-swept (senseOf (st .args .sense)) (st .args .shape) (st .args .hops .now) (st .args .marks .now) (st .pre .1 .0) (st .args .base) (st .args .m) _ _
-    (st .pre .1 .1 .0) (st .pre .1 .1 .1) (c .before .before .before .before .before .before .put-froms .ensures) tables _ _ (c .before .before .judge .ensures)
+    filtered-swept (senseOf (st .args .sense)) (st .args .shape) (st .args .hops .now) (st .args .marks .now) (st .pre .1 .0) (st .args .base) (st .args .m) _ _
+    (st .pre .1 .1 .0) (st .pre .1 .1 .1) (c .before .before .before .before .before .before .put-froms .ensures) tables _ _ (c .before .before .filter .ensures)
 
 pub try-batch-spec : {M : Type 1} → statement M
 try-batch-spec =
     tie.close
     (tie.spec
     put-ends-requires
-    close-requires
-    follow-requires
+    closing-table-requires
+    after-table-requires
     put-labels-requires
     put-answers-requires
-    lead-requires
-    touch-requires
+    before-table-requires
+    record-touched-requires
     put-froms-requires
-    judge-requires
+    filter-requires
     same-length
     returns)

@@ -10,7 +10,7 @@ use Rattle.graph.specs.Answers.{most-states}
 use Rattle.graph.specs.Hops.{from, to}
 use Rattle.graph.specs.declared.Hop.{Hop}
 use Rattle.base_bitset.specs.Bits.{bitAt, bitIn, word-bits}
-use Rattle.mark_batch_filter.specs.Judged.{fits}
+use Rattle.mark_batch_filter.specs.Filtered.{fits}
 use Rattle.mark_batch_filter.proofs.fits_at.Statement.{statement}
 use Rattle.mark_batch_filter.proofs.fits_at.Tie as tie
 

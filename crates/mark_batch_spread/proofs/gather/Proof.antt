@@ -8,26 +8,26 @@ use borrow.Author.Needs.{needs}
 use lib.ListN.{length}
 use Rattle.graph.specs.Hops.{count, from, to}
 use Rattle.graph.specs.Answers.{most-states}
-use Rattle.mark_batch_spread.proofs.Along.{Gathered, gathered-none, gathered-more, gathered-over, gathered-all, on-is, length-given, given-gave}
+use Rattle.mark_batch_spread.proofs.Along.{Gathered, gathered-none, gathered-more, gathered-over, gathered-all, on-is, length-spread, spread-step}
 use Rattle.mark_batch_spread.proofs.gather.Statement.{statement}
 use Rattle.mark_batch_spread.proofs.gather.Tie as tie
 
 abbrev Inv-loop : tie.InvT-loop
-Inv-loop hops marks line n words₀ k₀ words k = (k ≤ n) × (length words ≡ most-states) × Gathered hops marks line k words₀ words
+Inv-loop hops marks sorted n words₀ k₀ words k = (k ≤ n) × (length words ≡ most-states) × Gathered hops marks sorted k words₀ words
 
 abbrev μ-loop : tie.MeasureT-loop
-μ-loop hops marks line n words₀ k₀ words k = n - k
+μ-loop hops marks sorted n words₀ k₀ words k = n - k
 
 sized-requires : tie.Need-sized-requires Inv-loop μ-loop
 sized-requires c κs = search needs
 
-sized-line-requires : tie.Need-sized-line-requires Inv-loop μ-loop
-sized-line-requires c κs = search needs
+sized-order-requires : tie.Need-sized-order-requires Inv-loop μ-loop
+sized-order-requires c κs = search needs
 
 loop-holds : tie.Need-loop-holds Inv-loop μ-loop
 loop-holds c =
     let a = c .before .before .before .before .before .args in
-    (omega arith, c .before .sized .ensures, gathered-none (a .hops .now) (a .marks .now) (a .line .now) (a .words .now))
+    (omega arith, c .before .sized .ensures, gathered-none (a .hops .now) (a .marks .now) (a .sorted .now) (a .words .now))
 
 mul-wide : tie.Need-mul-wide Inv-loop μ-loop
 mul-wide c = omega arith
@@ -61,8 +61,8 @@ from-at-requires c κs = place (c .before .before .before .before .before)
 wide-requires-3 : tie.Need-wide-requires-3 Inv-loop μ-loop
 wide-requires-3 c κs = search needs
 
-give-requires : tie.Need-give-requires Inv-loop μ-loop
-give-requires c κs =
+spread-to-requires : tie.Need-spread-to-requires Inv-loop μ-loop
+spread-to-requires c κs =
     let w = c .before .before .before .before .before .before .before in
     let r = start w .pre .0 in (
       omega (arith, r .to-in (w .wide .result) (place w), c .before .before .wide2 .ensures, c .before .before .before .to-at .ensures),
@@ -82,27 +82,27 @@ loop-again c =
     let st = start v in
     let hs : List ℕ = st .args .hops .now in
     let ms : List ℕ = st .args .marks .now in
-    let line : List ℕ = st .args .line .now in
+    let sorted : List ℕ = st .args .sorted .now in
     let old : List ℕ = st .args .words .now in
     let now : List ℕ = a .loop .words in
     let l = v .before .before .loop-test .taken in
     let q = v .wide .ensures in
     let m = c .before .marked-at .ensures in (
       omega arith,
-      ⊎-elim (λ w. length-given now (w .3 .result) (w .5 .result) (w .7 ∙ w .6 .ensures) ∙ a .loop .inv .1)
+      ⊎-elim (λ w. length-spread now (w .3 .result) (w .5 .result) (w .7 ∙ w .6 .ensures) ∙ a .loop .inv .1)
           (λ w. ap length (w .1) ∙ a .loop .inv .1) (c .if1 .came),
       ⊎-elim
-          (λ w. gathered-more hs ms line (st .pre .1 .0) l (on-is ms q m (w .0 .taken)) old now (c .if1 .words)
-          (given-gave now (to hs) (from hs) q (w .3 .ensures ∙ w .2 .ensures) (w .5 .ensures ∙ w .4 .ensures)
+          (λ w. gathered-more hs ms sorted (st .pre .1 .0) l (on-is ms q m (w .0 .taken)) old now (c .if1 .words)
+          (spread-step now (to hs) (from hs) q (w .3 .ensures ∙ w .2 .ensures) (w .5 .ensures ∙ w .4 .ensures)
           (omega (arith, st .pre .0 .from-in (v .wide .result) (place v), w .5 .ensures, w .4 .ensures, a .loop .inv .1)) (w .7 ∙ w .6 .ensures)) (a .loop .inv .2))
-          (λ w. rw (w .1) (gathered-over hs ms line (st .pre .1 .0) l (on-is ms q m (w .0 .left)) old now (a .loop .inv .2))) (c .if1 .came),
+          (λ w. rw (w .1) (gathered-over hs ms sorted (st .pre .1 .0) l (on-is ms q m (w .0 .left)) old now (a .loop .inv .2))) (c .if1 .came),
     )
 
 returns : tie.Need-returns Inv-loop μ-loop
 returns c =
     let a = c .before in
     let st = a .before .before .before .before .before .before in
-    gathered-all (st .args .hops .now) (st .args .marks .now) (st .args .line .now) (st .pre .1 .0) (st .args .words .now) (a .loop .words) (omega arith)
+    gathered-all (st .args .hops .now) (st .args .marks .now) (st .args .sorted .now) (st .pre .1 .0) (st .args .words .now) (a .loop .words) (omega arith)
     (a .loop .inv .2)
 
 pub gather-spec : {M : Type 1} → statement M
@@ -112,7 +112,7 @@ gather-spec =
     Inv-loop
     μ-loop
     sized-requires
-    sized-line-requires
+    sized-order-requires
     loop-holds
     mul-wide
     element-copy-out-wide
@@ -122,7 +122,7 @@ gather-spec =
     wide-requires-2
     from-at-requires
     wide-requires-3
-    give-requires
+    spread-to-requires
     add-k
     loop-less
     loop-again

@@ -7,26 +7,26 @@ use borrow.Author.Needs.{needs}
 use lib.ListN.{length}
 use Rattle.graph.specs.Hops.{count, from, to}
 use Rattle.graph.specs.Answers.{most-states}
-use Rattle.mark_batch_spread.proofs.Along.{PassedOn, passed-on-none, passed-on-more, passed-on-over, passed-on-all, on-is, length-given, given-gave}
+use Rattle.mark_batch_spread.proofs.Along.{PassedOn, passed-on-none, passed-on-more, passed-on-over, passed-on-all, on-is, length-spread, spread-step}
 use Rattle.mark_batch_spread.proofs.pass_on.Statement.{statement}
 use Rattle.mark_batch_spread.proofs.pass_on.Tie as tie
 
 abbrev Inv-loop : tie.InvT-loop
-Inv-loop hops marks line n words₀ k₀ words k = (k ≤ n) × (length words ≡ most-states) × PassedOn hops marks line n k words₀ words
+Inv-loop hops marks sorted n words₀ k₀ words k = (k ≤ n) × (length words ≡ most-states) × PassedOn hops marks sorted n k words₀ words
 
 abbrev μ-loop : tie.MeasureT-loop
-μ-loop hops marks line n words₀ k₀ words k = k
+μ-loop hops marks sorted n words₀ k₀ words k = k
 
 sized-requires : tie.Need-sized-requires Inv-loop μ-loop
 sized-requires c κs = search needs
 
-sized-line-requires : tie.Need-sized-line-requires Inv-loop μ-loop
-sized-line-requires c κs = search needs
+sized-order-requires : tie.Need-sized-order-requires Inv-loop μ-loop
+sized-order-requires c κs = search needs
 
 loop-holds : tie.Need-loop-holds Inv-loop μ-loop
 loop-holds c =
     let a = c .before .before .before .before .before .args in
-    (omega arith, c .before .sized .ensures, passed-on-none (a .hops .now) (a .marks .now) (a .line .now) (a .n) (a .words .now))
+    (omega arith, c .before .sized .ensures, passed-on-none (a .hops .now) (a .marks .now) (a .sorted .now) (a .n) (a .words .now))
 
 sub-k : tie.Need-sub-k Inv-loop μ-loop
 sub-k c = omega arith
@@ -63,8 +63,8 @@ to-at-requires c κs = place (c .before .before .before .before .before)
 wide-requires-3 : tie.Need-wide-requires-3 Inv-loop μ-loop
 wide-requires-3 c κs = search needs
 
-give-requires : tie.Need-give-requires Inv-loop μ-loop
-give-requires c κs =
+spread-to-requires : tie.Need-spread-to-requires Inv-loop μ-loop
+spread-to-requires c κs =
     let w = c .before .before .before .before .before .before .before in
     let r = start w .pre .0 in (
       omega (arith, r .from-in (w .wide .result) (place w), c .before .before .wide2 .ensures, c .before .before .before .from-at .ensures),
@@ -82,14 +82,14 @@ loop-again c =
     let hs : List ℕ = st .args .hops .now in
     let ms : List ℕ = st .args .marks .now in
     let now : List ℕ = a .loop .words in
-    let e = c .give .ensures in
+    let e = c .spread-to .ensures in
     let t = c .before .before .before .before .before .before in
     let on = on-is ms (v .wide .ensures) (t .before .marked-at .ensures) (t .if1 .taken) in (
       omega arith,
-      length-given now (c .before .before .before .wide2 .result) (c .before .wide3 .result) e ∙ a .loop .inv .1,
-      passed-on-more hs ms (st .args .line .now) (st .pre .1 .0) (omega arith) on (st .args .words .now) now _
+      length-spread now (c .before .before .before .wide2 .result) (c .before .wide3 .result) e ∙ a .loop .inv .1,
+      passed-on-more hs ms (st .args .sorted .now) (st .pre .1 .0) (omega arith) on (st .args .words .now) now _
           (omega arith)
-          (given-gave now (from hs) (to hs) (v .wide .ensures)
+          (spread-step now (from hs) (to hs) (v .wide .ensures)
           (c .before .before .before .wide2 .ensures ∙ c .before .before .before .before .from-at .ensures) (c .before .wide3 .ensures ∙ c .before .before .to-at .ensures)
           (omega (arith, st .pre .0 .to-in (v .wide .result) (place v), c .before .wide3 .ensures, c .before .before .to-at .ensures, a .loop .inv .1)) e)
           (a .loop .inv .2),
@@ -107,14 +107,14 @@ loop-again-2 c =
     let off = on-is ms (v .wide .ensures) (c .before .marked-at .ensures) (c .if1 .left) in (
       omega arith,
       a .loop .inv .1,
-      passed-on-over (st .args .hops .now) ms (st .args .line .now) (st .pre .1 .0) (omega arith) off (st .args .words .now) (a .loop .words) (omega arith) (a .loop .inv .2),
+      passed-on-over (st .args .hops .now) ms (st .args .sorted .now) (st .pre .1 .0) (omega arith) off (st .args .words .now) (a .loop .words) (omega arith) (a .loop .inv .2),
     )
 
 returns : tie.Need-returns Inv-loop μ-loop
 returns c =
     let a = c .before in
     let st = a .before .before .before .before .before .before in
-    passed-on-all (st .args .hops .now) (st .args .marks .now) (st .args .line .now) (st .pre .1 .0) (st .args .words .now) (a .loop .words) (omega arith)
+    passed-on-all (st .args .hops .now) (st .args .marks .now) (st .args .sorted .now) (st .pre .1 .0) (st .args .words .now) (a .loop .words) (omega arith)
     (a .loop .inv .2)
 
 pub pass-on-spec : {M : Type 1} → statement M
@@ -124,7 +124,7 @@ pass-on-spec =
     Inv-loop
     μ-loop
     sized-requires
-    sized-line-requires
+    sized-order-requires
     loop-holds
     sub-k
     mul-wide
@@ -135,7 +135,7 @@ pass-on-spec =
     wide-requires-2
     to-at-requires
     wide-requires-3
-    give-requires
+    spread-to-requires
     loop-less
     loop-again
     loop-less-2

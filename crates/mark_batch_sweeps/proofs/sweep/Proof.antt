@@ -7,19 +7,19 @@ use lib.ListN.{length}
 use Rattle.graph.specs.Hops.{count}
 use Rattle.mark_senses.specs.Senses.{senseOf, markedBy}
 use Rattle.mark_sweeps.specs.Sweep.{Swept}
-use Rattle.mark_sweeps.proofs.Settling.{count-within, swept-none, swept-then}
+use Rattle.mark_sweeps.proofs.Fixpoint.{count-within, swept-none, swept-then}
 use Rattle.mark_batch.specs.Batch.{TriedIn}
 use Rattle.mark_batch.proofs.Trying.{tried-more}
 use Rattle.mark_batch_sweeps.proofs.sweep.Statement.{statement}
 use Rattle.mark_batch_sweeps.proofs.sweep.Tie as tie
 
 abbrev Inv-loop : tie.InvT-loop
-Inv-loop shape hops line n sense noted marks₀ touched₀ past lost₀ base₀ marks touched lost base =
+Inv-loop shape hops sorted n sense recorded marks₀ touched₀ past lost₀ base₀ marks touched lost base =
     (past ≡ count hops) × (base ≤ past) × (length marks ≡ length marks₀) ×
     Swept hops (markedBy sense shape hops) (TriedIn (senseOf sense) hops 0 base) marks₀ marks lost
 
 abbrev μ-loop : tie.MeasureT-loop
-μ-loop shape hops line n sense noted marks₀ touched₀ past lost₀ base₀ marks touched lost base = past - base
+μ-loop shape hops sorted n sense recorded marks₀ touched₀ past lost₀ base₀ marks touched lost base = past - base
 
 hop-count-requires : tie.Need-hop-count-requires Inv-loop μ-loop
 hop-count-requires c κs = search needs

@@ -17,8 +17,8 @@ Inv-loop hops labels ends out₀ n i₀ out i = (n ≡ count hops) × (i ≤ n) 
 abbrev μ-loop : tie.MeasureT-loop
 μ-loop hops labels ends out₀ n i₀ out i = n - i
 
-put-still-requires : tie.Need-put-still-requires Inv-loop μ-loop
-put-still-requires c κs = search needs
+put-stay-requires : tie.Need-put-stay-requires Inv-loop μ-loop
+put-stay-requires c κs = search needs
 
 sized-requires : tie.Need-sized-requires Inv-loop μ-loop
 sized-requires c κs = search needs
@@ -27,7 +27,7 @@ hop-count-requires : tie.Need-hop-count-requires Inv-loop μ-loop
 hop-count-requires c κs = search needs
 
 loop-holds : tie.Need-loop-holds Inv-loop μ-loop
-loop-holds c = (c .hop-count .ensures, omega arith, c .before .sized .ensures, answered-none _ _ _ _ (c .before .before .before .put-still .ensures))
+loop-holds c = (c .hop-count .ensures, omega arith, c .before .sized .ensures, answered-none _ _ _ _ (c .before .before .before .put-stay .ensures))
 
 hop-at-requires : tie.Need-hop-at-requires Inv-loop μ-loop
 hop-at-requires c κs = omega arith
@@ -115,7 +115,7 @@ put-answers-spec =
     (tie.spec
     Inv-loop
     μ-loop
-    put-still-requires
+    put-stay-requires
     sized-requires
     hop-count-requires
     loop-holds

@@ -6,13 +6,13 @@ use borrow.Author.Needs.{needs}
 use lib.ListN.{length, length-replicate}
 use Rattle.graph.specs.Hops.{from}
 use Rattle.graph.specs.Answers.{most-states}
-use Rattle.mark_batch_tables.specs.Trials.{Keyed}
-use Rattle.mark_batch_tables.proofs.Keys.{keyed-none, put-length, keyed-more}
+use Rattle.mark_batch_tables.specs.BatchTables.{KeyTable}
+use Rattle.mark_batch_tables.proofs.Keys.{key-table-none, put-length, key-table-more}
 use Rattle.mark_batch_tables.proofs.put_froms.Statement.{statement}
 use Rattle.mark_batch_tables.proofs.put_froms.Tie as tie
 
 abbrev Inv-loop : tie.InvT-loop
-Inv-loop hops base m words₀ b₀ words b = (b ≤ m) × (length words ≡ most-states) × Keyed (from hops) base b words
+Inv-loop hops base m words₀ b₀ words b = (b ≤ m) × (length words ≡ most-states) × KeyTable (from hops) base b words
 
 abbrev μ-loop : tie.MeasureT-loop
 μ-loop hops base m words₀ b₀ words b = m - b
@@ -21,7 +21,7 @@ clear-requires : tie.Need-clear-requires Inv-loop μ-loop
 clear-requires c κs = search needs
 
 loop-holds : tie.Need-loop-holds Inv-loop μ-loop
-loop-holds c = (omega arith, ap length (c .clear .ensures) ∙ length-replicate {A = ℕ} most-states 0, keyed-none (from (c .before .before .before .args .hops .now)) (c .before .before .before .args .base) most-states (c .clear .last .0) (c .clear .ensures))
+loop-holds c = (omega arith, ap length (c .clear .ensures) ∙ length-replicate {A = ℕ} most-states 0, key-table-none (from (c .before .before .before .args .hops .now)) (c .before .before .before .args .base) most-states (c .clear .last .0) (c .clear .ensures))
 
 add-from-at : tie.Need-add-from-at Inv-loop μ-loop
 add-from-at c = omega arith
@@ -49,7 +49,7 @@ loop-again c =
     omega (arith, c .before .from-at .ensures, v .inv .1, st .pre .0 .from-in (st .args .base + v .b) (omega arith)) in (
       omega arith,
       put-length (v .words) (c .before .from-at .result .0) (v .b) (c .put-bit .ensures) ∙ v .inv .1,
-      keyed-more (from (st .args .hops .now)) (st .args .base) (v .b) (v .words) (c .put-bit .last .0) (c .before .from-at .result .0) (v .inv .2) (c .before .from-at .ensures) l
+      key-table-more (from (st .args .hops .now)) (st .args .base) (v .b) (v .words) (c .put-bit .last .0) (c .before .from-at .result .0) (v .inv .2) (c .before .from-at .ensures) l
           (c .put-bit .ensures),
     )
 

@@ -11,8 +11,8 @@ use borrow.Author.Tests.{not-false}
 use Rattle.graph.specs.Hops.{from, label, to}
 use Rattle.graph.specs.Answers.{most-states}
 use Rattle.mark_confluence.specs.Rounds.{closing, answers, tried}
-use Rattle.mark_confluence.specs.Held.{heldBy}
-use Rattle.mark_diamond.specs.Walk.{Skipped}
+use Rattle.mark_confluence.specs.MarkSet.{markSet}
+use Rattle.mark_diamond.specs.Skipped.{Skipped}
 use Rattle.graph_successors.proofs.Firsts.{start-is}
 use Rattle.graph_successors.proofs.Rows.{row-absent}
 use Rattle.mark_diamond.proofs.Rows.{own-in, Walk, walk-start, walk-past, walk-row, walk-skip, walk-pass, likeAt, Beside, beside-start, beside-next, like-has, answered-stays, tried-before, tried-done, tried-fails, tried-next}
@@ -22,7 +22,7 @@ use Rattle.mark_diamond.proofs.closes_at.Tie as tie
 abbrev Inv-loop : tie.InvT-loop
 Inv-loop hops starts marks i s1 s2 t2 end past at₀ same₀ j₀ at same j =
     Walk hops (from hops i) (to hops i) end past at j × Beside hops (to hops i) end past same j ×
-    ((k : ℕ) → k < j → tried hops (answers hops (closing (heldBy hops marks))) (from hops i) (to hops i) k ≡ true)
+    ((k : ℕ) → k < j → tried hops (answers hops (closing (markSet hops marks))) (from hops i) (to hops i) k ≡ true)
 
 abbrev μ-loop : tie.MeasureT-loop
 μ-loop hops starts marks i s1 s2 t2 end past at₀ same₀ j₀ at same j = end - j
@@ -126,8 +126,8 @@ skipped : (c : tie.After-skip Inv-loop μ-loop) →
     Skipped (c .before .before .before .before .before .before .before .before .before .before .before .before .before .before .before .before .args .hops .now) (c .before .before .before .before .before .loop .at) (c .before .before .before .before .before .before .before .before .start-of2 .result) (label (c .before .before .before .before .before .before .before .before .before .before .before .before .before .before .before .before .args .hops .now) (c .before .before .before .before .before .loop .j)) (c .skip .result)
 skipped c = rw (c .before .label-at .ensures) at (c .skip .ensures)
 
-is-met-requires : tie.Need-is-met-requires Inv-loop μ-loop
-is-met-requires c κs =
+is-answered-unless-alike-requires : tie.Need-is-answered-unless-alike-requires Inv-loop μ-loop
+is-answered-unless-alike-requires c κs =
     let st = c .before .before .before .before .before .before .before .before .before .before .before .before .before .before .before .before .before .before .before .before .before in
     let w = c .before .before .before .before .before .before .before .before .before .before .loop .inv .0 in
     let l = c .before .before .before .before .before .before .before .before .before .loop-test .taken in
@@ -149,7 +149,7 @@ is-met-requires c κs =
 returns : tie.Need-returns Inv-loop μ-loop
 returns c =
     tried-fails _ (c .before .before .before .before .before .before .before .before .before .before .before .before .before .before .before .before .before .before .before .before .before .before .before .pre .0 .ascending) _ _ (c .before .before .before .before .before .before .before .before .before .before .before .before .loop .inv .0 .own) (c .before .before .before .before .before .before .before .before .before .before .before .loop-test .taken) _ _
-    (c .before .before .before .before .before .before .before .before .before .before .before .before .before .before .before .before .before .before .to-at .ensures) (c .before .is-met .ensures) (c .if2 .taken)
+    (c .before .before .before .before .before .before .before .before .before .before .before .before .before .before .before .before .before .before .to-at .ensures) (c .before .is-answered-unless-alike .ensures) (c .if2 .taken)
 
 add-j : tie.Need-add-j Inv-loop μ-loop
 add-j c = omega (arith, own-in _ (c .before .before .before .before .before .before .before .before .before .before .before .before .before .before .pre .0 .ascending) _ _ (c .before .before .before .loop .inv .0 .own) (c .before .before .loop-test .taken))
@@ -201,7 +201,7 @@ closes-at-spec =
     find-ahead-requires
     place-of-requires
     is-at-requires
-    is-met-requires
+    is-answered-unless-alike-requires
     returns
     add-j
     loop-less

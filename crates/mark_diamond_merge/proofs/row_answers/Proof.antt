@@ -6,7 +6,7 @@ use native.Mathlib.Omega.{arith}
 use borrow.Author.Needs.{needs}
 use Rattle.graph.specs.Hops.{to, hopOf}
 use Rattle.mark_confluence.specs.Rounds.{closing}
-use Rattle.mark_confluence.specs.Held.{heldBy}
+use Rattle.mark_confluence.specs.MarkSet.{markSet}
 use Rattle.graph_successors.proofs.Firsts.{start-is, range-more}
 use Rattle.graph_successors.proofs.Rows.{row-absent}
 use Rattle.mark_confluence.proofs.Closing.{closing-is, closing-same}
@@ -17,7 +17,7 @@ use Rattle.mark_diamond_merge.proofs.row_answers.Tie as tie
 
 abbrev Inv-loop : tie.InvT-loop
 Inv-loop hops starts marks a s3 past t3 end m₀ k₀ m k =
-    (k₀ ≤ k) × ((j : ℕ) → k₀ ≤ j → j < k → closing (heldBy hops marks) (s3 .0) (to hops j) ≡ false) × Along hops (a .0) (s3 .0) past end m k
+    (k₀ ≤ k) × ((j : ℕ) → k₀ ≤ j → j < k → closing (markSet hops marks) (s3 .0) (to hops j) ≡ false) × Along hops (a .0) (s3 .0) past end m k
 
 abbrev μ-loop : tie.MeasureT-loop
 μ-loop hops starts marks a s3 past t3 end m₀ k₀ m k = past - k
@@ -60,7 +60,7 @@ returns-2 : tie.Need-returns-2 Inv-loop μ-loop
 returns-2 c =
     let st = c .before .before .before .before .before .before .before .before .before .before .before .before .before .before .before in
     row-answers (st .args .hops .now) (st .pre .0 .ascending) _ _ _ _ (st .pre .1 .1 .1 .0) (c .before .before .before .before .before .before .before .before .before .loop .inv .0) (omega arith) (omega arith)
-    (c .before .before .before .to-at .ensures) (sym (closing-same (heldBy _ (st .args .marks .now)) _ _ (c .if2 .taken))) refl
+    (c .before .before .before .to-at .ensures) (sym (closing-same (markSet _ (st .args .marks .now)) _ _ (c .if2 .taken))) refl
 
 hop-of-requires : tie.Need-hop-of-requires Inv-loop μ-loop
 hop-of-requires c κs = search needs

@@ -9,19 +9,19 @@ use borrow.Author.Tests.{ne-eqb}
 use Rattle.graph.specs.Hops.{from, to}
 use Rattle.graph.specs.Answers.{most-states}
 use Rattle.mark_confluence.specs.Rounds.{closing, answers, tried}
-use Rattle.mark_confluence.specs.Held.{heldBy, isMarked}
+use Rattle.mark_confluence.specs.MarkSet.{markSet, isMarked}
 use Rattle.graph_successors.proofs.Firsts.{start-is}
 use Rattle.mark_diamond.proofs.Rows.{Own, own-start, own-in, own-from, own-next, tried-before, tried-done, tried-fails, tried-next}
-use Rattle.mark_diamond_retest.proofs.Rows.{unshed-at}
+use Rattle.mark_diamond_retest.proofs.Rows.{clean-at}
 use Rattle.mark_diamond_retest.proofs.closes_again.Statement.{statement}
 use Rattle.mark_diamond_retest.proofs.closes_again.Tie as tie
 
 abbrev Inv-loop : tie.InvT-loop
-Inv-loop hops starts marks shed i s1 s2 end j₀ j =
-    Own hops (from hops i) end j × ((k : ℕ) → k < j → tried hops (answers hops (closing (heldBy hops marks))) (from hops i) (to hops i) k ≡ true)
+Inv-loop hops starts marks dirty i s1 s2 end j₀ j =
+    Own hops (from hops i) end j × ((k : ℕ) → k < j → tried hops (answers hops (closing (markSet hops marks))) (from hops i) (to hops i) k ≡ true)
 
 abbrev μ-loop : tie.MeasureT-loop
-μ-loop hops starts marks shed i s1 s2 end j₀ j = end - j
+μ-loop hops starts marks dirty i s1 s2 end j₀ j = end - j
 
 from-at-requires : tie.Need-from-at-requires Inv-loop μ-loop
 from-at-requires c κs = search needs
@@ -94,7 +94,7 @@ loop-again c =
     let end = c .before .before .wide2 .ensures ∙ c .before .before .before .to-at2 .ensures in (
       own-next _ up _ _ o l,
       ⊎-elim (λ w. tried-next _ up _ _ o l _ _ t (w .1 .ensures) (w .2 .left) f)
-          (λ w. tried-next _ up _ _ o l _ _ t (sym (unshed-at _ _ _ (st .args .i) (st .pre .1 .1 .1 .1) (own-in _ up _ _ o l) (own-from _ up _ _ o l) t (rw end at (ne-eqb _ _ (w .left))))) refl f)
+          (λ w. tried-next _ up _ _ o l _ _ t (sym (clean-at _ _ _ (st .args .i) (st .pre .1 .1 .1 .1) (own-in _ up _ _ o l) (own-from _ up _ _ o l) t (rw end at (ne-eqb _ _ (w .left))))) refl f)
           (c .if1 .came),
     )
 

@@ -6,7 +6,7 @@ use native.Mathlib.Omega.{arith}
 use borrow.Author.Needs.{needs}
 use Rattle.graph.specs.Hops.{to}
 use Rattle.mark_confluence.specs.Rounds.{closing}
-use Rattle.mark_confluence.specs.Held.{heldBy}
+use Rattle.mark_confluence.specs.MarkSet.{markSet}
 use Rattle.graph_successors.proofs.Firsts.{range-more}
 use Rattle.mark_confluence.proofs.Closing.{closing-is}
 use Rattle.mark_diamond_merge.proofs.Rows.{row-answers, row-ends}
@@ -15,7 +15,7 @@ use Rattle.mark_diamond_search.proofs.few_answer.Tie as tie
 
 abbrev Inv-loop : tie.InvT-loop
 Inv-loop hops starts marks a s3 past k₀ k =
-    (k₀ ≤ k) × ((j : ℕ) → k₀ ≤ j → j < k → closing (heldBy hops marks) (s3 .0) (to hops j) ≡ false)
+    (k₀ ≤ k) × ((j : ℕ) → k₀ ≤ j → j < k → closing (markSet hops marks) (s3 .0) (to hops j) ≡ false)
 
 abbrev μ-loop : tie.MeasureT-loop
 μ-loop hops starts marks a s3 past k₀ k = past - k

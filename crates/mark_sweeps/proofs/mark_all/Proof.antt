@@ -2,8 +2,8 @@
 use borrow.Author.Needs.{needs}
 use Rattle.mark_confluence.specs.Rounds.{marked}
 use Rattle.mark_confluence.proofs.Marked.{marked-confluent}
-use Rattle.mark_sweeps.proofs.Settling.{first-marking}
-use Rattle.mark_confluence.specs.Held.{everyPair}
+use Rattle.mark_sweeps.proofs.Fixpoint.{first-marking}
+use Rattle.mark_confluence.specs.MarkSet.{everyPair}
 use Rattle.mark_confluence.proofs.Marks.{marks-over}
 use Rattle.mark_sweeps.proofs.mark_all.Statement.{statement}
 use Rattle.mark_sweeps.proofs.mark_all.Tie as tie
@@ -14,8 +14,8 @@ starts-of-requires c κs = search needs
 start-marks-requires : tie.Need-start-marks-requires
 start-marks-requires c κs = search needs
 
-settle-requires : tie.Need-settle-requires
-settle-requires c κs =
+sweep-to-fixpoint-requires : tie.Need-sweep-to-fixpoint-requires
+sweep-to-fixpoint-requires c κs =
     let st = c .before .before .before .before .before .before .before .before .before in
     (st .pre .0, (c .before .before .before .before .before .before .starts-of .ensures, first-marking _ _ (marked-confluent _ .silent) _ _ (st .pre .1) (c .before .before .before .before .start-marks .ensures)))
 
@@ -25,9 +25,9 @@ same-length c = search needs
 returns : tie.Need-returns
 returns c =
     let st = c .before .before .before .before .before .before .before .before .before .before .before .before in
-    marks-over (st .args .hops .now) (marked (st .args .hops .now)) everyPair (st .args .marks .now) (c .before .before .before .before .before .before .before .start-marks .ensures) (c .before .before .settle .ensures)
+    marks-over (st .args .hops .now) (marked (st .args .hops .now)) everyPair (st .args .marks .now) (c .before .before .before .before .before .before .before .start-marks .ensures) (c .before .before .sweep-to-fixpoint .ensures)
 
 pub mark-all-spec : {M : Type 1} → statement M
 mark-all-spec =
     tie.close
-    (tie.spec starts-of-requires start-marks-requires settle-requires same-length returns)
+    (tie.spec starts-of-requires start-marks-requires sweep-to-fixpoint-requires same-length returns)

@@ -7,14 +7,14 @@ use lib.ListN.{length}
 use Rattle.graph.specs.Hops.{count}
 use Rattle.mark_confluence.specs.Rounds.{marked}
 use borrow.Author.Count.{below-more}
-use Rattle.mark_sweeps.specs.Sweep.{Swept, StandsTo}
-use Rattle.mark_sweeps.proofs.Settling.{count-within, swept-none, swept-then}
+use Rattle.mark_sweeps.specs.Sweep.{Swept, ClosesUpTo}
+use Rattle.mark_sweeps.proofs.Fixpoint.{count-within, swept-none, swept-then}
 use Rattle.mark_sweeps.proofs.sweep.Statement.{statement}
 use Rattle.mark_sweeps.proofs.sweep.Tie as tie
 
 abbrev Inv-loop : tie.InvT-loop
 Inv-loop hops starts marks₀ n lost₀ i₀ marks lost i =
-    (n ≡ count hops) × (i ≤ n) × (length marks ≡ length marks₀) × Swept hops (marked hops) (StandsTo hops i) marks₀ marks lost
+    (n ≡ count hops) × (i ≤ n) × (length marks ≡ length marks₀) × Swept hops (marked hops) (ClosesUpTo hops i) marks₀ marks lost
 
 abbrev μ-loop : tie.MeasureT-loop
 μ-loop hops starts marks₀ n lost₀ i₀ marks lost i = n - i

@@ -7,10 +7,10 @@ use lib.ListN.{length}
 use lib.Dec.{ltb}
 use Rattle.base_bounded.specs.Quantifiers.{tally}
 use Rattle.graph.specs.Hops.{count}
-use Rattle.mark_confluence.specs.Held.{isMarked}
-use Rattle.mark_worklist_push.specs.Queue.{Tables, Leaving, Queue, Listed}
-use Rattle.mark_worklist_loop.specs.Falling.{AfterSome}
-use Rattle.mark_worklist_loop.proofs.Rounds.{noted-lists, noted-most, noted-spared, lists-listed, tested-queue, next-falls, after-next, leaving-next, after-less, after-early, after-tests, after-marks, tests-most}
+use Rattle.mark_confluence.specs.MarkSet.{isMarked}
+use Rattle.mark_worklist_push.specs.Queue.{Tables, Leaving, Queue, PlacesBelow}
+use Rattle.mark_worklist_loop.specs.BetweenRounds.{AfterSome}
+use Rattle.mark_worklist_loop.proofs.Rounds.{pushed-lists, pushed-most, pushed-spared, lists-listed, tested-queue, next-falls, after-next, leaving-next, after-less, after-early, after-tests, after-marks, tests-most}
 use Rattle.mark_worklist_loop.proofs.later_rounds.Statement.{statement}
 use Rattle.mark_worklist_loop.proofs.later_rounds.Tie as tie
 
@@ -38,9 +38,9 @@ loop-holds c =
     let st = c .before .before .before .before .before .before .before in
     (refl, record { ready = st .pre .0; table = st .pre .1 .0; begins = c .before .before .before .before .predecessor-starts .ensures; filled = c .before .before .places-of .ensures }, c .leaving-of .ensures, st .pre .1 .1 .1 .0, st .pre .1 .1 .1 .1)
 
-next-due-requires : tie.Need-next-due-requires Inv-loop μ-loop
-unfolding Listed
-next-due-requires c κs =
+next-queue-requires : tie.Need-next-queue-requires Inv-loop μ-loop
+unfolding PlacesBelow
+next-queue-requires c κs =
     let st = c .before .before .before .before .before .before .before .before .before .before .before .before .before .before .before .before in
     let v = c .before .before .before .before .before .before .before .before .loop .inv in
     let a = v .4 .1 in
@@ -53,21 +53,21 @@ add-sum c =
     let a = v .4 .1 in
     let hs = st .args .hops .now in
     let l = after-early hs a (c .before .before .before .before .before .before .before .before .loop-test .taken) in
-    omega (arith, noted-most hs a (v .3) (c .next-due .ensures), a .tests, tests-most hs (suc (v .4 .0)) (st .pre .0 .hops-most), st .pre .0 .hops-most)
+    omega (arith, pushed-most hs a (v .3) (c .next-queue .ensures), a .tests, tests-most hs (suc (v .4 .0)) (st .pre .0 .hops-most), st .pre .0 .hops-most)
 
-shed-of-requires : tie.Need-shed-of-requires Inv-loop μ-loop
-unfolding Listed
-shed-of-requires c κs =
+dirty-of-requires : tie.Need-dirty-of-requires Inv-loop μ-loop
+unfolding PlacesBelow
+dirty-of-requires c κs =
     let st = c .before .before .before .before .before .before .before .before .before .before .before .before .before .before .before .before .before .before in
     let a = c .before .before .before .before .before .before .before .before .before .before .loop .inv .4 .1 in
     (st .pre .0, (a .most, λ q l. a .falls .each q l .0))
 
-test-due-requires : tie.Need-test-due-requires Inv-loop μ-loop
-test-due-requires c κs =
+test-queue-requires : tie.Need-test-queue-requires Inv-loop μ-loop
+test-queue-requires c κs =
     let st = c .before .before .before .before .before .before .before .before .before .before .before .before .before .before .before .before .before .before .before .before .before .before .before .before in
     let v = c .before .before .before .before .before .before .before .before .before .before .before .before .before .before .before .before .loop .inv in
     let a = v .4 .1 in
-    let g = c .before .before .before .before .before .before .before .next-due .ensures in
+    let g = c .before .before .before .before .before .before .before .next-queue .ensures in
     let hs = st .args .hops .now in (
       st .pre .0,
       (
@@ -75,51 +75,51 @@ test-due-requires c κs =
         (
           omega (arith, v .0, st .pre .1 .1 .0),
           (
-            noted-spared hs a (v .3) g _ (c .before .before .before .before .before .shed-of .ensures),
+            pushed-spared hs a (v .3) g _ (c .before .before .before .before .before .dirty-of .ensures),
             (
               g .queue .flags,
-              (a .capacity, (omega (arith, noted-most hs a (v .3) g, st .pre .0 .hops-most), lists-listed hs (noted-lists hs a (v .3) g))),
+              (a .capacity, (omega (arith, pushed-most hs a (v .3) g, st .pre .0 .hops-most), lists-listed hs (pushed-lists hs a (v .3) g))),
             ),
           ),
         ),
       ),
     )
 
-take-fallen-requires : tie.Need-take-fallen-requires Inv-loop μ-loop
-take-fallen-requires c κs =
+unmark-fallen-requires : tie.Need-unmark-fallen-requires Inv-loop μ-loop
+unmark-fallen-requires c κs =
     let st = c .before .before .before .before .before .before .before .before .before .before .before .before .before .before .before .before .before .before .before .before .before .before .before .before .before .before .before in
     let v = c .before .before .before .before .before .before .before .before .before .before .before .before .before .before .before .before .before .before .before .loop .inv in
     let a = v .4 .1 in
-    let g = c .before .before .before .before .before .before .before .before .before .before .next-due .ensures in
-    let d = c .before .before .test-due .ensures in
+    let g = c .before .before .before .before .before .before .before .before .before .before .next-queue .ensures in
+    let d = c .before .before .test-queue .ensures in
     let hs = st .args .hops .now in
-    (omega (arith, d .most, noted-most hs a (v .3) g, st .pre .0 .hops-most), λ q l. let h = next-falls hs a (v .3) g d .each q l .0 in omega (arith, v .0, st .pre .1 .1 .0))
+    (omega (arith, d .most, pushed-most hs a (v .3) g, st .pre .0 .hops-most), λ q l. let h = next-falls hs a (v .3) g d .each q l .0 in omega (arith, v .0, st .pre .1 .1 .0))
 
 loop-less : tie.Need-loop-less Inv-loop μ-loop
 loop-less c =
     let st = c .before .before .before .before .before .before .before .before .before .before .before .before .before .before .before .before .before .before .before .before .before .before .before .before .before .before .before .before .before .before in
     let v = c .before .before .before .before .before .before .before .before .before .before .before .before .before .before .before .before .before .before .before .before .before .before .loop .inv in
     let a = v .4 .1 in
-    let g = c .before .before .before .before .before .before .before .before .before .before .before .before .before .next-due .ensures in
-    let d = c .before .before .before .before .before .test-due .ensures in
-    let w = c .before .before .take-fallen .ensures in
+    let g = c .before .before .before .before .before .before .before .before .before .before .before .before .before .next-queue .ensures in
+    let d = c .before .before .before .before .before .test-queue .ensures in
+    let w = c .before .before .unmark-fallen .ensures in
     let hs = st .args .hops .now in
-    after-less hs a (v .3) g d (omega (arith, v .0, st .pre .1 .1 .0, c .before .before .take-fallen .kept)) w (c .before .before .before .before .before .before .before .before .before .before .before .before .before .before .before .before .before .before .before .before .before .loop-test .taken)
+    after-less hs a (v .3) g d (omega (arith, v .0, st .pre .1 .1 .0, c .before .before .unmark-fallen .kept)) w (c .before .before .before .before .before .before .before .before .before .before .before .before .before .before .before .before .before .before .before .before .before .loop-test .taken)
 
 loop-again : tie.Need-loop-again Inv-loop μ-loop
 loop-again c =
     let st = c .before .before .before .before .before .before .before .before .before .before .before .before .before .before .before .before .before .before .before .before .before .before .before .before .before .before .before .before .before .before in
     let v = c .before .before .before .before .before .before .before .before .before .before .before .before .before .before .before .before .before .before .before .before .before .before .loop .inv in
     let a = v .4 .1 in
-    let g = c .before .before .before .before .before .before .before .before .before .before .before .before .before .next-due .ensures in
-    let d = c .before .before .before .before .before .test-due .ensures in
-    let w = c .before .before .take-fallen .ensures in
+    let g = c .before .before .before .before .before .before .before .before .before .before .before .before .before .next-queue .ensures in
+    let d = c .before .before .before .before .before .test-queue .ensures in
+    let w = c .before .before .unmark-fallen .ensures in
     let hs = st .args .hops .now in (
-      omega (arith, v .0, c .before .before .take-fallen .kept),
+      omega (arith, v .0, c .before .before .unmark-fallen .kept),
       v .1,
-      leaving-next hs a (v .3) g d (omega (arith, v .0, st .pre .1 .1 .0, c .before .before .take-fallen .kept)) w _ (v .2),
+      leaving-next hs a (v .3) g d (omega (arith, v .0, st .pre .1 .1 .0, c .before .before .unmark-fallen .kept)) w _ (v .2),
       tested-queue hs a (v .3) g d,
-      (suc (v .4 .0), after-next hs a (v .3) g d (omega (arith, v .0, st .pre .1 .1 .0, c .before .before .take-fallen .kept)) w (omega (arith, d .most, noted-most hs a (v .3) g, st .pre .0 .hops-most))),
+      (suc (v .4 .0), after-next hs a (v .3) g d (omega (arith, v .0, st .pre .1 .1 .0, c .before .before .unmark-fallen .kept)) w (omega (arith, d .most, pushed-most hs a (v .3) g, st .pre .0 .hops-most))),
     )
 
 same-length : tie.Need-same-length Inv-loop μ-loop
@@ -142,11 +142,11 @@ later-rounds-spec =
     places-of-requires
     leaving-of-requires
     loop-holds
-    next-due-requires
+    next-queue-requires
     add-sum
-    shed-of-requires
-    test-due-requires
-    take-fallen-requires
+    dirty-of-requires
+    test-queue-requires
+    unmark-fallen-requires
     loop-less
     loop-again
     same-length

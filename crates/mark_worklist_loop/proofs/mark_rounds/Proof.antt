@@ -7,7 +7,7 @@ use Rattle.base_bounded.proofs.Bools.{clash}
 use Rattle.mark_confluence.specs.Rounds.{survives, marked}
 use Rattle.mark_confluence.proofs.Marks.{marks-over}
 use Rattle.graph.specs.Answers.{most-hops}
-use Rattle.mark_worklist_round.specs.Testing.{Spared}
+use Rattle.mark_worklist_round.specs.Round.{SkipsClean}
 use Rattle.mark_worklist_loop.proofs.Rounds.{after-first, after-still, after-itself, after-tests, after-marks, first-queue, lists-listed, lists-most, tested-inside, zeros-unset}
 use borrow.Author.Needs.{needs}
 use Rattle.mark_worklist_loop.proofs.mark_rounds.Statement.{statement}
@@ -19,9 +19,9 @@ start-marks-requires c κs = search needs
 list-silent-requires : tie.Need-list-silent-requires
 list-silent-requires c κs = search needs
 
-test-due-requires : tie.Need-test-due-requires
-unfolding Spared
-test-due-requires c κs =
+test-queue-requires : tie.Need-test-queue-requires
+unfolding SkipsClean
+test-queue-requires c κs =
     let st = c .before .before .before .before .before .before .before .before .before .before .before .before .before in
     let hs = st .args .hops .now in
     let ls = c .before .before .before .before .before .list-silent .ensures .0 in
@@ -49,15 +49,15 @@ returns : tie.Need-returns
 returns c =
     let st = c .before .before .before .before .before .before .before .before .before .before .before .before .before .before .before in
     let hs = st .args .hops .now in
-    let a = after-still hs _ _ (st .pre .1 .1) (c .before .before .before .before .before .before .before .before .before .before .before .start-marks .ensures) (c .before .before .before .before .before .before .before .list-silent .ensures .0) (c .before .test-due .ensures) (c .if1 .taken) in
+    let a = after-still hs _ _ (st .pre .1 .1) (c .before .before .before .before .before .before .before .before .before .before .before .start-marks .ensures) (c .before .before .before .before .before .before .before .list-silent .ensures .0) (c .before .test-queue .ensures) (c .if1 .taken) in
     (after-tests hs a (c .if1 .taken), after-marks hs a (c .if1 .taken))
 
-take-fallen-requires : tie.Need-take-fallen-requires
-take-fallen-requires c κs =
+unmark-fallen-requires : tie.Need-unmark-fallen-requires
+unmark-fallen-requires c κs =
     let st = c .before .before .before .before .before .before .before .before .before .before .before .before .before .before .before .before .before in
     let hs = st .args .hops .now in
     let ls = c .before .before .before .before .before .before .before .before .before .list-silent .ensures .0 in
-    let td = c .before .before .before .test-due .ensures in
+    let td = c .before .before .before .test-queue .ensures in
     (omega (arith, td .most, lists-most hs ls, st .pre .0 .hops-most), λ q l. omega (arith, tested-inside hs ls td q l, c .before .before .before .before .before .before .before .before .before .before .before .before .before .start-marks .kept, st .pre .1 .1))
 
 later-rounds-requires : tie.Need-later-rounds-requires
@@ -65,16 +65,16 @@ later-rounds-requires c κs =
     let st = c .before .before .before .before .before .before .before .before .before .before .before .before .before .before .before .before .before .before .before .before .before .before .before .before in
     let hs = st .args .hops .now in
     let ls = c .before .before .before .before .before .before .before .before .before .before .before .before .before .before .before .before .list-silent .ensures .0 in
-    let td = c .before .before .before .before .before .before .before .before .before .before .test-due .ensures in
-    let a = after-first hs _ _ (st .pre .1 .1) (c .before .before .before .before .before .before .before .before .before .before .before .before .before .before .before .before .before .before .before .before .start-marks .ensures) ls td (omega (arith, td .most, lists-most hs ls, st .pre .0 .hops-most)) (c .before .before .before .before .before .before .take-fallen .ensures) (omega (arith, c .before .before .before .before .before .before .take-fallen .kept, c .before .before .before .before .before .before .before .before .before .before .before .before .before .before .before .before .before .before .before .before .start-marks .kept, st .pre .1 .1)) in (
+    let td = c .before .before .before .before .before .before .before .before .before .before .test-queue .ensures in
+    let a = after-first hs _ _ (st .pre .1 .1) (c .before .before .before .before .before .before .before .before .before .before .before .before .before .before .before .before .before .before .before .before .start-marks .ensures) ls td (omega (arith, td .most, lists-most hs ls, st .pre .0 .hops-most)) (c .before .before .before .before .before .before .unmark-fallen .ensures) (omega (arith, c .before .before .before .before .before .before .unmark-fallen .kept, c .before .before .before .before .before .before .before .before .before .before .before .before .before .before .before .before .before .before .before .before .start-marks .kept, st .pre .1 .1)) in (
       st .pre .0,
       (
         st .pre .1 .0,
         (
-          omega (arith, c .before .before .before .before .before .before .take-fallen .kept, c .before .before .before .before .before .before .before .before .before .before .before .before .before .before .before .before .before .before .before .before .start-marks .kept, st .pre .1 .1),
+          omega (arith, c .before .before .before .before .before .before .unmark-fallen .kept, c .before .before .before .before .before .before .before .before .before .before .before .before .before .before .before .before .before .before .before .before .start-marks .kept, st .pre .1 .1),
           (
             first-queue hs td (omega (arith, c .before .before .before .before .before .before .before .before .before .before .before .before .before .before .before .before .list-silent .ensures .1, st .pre .0 .hops-most)) (zeros-unset hs (st .pre .0 .hops-most)),
-            (0, after-itself hs (omega (arith, c .before .before .before .before .before .before .take-fallen .kept, c .before .before .before .before .before .before .before .before .before .before .before .before .before .before .before .before .before .before .before .before .start-marks .kept, st .pre .1 .1)) a),
+            (0, after-itself hs (omega (arith, c .before .before .before .before .before .before .unmark-fallen .kept, c .before .before .before .before .before .before .before .before .before .before .before .before .before .before .before .before .before .before .before .before .start-marks .kept, st .pre .1 .1)) a),
           ),
         ),
       ),
@@ -88,8 +88,8 @@ returns-2 c =
     let st = c .before .before .before .before .before .before .before .before .before .before .before .before .before .before .before .before .before .before .before .before .before .before .before .before .before .before .before in
     let hs = st .args .hops .now in
     let ls = c .before .before .before .before .before .before .before .before .before .before .before .before .before .before .before .before .before .before .before .list-silent .ensures .0 in
-    let td = c .before .before .before .before .before .before .before .before .before .before .before .before .before .test-due .ensures in
-    let a = after-first hs _ _ (st .pre .1 .1) (c .before .before .before .before .before .before .before .before .before .before .before .before .before .before .before .before .before .before .before .before .before .before .before .start-marks .ensures) ls td (omega (arith, td .most, lists-most hs ls, st .pre .0 .hops-most)) (c .before .before .before .before .before .before .before .before .before .take-fallen .ensures) (omega (arith, c .before .before .before .before .before .before .before .before .before .take-fallen .kept, c .before .before .before .before .before .before .before .before .before .before .before .before .before .before .before .before .before .before .before .before .before .before .before .start-marks .kept, st .pre .1 .1)) in
+    let td = c .before .before .before .before .before .before .before .before .before .before .before .before .before .test-queue .ensures in
+    let a = after-first hs _ _ (st .pre .1 .1) (c .before .before .before .before .before .before .before .before .before .before .before .before .before .before .before .before .before .before .before .before .before .before .before .start-marks .ensures) ls td (omega (arith, td .most, lists-most hs ls, st .pre .0 .hops-most)) (c .before .before .before .before .before .before .before .before .before .unmark-fallen .ensures) (omega (arith, c .before .before .before .before .before .before .before .before .before .unmark-fallen .kept, c .before .before .before .before .before .before .before .before .before .before .before .before .before .before .before .before .before .before .before .before .before .before .before .start-marks .kept, st .pre .1 .1)) in
     (c .before .before .later-rounds .ensures .0, marks-over hs (marked hs) (survives hs 1) (st .args .marks .now) (a .marks) (c .before .before .later-rounds .ensures .1))
 
 pub mark-rounds-spec : {M : Type 1} → statement M
@@ -98,10 +98,10 @@ mark-rounds-spec =
     (tie.spec
     start-marks-requires
     list-silent-requires
-    test-due-requires
+    test-queue-requires
     same-length
     returns
-    take-fallen-requires
+    unmark-fallen-requires
     later-rounds-requires
     same-length-2
     returns-2)

@@ -7,7 +7,7 @@ use borrow.Author.Needs.{needs}
 use lib.ListN.{length, length-set}
 use Rattle.graph.specs.Hops.{count}
 use Rattle.graph.specs.Answers.{most-hops}
-use Rattle.mark_worklist.specs.Due.{due}
+use Rattle.mark_worklist.specs.Tests.{testedIn}
 use Rattle.mark_worklist_round.proofs.Parts.{ListsUpTo, lists-none, lists-more, lists-skip, lists-done}
 use Rattle.mark_worklist_round.proofs.Parts.{first-yes, first-no}
 use Rattle.mark_worklist_round.proofs.list_silent.Statement.{statement}
@@ -15,7 +15,7 @@ use Rattle.mark_worklist_round.proofs.list_silent.Tie as tie
 
 abbrev Inv-loop : tie.InvT-loop
 Inv-loop hops queue₀ past n₀ i₀ queue n i =
-    (past ≡ count hops) × (i ≤ past) × (most-hops ≤ length queue) × ListsUpTo (count hops) (due hops 0) i queue n
+    (past ≡ count hops) × (i ≤ past) × (most-hops ≤ length queue) × ListsUpTo (count hops) (testedIn hops 0) i queue n
 
 abbrev μ-loop : tie.MeasureT-loop
 μ-loop hops queue₀ past n₀ i₀ queue n i = past - i

@@ -1,6 +1,6 @@
 -- `reduce_representatives::follow::enter` meets its contract: the code is the definition. Assumes nothing.
 use borrow.Author.Tests.{eq-eqb, ne-eqb}
-use Rattle.mark_confluence.specs.Held.{isMarked}
+use Rattle.mark_confluence.specs.MarkSet.{isMarked}
 use Rattle.reduce_representatives.specs.Tables.{entered}
 use borrow.Author.Needs.{needs}
 use Rattle.reduce_representatives.proofs.follow.enter.Statement.{statement}

@@ -5,7 +5,7 @@ use native.Mathlib.Omega.{arith}
 use lib.ListN.{length, getD}
 use Rattle.graph.specs.Hops.{count}
 use Rattle.graph.specs.Answers.{most-states}
-use Rattle.mark_confluence.specs.Held.{heldBy}
+use Rattle.mark_confluence.specs.MarkSet.{markSet}
 use Rattle.reduce_representatives.specs.Tables.{Own, FromIn, Onward}
 use Rattle.reduce_representatives.proofs.Nexts.{Ends, ends-none, ends-onward, entered-ends, length-entered}
 use borrow.Author.Needs.{needs}
@@ -14,7 +14,7 @@ use Rattle.reduce_representatives.proofs.follow.next_states.Tie as tie
 
 abbrev Inv-loop : tie.InvT-loop
 Inv-loop hops marks next₀ i₀ next i =
-    (i ≤ count hops) × (length next ≡ most-states) × ((s : ℕ) → s < most-states → Ends hops (heldBy hops marks) s i (getD next s 0))
+    (i ≤ count hops) × (length next ≡ most-states) × ((s : ℕ) → s < most-states → Ends hops (markSet hops marks) s i (getD next s 0))
 
 abbrev μ-loop : tie.MeasureT-loop
 μ-loop hops marks next₀ i₀ next i = i
