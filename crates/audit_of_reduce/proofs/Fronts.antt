@@ -17,7 +17,7 @@ use Rattle.graph.proofs.Fronts.{flat-front}
 use Rattle.reduce_short_graph.specs.Short.{mapList}
 use Rattle.mark_senses.specs.Senses.{senseOf}
 use Rattle.reduce_entry.proofs.Marked.{marked-within}
-use Rattle.reduce_entry.specs.Reduce.{noShape, markedTo, markedMap, markedHops, markedShape, reduceAnswer, reduction, reduceOf, mapOutput, shortOutput}
+use Rattle.reduce_entry.specs.Reduce.{noShape, reducedState, reducedMap, reducedHops, reducedShape, reduceAnswer, reduction, reduceOf, mapOutput, shortOutput}
 use Rattle.reduce_entry.specs.declared.Reduction.{Reduction}
 use Rattle.reduce_entry.proofs.Answering.{reduce-reducible, reduce-map-capacity, reduce-short-capacity, accepted-returns, accepted-map, accepted-short}
 use Rattle.audit_entry.specs.declared.Audit.{Audit}
@@ -33,7 +33,7 @@ module _ (sh : Shape) (hs : List ℕ) (k : ℕ) (map short : List ℕ) where
   unfolding reduceOf
   answers = go (eqb (answer .number) 0) where
     go : (x : Bool) →
-        cond {A = Reduction} x (record { answer = answer; shape = markedShape sh hs k; hops = length (markedHops sh hs k) })
+        cond {A = Reduction} x (record { answer = answer; shape = reducedShape sh hs k; hops = length (reducedHops sh hs k) })
         (record { answer = answer; shape = noShape; hops = 0 }) .answer ≡ answer
     go true = refl
     go false = refl
@@ -45,12 +45,12 @@ module _ (sh : Shape) (hs : List ℕ) (k : ℕ) (map short : List ℕ) where
     figures : reduction sh hs k accepted ≡ reduceOf sh hs k (length map) (length short)
     figures = accepted-returns sh hs k map short refl zero
 
-    front-map : take (sh .states) (mapOutput sh hs k map short) ≡ markedMap sh hs k
+    front-map : take (sh .states) (mapOutput sh hs k map short) ≡ reducedMap sh hs k
     unfolding mapList
-    front-map = rw (← accepted-map sh hs k map short refl zero refl) (take-at (markedMap sh hs k) _ (sh .states) (length-tabulate (markedTo sh hs k) (sh .states)))
+    front-map = rw (← accepted-map sh hs k map short refl zero refl) (take-at (reducedMap sh hs k) _ (sh .states) (length-tabulate (reducedState sh hs k) (sh .states)))
 
-    front-short : between (shortOutput sh hs k map short) 0 (length (markedHops sh hs k)) ≡ flat (markedHops sh hs k)
-    front-short = rw (← accepted-short sh hs k map short refl zero refl) (flat-front (markedHops sh hs k) _ refl)
+    front-short : between (shortOutput sh hs k map short) 0 (length (reducedHops sh hs k)) ≡ flat (reducedHops sh hs k)
+    front-short = rw (← accepted-short sh hs k map short refl zero refl) (flat-front (reducedHops sh hs k) _ refl)
 
     -- demand 3: the audit of what an accepted `reduce` left, whatever the outputs held before, accepts and finds no fault
     pub left-right : auditLeft sh hs (reduceOf sh hs k (length map) (length short)) (mapOutput sh hs k map short) (shortOutput sh hs k map short) ≡ faultless
@@ -68,7 +68,7 @@ module _ (sh : Shape) (hs : List ℕ) (k : ℕ) (map short : List ℕ) where
 
     pub short-there : red .hops ≤ count short
     short-there =
-        let few : length (markedHops sh hs k) ≤ count hs = marked-within sh hs k in
+        let few : length (reducedHops sh hs k) ≤ count hs = marked-within sh hs k in
         let capacity : length hs ≤ length short = reduce-short-capacity sh hs k (length map) (length short) (zero accepts) in
         rw (e, ← figures accepts) (omega arith)
 

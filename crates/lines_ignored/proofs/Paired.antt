@@ -10,7 +10,7 @@ use Rattle.graph.specs.Order.{before}
 use Rattle.graph.specs.declared.Hop.{Hop}
 use Rattle.graph.proofs.Places.{length-flat, flat-at}
 use Rattle.graph.proofs.Ordered.{alike-itself, before-alike}
-use Rattle.reduce_smallest_line.specs.Lines.{joined}
+use Rattle.reduce_smallest_line.specs.Lines.{mergedHop}
 use Rattle.reduce_insertion.specs.Insertion.{insert, collected}
 use Rattle.lines_ignored.specs.Unlined.{Unlined}
 
@@ -48,8 +48,8 @@ paired-insert [] (y ∷ ys) e p = absurd p
 paired-insert (x ∷ xs) [] e p = absurd p
 paired-insert {h} {h'} (x ∷ xs) (y ∷ ys) e (a, p) =
     rw (before-alike e a, before-alike a e) (go (before h' y) (before y h') (paired-insert xs ys e p)) where
-      go : (b c : Bool) → Paired (insert h xs) (insert h' ys) → Paired (cond b (h ∷ x ∷ xs) (cond c (x ∷ insert h xs) (joined x h ∷ xs)))
-          (cond b (h' ∷ y ∷ ys) (cond c (y ∷ insert h' ys) (joined y h' ∷ ys)))
+      go : (b c : Bool) → Paired (insert h xs) (insert h' ys) → Paired (cond b (h ∷ x ∷ xs) (cond c (x ∷ insert h xs) (mergedHop x h ∷ xs)))
+          (cond b (h' ∷ y ∷ ys) (cond c (y ∷ insert h' ys) (mergedHop y h' ∷ ys)))
       go true c later = (e, (a, p))
       go false true later = (a, later)
       go false false later = (record { same-from = a .same-from; same-label = a .same-label; same-to = a .same-to }, p)

@@ -10,9 +10,9 @@ use Rattle.base_bounded.specs.Quantifiers.{any, least, tally, tabulate}
 use Rattle.graph.specs.Hops.{count, Alike, flat}
 use Rattle.graph.specs.declared.Shape.{Shape}
 use Rattle.base_fixpoint.specs.Pairs.{Pairs}
-use Rattle.reduce_representatives.specs.Representative.{markedFrom, resting, onward, followed, repOf, newOf, mapOf}
-use Rattle.reduce_short_graph.specs.Short.{image, gathered, shortHops, shortShape, mapList}
-use Rattle.reduce_entry.specs.Reduce.{markedMap, markedHops, markedShape, reduceAnswer, reduceOf, mapOutput}
+use Rattle.reduce_representatives.specs.Representative.{markedFrom, isNormal, nextState, afterSteps, repOf, newOf, mapOf}
+use Rattle.reduce_short_graph.specs.Short.{image, shortUpTo, shortHops, shortShape, mapList}
+use Rattle.reduce_entry.specs.Reduce.{reducedMap, reducedHops, reducedShape, reduceAnswer, reduceOf, mapOutput}
 use Rattle.lines_ignored.specs.Unlined.{Unlined}
 use Rattle.lines_ignored.proofs.Checks.{count-same, from-same, label-same, to-same, check-same}
 use Rattle.lines_ignored.proofs.Walks.{ringless-same}
@@ -25,16 +25,16 @@ module _ {hs hs' : List ℕ} (un : Unlined hs hs') {u u' : Pairs} (e : u ≡ u')
   unfolding markedFrom
   leaving-same = λ d. λ (s i : ℕ). eqb (from-same un i d) s && (eqb (label-same un i d) 0 && e d (from-same un i d) (to-same un i d))
 
-  resting-same : resting hs u ≡ resting hs' u'
-  unfolding resting
+  resting-same : isNormal hs u ≡ isNormal hs' u'
+  unfolding isNormal
   resting-same = λ d. λ (s : ℕ). not (any (count-same un d) (leaving-same d s))
 
-  onward-same : (s : ℕ) → onward hs u s ≡ onward hs' u' s
-  unfolding onward
+  onward-same : (s : ℕ) → nextState hs u s ≡ nextState hs' u' s
+  unfolding nextState
   onward-same s = λ d. cond (resting-same d s) s (to-same un (least (count-same un d) (leaving-same d s)) d)
 
-  followed-same : (k s : ℕ) → followed hs u k s ≡ followed hs' u' k s
-  unfolding followed
+  followed-same : (k s : ℕ) → afterSteps hs u k s ≡ afterSteps hs' u' k s
+  unfolding afterSteps
   followed-same zero s = refl
   followed-same (suc k) s = λ d. followed-same k (onward-same s d) d
 
@@ -64,18 +64,18 @@ module _ {hs hs' : List ℕ} (un : Unlined hs hs') {u u' : Pairs} (e : u ≡ u')
 
 module _ {hs hs' : List ℕ} (un : Unlined hs hs') (sh : Shape) where
   paired-short : {u u' : Pairs} → u ≡ u' → Paired (shortHops sh hs u) (shortHops sh hs' u')
-  unfolding shortHops gathered
+  unfolding shortHops shortUpTo
   paired-short {u} {u'} e = rw (← count-same un) (paired-collected (λ i. λ d. resting-same un e d (from-same un i d)) (image-alike un e sh) (count hs))
 
   module _ (k : ℕ) where
-    pub marked-map-same : markedMap sh hs k ≡ markedMap sh hs' k
+    pub marked-map-same : reducedMap sh hs k ≡ reducedMap sh hs' k
     marked-map-same = list-same un (marked-same un sh k) sh
 
-    pub marked-shape-same : markedShape sh hs k ≡ markedShape sh hs' k
+    pub marked-shape-same : reducedShape sh hs k ≡ reducedShape sh hs' k
     marked-shape-same = shape-same un (marked-same un sh k) sh
 
     -- the short hops differ in lines alone
-    pub marked-hops-unlined : Unlined (flat (markedHops sh hs k)) (flat (markedHops sh hs' k))
+    pub marked-hops-unlined : Unlined (flat (reducedHops sh hs k)) (flat (reducedHops sh hs' k))
     marked-hops-unlined = paired-flat _ _ (paired-short (marked-same un sh k))
 
     -- what the entry answers, returns and leaves as the map

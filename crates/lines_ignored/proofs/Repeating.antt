@@ -10,7 +10,7 @@ use Rattle.base_bounded.specs.Quantifiers.{any}
 use Rattle.graph.specs.Hops.{flat}
 use Rattle.graph.specs.declared.Shape.{Shape}
 use Rattle.mark_senses.specs.Senses.{inSetAt}
-use Rattle.reduce_entry.specs.Reduce.{markedMap, markedShape, markedHops}
+use Rattle.reduce_entry.specs.Reduce.{reducedMap, reducedShape, reducedHops}
 use Rattle.shrink_compose.specs.Chained.{chained}
 use Rattle.shrink_iterate.specs.Repeating.{Stage, firstStage, nextStage, someMarked, marksSome, repeated, lastOf, lastStage}
 use Rattle.shrink_entry.specs.Shrink.{shrinkOf, lastMap}
@@ -33,13 +33,13 @@ pub record Beside (g g' : Stage) : Type 0 where
 module _ (k : ℕ) where
   next-beside : (g g' : Stage) → Beside g g' → Beside (nextStage k g) (nextStage k g')
   next-beside g g' b = record {
-    shapes = ap (λ (sh : Shape). markedShape sh (g .hops) k) (b .shapes) ∙ marked-shape-same (b .unlined) (g' .shape) k;
+    shapes = ap (λ (sh : Shape). reducedShape sh (g .hops) k) (b .shapes) ∙ marked-shape-same (b .unlined) (g' .shape) k;
     unlined =
-        subst (λ (sh : Shape). Unlined (flat (markedHops sh (g .hops) k)) (flat (markedHops (g' .shape) (g' .hops) k))) (sym (b .shapes))
+        subst (λ (sh : Shape). Unlined (flat (reducedHops sh (g .hops) k)) (flat (reducedHops (g' .shape) (g' .hops) k))) (sym (b .shapes))
         (marked-hops-unlined (b .unlined) (g' .shape) k);
     maps =
-        ap (λ (m : List ℕ). chained m (markedMap (g .shape) (g .hops) k)) (b .maps) ∙
-        ap (chained (g' .map)) (ap (λ (sh : Shape). markedMap sh (g .hops) k) (b .shapes) ∙ marked-map-same (b .unlined) (g' .shape) k);
+        ap (λ (m : List ℕ). chained m (reducedMap (g .shape) (g .hops) k)) (b .maps) ∙
+        ap (chained (g' .map)) (ap (λ (sh : Shape). reducedMap sh (g .hops) k) (b .shapes) ∙ marked-map-same (b .unlined) (g' .shape) k);
     counts = ap suc (b .counts);
   }
 

@@ -14,19 +14,19 @@ use Rattle.graph.specs.declared.Shape.{Shape}
 use Rattle.base_bounded.proofs.Quantifiers.{tally-within, length-tabulate, getD-tabulate}
 use Rattle.graph_check.specs.Check.{Admitted}
 use Rattle.base_fixpoint.specs.Pairs.{Pairs}
-use Rattle.reduce_representatives.specs.Representative.{Settles, resting, mapOf}
-use Rattle.reduce_representatives.specs.Tables.{Onward, Numbers, numbered}
+use Rattle.reduce_representatives.specs.Representative.{Terminating, isNormal, mapOf}
+use Rattle.reduce_representatives.specs.Tables.{NextTable, NewNumbers, newNumber}
 use Rattle.reduce_representatives.proofs.Mapped.{map-in}
 use Rattle.reduce_representatives.proofs.Tabled.{tabled-new}
 use Rattle.reduce_short_graph.specs.Short.{shortHops, shortShape, mapList}
 use Rattle.reduce_short_graph.specs.Tables.{allShort, AllImaged}
 use Rattle.reduce_short_graph.proofs.Tabled.{tabled-list, tabled-short}
-use Rattle.reduce_by_marks.specs.Reducing.{shortGraph, shapeBy}
+use Rattle.reduce_by_marks.specs.ByMarks.{shortGraph, shapeBy}
 use Rattle.reduce_by_marks.specs.declared.ShortGraph.{ShortGraph}
 
 -- the table of next states, the new numbers, the map from old to new and the short hops are at hand
-module _ {sh : Shape} {hs : List ℕ} {u : Pairs} (adm : Admitted sh hs) (sett : Settles sh hs u) (next : List ℕ) (on : Onward hs u next) (news : List ℕ)
-    (fill : Numbers next news) (old : List ℕ) {map : List ℕ} (e : map ≡ onFront (tabulate (sh .states) (numbered next news (sh .states))) old)
+module _ {sh : Shape} {hs : List ℕ} {u : Pairs} (adm : Admitted sh hs) (sett : Terminating sh hs u) (next : List ℕ) (on : NextTable hs u next) (news : List ℕ)
+    (fill : NewNumbers next news) (old : List ℕ) {map : List ℕ} (e : map ≡ onFront (tabulate (sh .states) (newNumber next news (sh .states))) old)
   where
     pub reduced-map : map ≡ onFront (mapList sh hs u) old
     reduced-map = e ∙ ap (λ (m : List ℕ). onFront m old) (tabled-list adm sett next on news fill)
@@ -40,7 +40,7 @@ module _ {sh : Shape} {hs : List ℕ} {u : Pairs} (adm : Admitted sh hs) (sett :
     -- the map's numbers and the labels are numbers of states and labels that can be
     map-small : (s : ℕ) → s < sh .states → mapped map s < most-states
     map-small s l =
-        omega (arith, map-holds s l, map-in sett (adm .range) s l, tally-within (resting hs u) (sh .states), adm .states-most)
+        omega (arith, map-holds s l, map-in sett (adm .range) s l, tally-within (isNormal hs u) (sh .states), adm .states-most)
 
     -- and so every hop has an image, where the map has an entry for each state
     pub reduced-images : sh .states ≤ length map → AllImaged hs map

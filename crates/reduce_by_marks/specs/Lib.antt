@@ -1,1 +1,1 @@
-pub mod Reducing  -- what reducing along marks returns and leaves
+pub mod ByMarks  -- what reducing along marks returns and leaves

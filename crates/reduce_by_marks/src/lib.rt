@@ -18,9 +18,9 @@ ghost use lib.ListN.{length};
 ghost use Rattle.graph.specs.Answers.{most-states};
 ghost use Rattle.graph_check.specs.Check.{Admitted};
 ghost use Rattle.mark_confluence.specs.MarkSet.{markSet};
-ghost use Rattle.reduce_representatives.specs.Representative.{Settles};
+ghost use Rattle.reduce_representatives.specs.Representative.{Terminating};
 ghost use Rattle.reduce_representatives.specs.Tables.{SilentMarks};
-ghost use Rattle.reduce_by_marks.specs.Reducing.{shapeBy, shortGraph, mapLeft, shortLeft};
+ghost use Rattle.reduce_by_marks.specs.ByMarks.{shapeBy, shortGraph, mapAfter, shortAfter};
 
 // The short graph besides its hops, and how many these are.
 pub struct ShortGraph {
@@ -60,13 +60,13 @@ pub fn reduce_marked(
     short: &mut [u16],
 ) -> ShortGraph
     requires admitted { ⌜ Admitted shape (now hops) ⌝ }
-    requires settles { ⌜ Settles shape (now hops) (markSet (now hops) (now marks)) ⌝ }
+    requires settles { ⌜ Terminating shape (now hops) (markSet (now hops) (now marks)) ⌝ }
     requires marks { ⌜ SilentMarks (now hops) (now marks) ⌝ }
     requires map_capacity { ⌜ shape .states ≤ length (now map) ⌝ }
     requires short_capacity { ⌜ length (now hops) ≤ length (now short) ⌝ }
     ensures returned { λ r. ⌜ r ≡ shortGraph shape (now (hops .entry)) (markSet (now (hops .entry)) (now (marks .entry))) ⌝ }
-    ensures mapped { λ r. ⌜ now (map .exit) ≡ mapLeft shape (now (hops .entry)) (now (marks .entry)) (now (map .entry)) ⌝ }
-    ensures shortened { λ r. ⌜ now (short .exit) ≡ shortLeft shape (now (hops .entry)) (now (marks .entry)) (now (short .entry)) ⌝ }
+    ensures mapped { λ r. ⌜ now (map .exit) ≡ mapAfter shape (now (hops .entry)) (now (marks .entry)) (now (map .entry)) ⌝ }
+    ensures shortened { λ r. ⌜ now (short .exit) ≡ shortAfter shape (now (hops .entry)) (now (marks .entry)) (now (short .entry)) ⌝ }
 {
     let states = shape.states as usize;
     let next = next_states(hops, marks);

@@ -20,8 +20,8 @@ use Rattle.walk_silent.specs.Silent.{ringAnswer}
 use Rattle.graph.proofs.Accepts.{then-first, then-next, both-accept, capacity-accepts}
 use Rattle.mark_senses.specs.Senses.{senseAnswer}
 use Rattle.reduce_representatives.specs.Tables.{Reducible}
-use Rattle.reduce_entry.specs.Reduce.{reduceAnswer, reduction, reduceOf, markedMap, markedHops, mapOutput, shortOutput}
-use Rattle.reduce_entry.specs.Refusal.{refusal, laterAnswer}
+use Rattle.reduce_entry.specs.Reduce.{reduceAnswer, reduction, reduceOf, reducedMap, reducedHops, mapOutput, shortOutput}
+use Rattle.reduce_entry.specs.Refusal.{refusedReduction, laterAnswer}
 
 -- row 6 of both outputs
 abbrev capacity : Shape → List ℕ → ℕ → ℕ → Answer
@@ -115,9 +115,9 @@ module _ (sh : Shape) (hs : List ℕ) (k : ℕ) (map short : List ℕ) {a : Answ
     refuses : eqb (reduceAnswer sh hs k (length map) (length short) .number) 0 ≡ false
     refuses = ne-eqb _ 0 (rw e at n)
 
-    pub refused-returns : refusal a ≡ reduceOf sh hs k (length map) (length short)
+    pub refused-returns : refusedReduction a ≡ reduceOf sh hs k (length map) (length short)
     unfolding reduceOf
-    refused-returns = rw refuses (ap refusal e)
+    refused-returns = rw refuses (ap refusedReduction e)
 
     pub refused-map : map ≡ mapOutput sh hs k map short
     unfolding mapOutput
@@ -135,11 +135,11 @@ module _ (sh : Shape) (hs : List ℕ) (k : ℕ) (map short : List ℕ) {a : Answ
     unfolding reduceOf
     accepted-returns = ap (reduction sh hs k) (sym (reduce-accepted sh hs k (length map) (length short) accepts))
 
-    pub accepted-map : {x : List ℕ} → x ≡ onFront (markedMap sh hs k) map → x ≡ mapOutput sh hs k map short
+    pub accepted-map : {x : List ℕ} → x ≡ onFront (reducedMap sh hs k) map → x ≡ mapOutput sh hs k map short
     unfolding mapOutput
-    accepted-map f = f ∙ ap (λ (x : Answer). written (x .number) (markedMap sh hs k) map) (sym (reduce-accepted sh hs k (length map) (length short) accepts))
+    accepted-map f = f ∙ ap (λ (x : Answer). written (x .number) (reducedMap sh hs k) map) (sym (reduce-accepted sh hs k (length map) (length short) accepts))
 
-    pub accepted-short : {x : List ℕ} → x ≡ onFront (flat (markedHops sh hs k)) short → x ≡ shortOutput sh hs k map short
+    pub accepted-short : {x : List ℕ} → x ≡ onFront (flat (reducedHops sh hs k)) short → x ≡ shortOutput sh hs k map short
     unfolding shortOutput
     accepted-short f =
-        f ∙ ap (λ (x : Answer). written (x .number) (flat (markedHops sh hs k)) short) (sym (reduce-accepted sh hs k (length map) (length short) accepts))
+        f ∙ ap (λ (x : Answer). written (x .number) (flat (reducedHops sh hs k)) short) (sym (reduce-accepted sh hs k (length map) (length short) accepts))

@@ -21,20 +21,20 @@ use Rattle.mark_confluence.specs.MarkSet.{marksOf, markSet}
 use Rattle.mark_confluence.proofs.Marks.{marks-capacity, marks-silent, mark-set-set}
 use Rattle.mark_senses.specs.Senses.{markedIn, senseOf, markedBy}
 use Rattle.mark_senses.proofs.Marked.{in-silent, marked-confluent-in}
-use Rattle.reduce_representatives.specs.Representative.{Settles}
+use Rattle.reduce_representatives.specs.Representative.{Terminating}
 use Rattle.reduce_representatives.specs.Tables.{Reducible, SilentMarks}
-use Rattle.reduce_representatives.proofs.Marked.{falls, silent-settles}
+use Rattle.reduce_representatives.proofs.Marked.{falls, silent-terminating}
 use Rattle.reduce_short_graph.specs.Short.{shortHops, shortShape, mapList}
 use Rattle.reduce_short_graph.proofs.Images.{short-within}
-use Rattle.reduce_by_marks.specs.Reducing.{shortGraph, mapLeft, shortLeft}
+use Rattle.reduce_by_marks.specs.ByMarks.{shortGraph, mapAfter, shortAfter}
 use Rattle.reduce_by_marks.specs.declared.ShortGraph.{ShortGraph}
-use Rattle.reduce_entry.specs.Reduce.{reduction, markedHops}
+use Rattle.reduce_entry.specs.Reduce.{reduction, reducedHops}
 use Rattle.reduce_entry.specs.declared.Reduction.{Reduction}
 
 module _ {sh : Shape} {hs : List ℕ} (red : Reducible sh hs) (sense : Sense) where
   -- walks along marked hops come to rest
-  pub marked-settles : Settles sh hs (markedIn sense sh hs)
-  marked-settles = silent-settles red (markedIn sense sh hs) (in-silent sense sh hs)
+  pub marked-terminating : Terminating sh hs (markedIn sense sh hs)
+  marked-terminating = silent-terminating red (markedIn sense sh hs) (in-silent sense sh hs)
 
   -- confluence in any sense is weak confluence
   pub marked-weakly : Confluent (HopOf hs) (In (markedIn sense sh hs))
@@ -42,32 +42,32 @@ module _ {sh : Shape} {hs : List ℕ} (red : Reducible sh hs) (sense : Sense) wh
 
 -- what marking with the silent hops u leaves in ms is marks, one a hop, of which no visible hop has one, and they are of u
 module _ (sh : Shape) (hs : List ℕ) (u : Pairs) (ms out : List ℕ) (e : ms ≡ onFront (marksOf hs u) out) where
-  pub left-marks : count hs ≤ length out → SilentMarks hs ms
-  left-marks l = record { capacity = omega (arith, marks-capacity hs u ms out e l); silent = marks-silent hs u ms out e }
+  pub after-marks : count hs ≤ length out → SilentMarks hs ms
+  after-marks l = record { capacity = omega (arith, marks-capacity hs u ms out e l); silent = marks-silent hs u ms out e }
 
   module _ (w : Subset (In u) (In (silentHops hs))) where
     -- so what is reduced along them is reduced along u
     same-graph : {r : ShortGraph} → r ≡ shortGraph sh hs (markSet hs ms) → r ≡ shortGraph sh hs u
     same-graph q = q ∙ ap (shortGraph sh hs) (mark-set-set hs u ms out e w)
 
-    pub left-map : (old : List ℕ) {map : List ℕ} → map ≡ mapLeft sh hs ms old → map ≡ onFront (mapList sh hs u) old
-    left-map old f = f ∙ ap (λ (v : Pairs). onFront (mapList sh hs v) old) (mark-set-set hs u ms out e w)
+    pub after-map : (old : List ℕ) {map : List ℕ} → map ≡ mapAfter sh hs ms old → map ≡ onFront (mapList sh hs u) old
+    after-map old f = f ∙ ap (λ (v : Pairs). onFront (mapList sh hs v) old) (mark-set-set hs u ms out e w)
 
-    pub left-short : (old : List ℕ) {short : List ℕ} → short ≡ shortLeft sh hs ms old → short ≡ onFront (flat (shortHops sh hs u)) old
-    left-short old f = f ∙ ap (λ (v : Pairs). onFront (flat (shortHops sh hs v)) old) (mark-set-set hs u ms out e w)
+    pub after-short : (old : List ℕ) {short : List ℕ} → short ≡ shortAfter sh hs ms old → short ≡ onFront (flat (shortHops sh hs u)) old
+    after-short old f = f ∙ ap (λ (v : Pairs). onFront (flat (shortHops sh hs v)) old) (mark-set-set hs u ms out e w)
 
     -- the short graph's shape and the number of its hops
-    pub left-shape : {r : ShortGraph} → r ≡ shortGraph sh hs (markSet hs ms) → r .shape ≡ shortShape sh hs u
-    left-shape q = ap (λ (x : ShortGraph). x .shape) (same-graph q)
+    pub after-shape : {r : ShortGraph} → r ≡ shortGraph sh hs (markSet hs ms) → r .shape ≡ shortShape sh hs u
+    after-shape q = ap (λ (x : ShortGraph). x .shape) (same-graph q)
 
-    pub left-hops : {r : ShortGraph} → r ≡ shortGraph sh hs (markSet hs ms) → r .hops ≡ length (shortHops sh hs u)
-    left-hops q = ap (λ (x : ShortGraph). x .hops) (same-graph q)
+    pub after-hops : {r : ShortGraph} → r ≡ shortGraph sh hs (markSet hs ms) → r .hops ≡ length (shortHops sh hs u)
+    after-hops q = ap (λ (x : ShortGraph). x .hops) (same-graph q)
 
 -- what is returned, if the set is that of the sense with the number k
-pub left-made : (sh : Shape) (hs : List ℕ) (k : ℕ) (ms out : List ℕ) → ms ≡ onFront (marksOf hs (markedBy k sh hs)) out →
+pub after-made : (sh : Shape) (hs : List ℕ) (k : ℕ) (ms out : List ℕ) → ms ≡ onFront (marksOf hs (markedBy k sh hs)) out →
     {a : Answer} {r : ShortGraph} → a ≡ accepted → r ≡ shortGraph sh hs (markSet hs ms) →
     _≡_ {A = Reduction} (record { answer = a; shape = r .shape; hops = r .hops }) (reduction sh hs k accepted)
-left-made sh hs k ms out e p q = λ d. record { answer = p d; shape = left-shape sh hs u ms out e w q d; hops = left-hops sh hs u ms out e w q d } where
+after-made sh hs k ms out e p q = λ d. record { answer = p d; shape = after-shape sh hs u ms out e w q d; hops = after-hops sh hs u ms out e w q d } where
   u : Pairs
   u = markedBy k sh hs
 
@@ -75,5 +75,5 @@ left-made sh hs k ms out e p q = λ d. record { answer = p d; shape = left-shape
   w = in-silent (senseOf k) sh hs
 
 -- the short hops are no more than the hops
-pub marked-within : (sh : Shape) (hs : List ℕ) (k : ℕ) → length (markedHops sh hs k) ≤ count hs
+pub marked-within : (sh : Shape) (hs : List ℕ) (k : ℕ) → length (reducedHops sh hs k) ≤ count hs
 marked-within sh hs k = short-within sh hs (markedBy k sh hs)

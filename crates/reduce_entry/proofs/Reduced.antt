@@ -15,24 +15,24 @@ use Rattle.reduce_representatives.specs.Tables.{Reducible}
 use Rattle.reduce_short_graph.specs.Short.{shortHops, shortShape}
 use Rattle.reduce_short_graph.proofs.Reduces as short
 use Rattle.reduce_short_graph.proofs.Again as again
-use Rattle.reduce_entry.proofs.Marked.{marked-settles, marked-weakly}
+use Rattle.reduce_entry.proofs.Marked.{marked-terminating, marked-weakly}
 
 module _ {sh : Shape} {hs : List ℕ} (red : Reducible sh hs) (sense : Sense) where
   -- the map leads to states of the short graph
   pub map-inside : (s : ℕ) → s < sh .states → mapOf sh hs (markedIn sense sh hs) s < shortShape sh hs (markedIn sense sh hs) .states
-  map-inside = short.map-inside (red .admitted) (marked-settles red sense)
+  map-inside = short.map-inside (red .admitted) (marked-terminating red sense)
 
   pub short-admitted : Admitted (shortShape sh hs (markedIn sense sh hs)) (flat (shortHops sh hs (markedIn sense sh hs)))
-  short-admitted = short.shape-admitted (red .admitted) (marked-settles red sense)
+  short-admitted = short.shape-admitted (red .admitted) (marked-terminating red sense)
 
   -- it loses no hop and makes none up
   pub short-reduces : {D : ℕ → Type 0} → Reduces D (HopOf hs) (HopOf (flat (shortHops sh hs (markedIn sense sh hs)))) (mapOf sh hs (markedIn sense sh hs))
-  short-reduces = short.map-reduces (marked-settles red sense) (marked-weakly red sense)
+  short-reduces = short.map-reduces (marked-terminating red sense) (marked-weakly red sense)
 
   -- rows 1 to 5 let the short graph pass: it has no ring
   pub short-again : Reducible (shortShape sh hs (markedIn sense sh hs)) (flat (shortHops sh hs (markedIn sense sh hs)))
-  short-again = again.short-again (red .admitted) (marked-settles red sense) (marked-weakly red sense)
+  short-again = again.short-again (red .admitted) (marked-terminating red sense) (marked-weakly red sense)
 
   -- a reduction that marked something leaves fewer states
   pub short-fewer : (s t : ℕ) → In (markedIn sense sh hs) s t → shortShape sh hs (markedIn sense sh hs) .states < sh .states
-  short-fewer = again.short-fewer (red .admitted) (marked-settles red sense)
+  short-fewer = again.short-fewer (red .admitted) (marked-terminating red sense)

@@ -11,25 +11,25 @@ use Rattle.lts.specs.Sense.{Normal}
 use Rattle.lts.specs.Closes.{Sense}
 use Rattle.base_fixpoint.specs.Pairs.{In}
 use Rattle.mark_senses.specs.Senses.{markedIn}
-use Rattle.reduce_representatives.specs.Representative.{IsRepresentative, resting, onward, newOf, repOf, mapOf}
+use Rattle.reduce_representatives.specs.Representative.{IsRepresentative, isNormal, nextState, newOf, repOf, mapOf}
 use Rattle.reduce_representatives.specs.Tables.{Reducible}
-use Rattle.reduce_representatives.proofs.Resting.{resting-iff, resting-stays, rep-represents}
+use Rattle.reduce_representatives.proofs.NormalForm.{is-normal-iff, is-normal-stays, rep-is-representative}
 use Rattle.reduce_representatives.proofs.Mapped.{map-own}
-use Rattle.reduce_entry.proofs.Marked.{marked-settles, marked-weakly}
+use Rattle.reduce_entry.proofs.Marked.{marked-terminating, marked-weakly}
 
 module _ {sh : Shape} {hs : List ℕ} (red : Reducible sh hs) (sense : Sense) where
   -- a state rests exactly when no marked hop leaves it
-  pub rests-iff : (s : ℕ) → (resting hs (markedIn sense sh hs) s ≡ true) ↔ Normal (In (markedIn sense sh hs)) s
-  rests-iff = resting-iff (marked-settles red sense)
+  pub normal-iff : (s : ℕ) → (isNormal hs (markedIn sense sh hs) s ≡ true) ↔ Normal (In (markedIn sense sh hs)) s
+  normal-iff = is-normal-iff (marked-terminating red sense)
 
   -- and exactly when the walk stays there
-  pub rests-stays : (s : ℕ) → resting hs (markedIn sense sh hs) s ≡ eqb (onward hs (markedIn sense sh hs) s) s
-  rests-stays = resting-stays (marked-settles red sense)
+  pub normal-fixed : (s : ℕ) → isNormal hs (markedIn sense sh hs) s ≡ eqb (nextState hs (markedIn sense sh hs) s) s
+  normal-fixed = is-normal-stays (marked-terminating red sense)
 
   -- "each class has exactly one state that no marked hop leaves: its representative"
-  pub representative : (s : ℕ) → IsRepresentative (markedIn sense sh hs) s (repOf sh hs (markedIn sense sh hs) s)
-  representative = rep-represents (marked-settles red sense) (marked-weakly red sense)
+  pub representative-unique : (s : ℕ) → IsRepresentative (markedIn sense sh hs) s (repOf sh hs (markedIn sense sh hs) s)
+  representative-unique = rep-is-representative (marked-terminating red sense) (marked-weakly red sense)
 
   -- the new number of a representative is its map
-  pub map-rests : (r : ℕ) → resting hs (markedIn sense sh hs) r ≡ true → mapOf sh hs (markedIn sense sh hs) r ≡ newOf hs (markedIn sense sh hs) r
-  map-rests = map-own sh hs (markedIn sense sh hs)
+  pub map-normal : (r : ℕ) → isNormal hs (markedIn sense sh hs) r ≡ true → mapOf sh hs (markedIn sense sh hs) r ≡ newOf hs (markedIn sense sh hs) r
+  map-normal = map-own sh hs (markedIn sense sh hs)

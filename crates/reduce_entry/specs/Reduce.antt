@@ -20,19 +20,19 @@ use Rattle.reduce_short_graph.specs.Short.{shortHops, shortShape, mapList}
 use Rattle.reduce_entry.specs.declared.Reduction.{Reduction}
 
 -- "The map gives each old state the new number of its representative", along the marked hops: map(s), and the map as a list
-abbrev pub markedTo : Shape → List ℕ → ℕ → ℕ → ℕ
-markedTo sh hs k = mapOf sh hs (markedBy k sh hs)
+abbrev pub reducedState : Shape → List ℕ → ℕ → ℕ → ℕ
+reducedState sh hs k = mapOf sh hs (markedBy k sh hs)
 
-abbrev pub markedMap : Shape → List ℕ → ℕ → List ℕ
-markedMap sh hs k = mapList sh hs (markedBy k sh hs)
+abbrev pub reducedMap : Shape → List ℕ → ℕ → List ℕ
+reducedMap sh hs k = mapList sh hs (markedBy k sh hs)
 
 -- "The short graph holds, for each hop r, a, t of a representative r, the hop new(r), a, map(t), once, in ascending order."
-abbrev pub markedHops : Shape → List ℕ → ℕ → List Hop
-markedHops sh hs k = shortHops sh hs (markedBy k sh hs)
+abbrev pub reducedHops : Shape → List ℕ → ℕ → List Hop
+reducedHops sh hs k = shortHops sh hs (markedBy k sh hs)
 
 -- "Its initial state is the map of the old one, its label count is the old one."
-abbrev pub markedShape : Shape → List ℕ → ℕ → Shape
-markedShape sh hs k = shortShape sh hs (markedBy k sh hs)
+abbrev pub reducedShape : Shape → List ℕ → ℕ → Shape
+reducedShape sh hs k = shortShape sh hs (markedBy k sh hs)
 
 -- rows 1 to 4, then "19 for another sense, after 4 and before 5", 5, then 6: "map, one a state; short hops, three a hop of the input", four by wish 2, which
 -- is as many as the input has
@@ -47,7 +47,7 @@ noShape = record { states = 0; labels = 0; initial = 0 }
 
 abbrev pub reduction : Shape → List ℕ → ℕ → Answer → Reduction
 reduction sh hs k a =
-    cond (eqb (a .number) 0) (record { answer = a; shape = markedShape sh hs k; hops = length (markedHops sh hs k) })
+    cond (eqb (a .number) 0) (record { answer = a; shape = reducedShape sh hs k; hops = length (reducedHops sh hs k) })
     (record { answer = a; shape = noShape; hops = 0 })
 
 unfoldable pub reduceOf : Shape → List ℕ → ℕ → ℕ → ℕ → Reduction
@@ -55,7 +55,7 @@ reduceOf sh hs k map-capacity short-capacity = reduction sh hs k (reduceAnswer s
 
 -- the outputs afterwards: "Acceptance writes the named elements and none past them", and a refusal writes none
 unfoldable pub mapOutput : Shape → List ℕ → ℕ → List ℕ → List ℕ → List ℕ
-mapOutput sh hs k map short = written (reduceAnswer sh hs k (length map) (length short) .number) (markedMap sh hs k) map
+mapOutput sh hs k map short = written (reduceAnswer sh hs k (length map) (length short) .number) (reducedMap sh hs k) map
 
 unfoldable pub shortOutput : Shape → List ℕ → ℕ → List ℕ → List ℕ → List ℕ
-shortOutput sh hs k map short = written (reduceAnswer sh hs k (length map) (length short) .number) (flat (markedHops sh hs k)) short
+shortOutput sh hs k map short = written (reduceAnswer sh hs k (length map) (length short) .number) (flat (reducedHops sh hs k)) short

@@ -12,8 +12,8 @@ use Rattle.reduce_entry.specs.Reduce.{noShape}
 use Rattle.reduce_entry.specs.declared.Reduction.{Reduction}
 
 -- what is returned with a refusal
-abbrev pub refusal : Answer → Reduction
-refusal a = record { answer = a; shape = noShape; hops = 0 }
+abbrev pub refusedReduction : Answer → Reduction
+refusedReduction a = record { answer = a; shape = noShape; hops = 0 }
 
 -- rows 19, 5 and 6 of `reduceAnswer`, of an admitted graph
 abbrev pub laterAnswer : Shape → List ℕ → ℕ → ℕ → ℕ → Answer

@@ -25,8 +25,8 @@ ghost use Rattle.walk_silent.specs.Silent.{ringAnswer};
 ghost use Rattle.mark_confluence.specs.MarkSet.{marksOf};
 ghost use Rattle.mark_senses.specs.Senses.{markedBy};
 ghost use Rattle.reduce_representatives.specs.Tables.{Reducible};
-ghost use Rattle.reduce_entry.specs.Reduce.{reduceAnswer, reduceOf, mapOutput, shortOutput, reduction, markedMap, markedHops};
-ghost use Rattle.reduce_entry.specs.Refusal.{refusal, laterAnswer};
+ghost use Rattle.reduce_entry.specs.Reduce.{reduceAnswer, reduceOf, mapOutput, shortOutput, reduction, reducedMap, reducedHops};
+ghost use Rattle.reduce_entry.specs.Refusal.{refusedReduction, laterAnswer};
 
 // Rows 19, 5 and 6 of an admitted graph, by its table of first places.
 fn later_answer(
@@ -102,8 +102,8 @@ fn accepted_reduction(
     requires map_capacity { ⌜ shape .states ≤ length (now map) ⌝ }
     requires short_capacity { ⌜ length (now hops) ≤ length (now short) ⌝ }
     ensures returned { λ r. ⌜ r ≡ reduction shape (now (hops .entry)) sense accepted ⌝ }
-    ensures mapped { λ r. ⌜ now (map .exit) ≡ onFront (markedMap shape (now (hops .entry)) sense) (now (map .entry)) ⌝ }
-    ensures shortened { λ r. ⌜ now (short .exit) ≡ onFront (flat (markedHops shape (now (hops .entry)) sense)) (now (short .entry)) ⌝ }
+    ensures mapped { λ r. ⌜ now (map .exit) ≡ onFront (reducedMap shape (now (hops .entry)) sense) (now (map .entry)) ⌝ }
+    ensures shortened { λ r. ⌜ now (short .exit) ≡ onFront (flat (reducedHops shape (now (hops .entry)) sense)) (now (short .entry)) ⌝ }
 {
     let mut marks = [0u8; MOST_HOPS];
     mark_in(shape, hops, starts, sense, &mut marks);
@@ -118,7 +118,7 @@ fn accepted_reduction(
 
 // A refusal: "with any number but 0 every other figure in the answer is 0".
 fn refused_reduction(answer: Answer) -> Reduction
-    ensures { λ r. ⌜ r ≡ refusal answer ⌝ }
+    ensures { λ r. ⌜ r ≡ refusedReduction answer ⌝ }
 {
     Reduction {
         answer,

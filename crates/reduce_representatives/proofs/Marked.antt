@@ -19,12 +19,12 @@ use Rattle.walk_silent.proofs.Rings.{rank, rank-falls-accepted}
 use Rattle.base_fixpoint.specs.Pairs.{Pairs, In}
 use Rattle.mark_confluence.specs.MarkSet.{isMarked, markSet}
 use Rattle.mark_confluence.proofs.MarkSet.{mark-set-says, mark-set-at}
-use Rattle.reduce_representatives.specs.Representative.{Settles}
+use Rattle.reduce_representatives.specs.Representative.{Terminating}
 use Rattle.reduce_representatives.specs.Tables.{Reducible, Marks, SilentMarks}
 
 -- the set that marks are has its own marks
-pub held-marks : {hs ms : List ℕ} → Ascending hs → SilentMarks hs ms → Marks hs (markSet hs ms) ms
-held-marks {hs} {ms} up m = record { capacity = m .capacity; marks = mark } where
+pub mark-set-marks : {hs ms : List ℕ} → Ascending hs → SilentMarks hs ms → Marks hs (markSet hs ms) ms
+mark-set-marks {hs} {ms} up m = record { capacity = m .capacity; marks = mark } where
   mark : (i : ℕ) → i < count hs → isMarked ms i ≡ (eqb (label hs i) 0 && markSet hs ms (from hs i) (to hs i))
   mark i l = go (eq-or-not (label hs i) 0) where
     go : (label hs i ≡ 0) ⊎ (label hs i ≡ 0 → ⊥) → isMarked ms i ≡ (eqb (label hs i) 0 && markSet hs ms (from hs i) (to hs i))
@@ -40,10 +40,10 @@ module _ {sh : Shape} {hs : List ℕ} (red : Reducible sh hs) where
   unfolding rank
   bound s = tally-within (leads hs (sh .states) s) (sh .states)
 
-  pub silent-settles : (u : Pairs) → ((s t : ℕ) → In u s t → HopOf hs s 0 t) → Settles sh hs u
-  silent-settles u silent = record { silent = silent; rank = rank sh hs; falls = λ s t m. falls s t (silent s t m); bound = bound }
+  pub silent-terminating : (u : Pairs) → ((s t : ℕ) → In u s t → HopOf hs s 0 t) → Terminating sh hs u
+  silent-terminating u silent = record { silent = silent; rank = rank sh hs; falls = λ s t m. falls s t (silent s t m); bound = bound }
 
-  pub held-settles : (ms : List ℕ) → Settles sh hs (markSet hs ms)
+  pub mark-set-terminating : (ms : List ℕ) → Terminating sh hs (markSet hs ms)
   unfolding has
-  held-settles ms =
-      silent-settles (markSet hs ms) (λ s t e. let (i, l, h, o) = mark-set-says hs ms s t e in any-found (is hs s 0 t) (count hs) l h)
+  mark-set-terminating ms =
+      silent-terminating (markSet hs ms) (λ s t e. let (i, l, h, o) = mark-set-says hs ms s t e in any-found (is hs s 0 t) (count hs) l h)

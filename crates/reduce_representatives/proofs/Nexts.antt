@@ -16,9 +16,9 @@ use Rattle.base_bounded.proofs.Bools.{eq-or-not, not-yes, not-no, and-yes, and-
 use Rattle.base_bounded.proofs.Quantifiers.{any-no, any-found, least-is}
 use Rattle.base_fixpoint.specs.Pairs.{Pairs}
 use Rattle.mark_confluence.specs.MarkSet.{isMarked}
-use Rattle.reduce_representatives.specs.Representative.{markedFrom, resting, onward}
-use Rattle.reduce_representatives.specs.Tables.{Closed, entered, stepped}
-use Rattle.reduce_representatives.proofs.Resting.{rests-onward, moves-onward}
+use Rattle.reduce_representatives.specs.Representative.{markedFrom, isNormal, nextState}
+use Rattle.reduce_representatives.specs.Tables.{ClosedTable, withNext, tableSteps}
+use Rattle.reduce_representatives.proofs.NormalForm.{rests-next-state, moves-next-state}
 
 -- none of the places from i on and before k has a hop of s in u
 abbrev None : List ℕ → Pairs → ℕ → ℕ → ℕ → Type 0
@@ -33,12 +33,12 @@ module _ (hs : List ℕ) (u : Pairs) where
   pub ends-none : (s v : ℕ) → v ≡ s → Ends hs u s (count hs) v
   ends-none s v e = none (λ j l m. absurd (omega arith)) e
 
-  pub ends-onward : {s v : ℕ} → Ends hs u s 0 v → v ≡ onward hs u s
-  unfolding resting
-  ends-onward {s} (none f e) =
-      e ∙ sym (rests-onward hs u s (not-no (any-no (markedFrom hs u s) (count hs) (λ j l. f j (omega arith) l))))
-  ends-onward {s} (some k l m p f e) =
-      e ∙ sym (moves-onward hs u s (not-yes (any-found (markedFrom hs u s) (count hs) m p)) ∙
+  pub ends-next-state : {s v : ℕ} → Ends hs u s 0 v → v ≡ nextState hs u s
+  unfolding isNormal
+  ends-next-state {s} (none f e) =
+      e ∙ sym (rests-next-state hs u s (not-no (any-no (markedFrom hs u s) (count hs) (λ j l. f j (omega arith) l))))
+  ends-next-state {s} (some k l m p f e) =
+      e ∙ sym (moves-next-state hs u s (not-yes (any-found (markedFrom hs u s) (count hs) m p)) ∙
       ap (to hs) (least-is (markedFrom hs u s) (count hs) k (omega arith) (λ j i. f j (omega arith) i) (λ _. p)))
 
   module _ (i : ℕ) (inside : i < count hs) where
@@ -54,8 +54,8 @@ module _ (hs : List ℕ) (u : Pairs) where
     ends-take p = some i (omega arith) inside p (λ j l m. absurd (omega arith)) refl
 
     module _ (ms next : List ℕ) (mark : isMarked ms i ≡ (eqb (label hs i) 0 && u (from hs i) (to hs i))) (capacity : from hs i < length next) where
-      pub entered-ends : (s : ℕ) → Ends hs u s (suc i) (getD next s 0) → Ends hs u s i (getD (entered hs ms i next) s 0)
-      unfolding entered markedFrom
+      pub entered-ends : (s : ℕ) → Ends hs u s (suc i) (getD next s 0) → Ends hs u s i (getD (withNext hs ms i next) s 0)
+      unfolding withNext markedFrom
       entered-ends s old = go (eqb (label hs i) 0 && u (from hs i) (to hs i)) refl where
         go : (x : Bool) → (eqb (label hs i) 0 && u (from hs i) (to hs i)) ≡ x → Ends hs u s i (getD (cond (isMarked ms i) (set next (from hs i) (to hs i)) next) s 0)
         go false e = rw (mark, e) (ends-skip old (and-no-right (eqb (from hs i) s) e))
@@ -71,8 +71,8 @@ module _ (hs : List ℕ) (u : Pairs) where
               (ends-skip old (and-no-left _ (ne-eqb _ _ (λ p. q (sym p)))))
 
 -- the table stays as long as it is
-pub length-entered : (hs ms : List ℕ) (i : ℕ) (next : List ℕ) {new : List ℕ} {n : ℕ} → new ≡ entered hs ms i next → length next ≡ n → length new ≡ n
-unfolding entered
+pub length-entered : (hs ms : List ℕ) (i : ℕ) (next : List ℕ) {new : List ℕ} {n : ℕ} → new ≡ withNext hs ms i next → length next ≡ n → length new ≡ n
+unfolding withNext
 length-entered hs ms i next e l = ap length e ∙ go (isMarked ms i) ∙ l where
   go : (x : Bool) → length (cond x (set next (from hs i) (to hs i)) next) ≡ length next
   go true = length-set next (from hs i) (to hs i)
@@ -80,25 +80,25 @@ length-entered hs ms i next e l = ap length e ∙ go (isMarked ms i) ∙ l where
 
 -- walks by a table
 module _ (next : List ℕ) where
-  pub stepped-rest : (k s : ℕ) → getD next s 0 ≡ s → stepped next k s ≡ s
-  unfolding stepped
-  stepped-rest zero s e = refl
-  stepped-rest (suc k) s e = rw e (stepped-rest k s e)
+  pub table-steps-rest : (k s : ℕ) → getD next s 0 ≡ s → tableSteps next k s ≡ s
+  unfolding tableSteps
+  table-steps-rest zero s e = refl
+  table-steps-rest (suc k) s e = rw e (table-steps-rest k s e)
 
-  pub stepped-on : (n k s : ℕ) → k < n → stepped next (n - k) s ≡ stepped next (n - (k + 1)) (getD next s 0)
-  unfolding stepped
-  stepped-on n k s l = ap (λ (m : ℕ). stepped next m s) one-less where
+  pub table-steps-on : (n k s : ℕ) → k < n → tableSteps next (n - k) s ≡ tableSteps next (n - (k + 1)) (getD next s 0)
+  unfolding tableSteps
+  table-steps-on n k s l = ap (λ (m : ℕ). tableSteps next m s) one-less where
     one-less : n - k ≡ suc (n - (k + 1))
     one-less = omega arith
 
-  pub stepped-start : (n s : ℕ) → stepped next (n - 0) s ≡ stepped next n s
-  stepped-start n s = rw (sub-zero n)
+  pub table-steps-start : (n s : ℕ) → tableSteps next (n - 0) s ≡ tableSteps next n s
+  table-steps-start n s = rw (sub-zero n)
 
-  pub stepped-done : (n k s : ℕ) → n ≤ k → stepped next (n - k) s ≡ s
-  unfolding stepped
-  stepped-done n k s l = let q : n - k ≡ 0 = omega arith in rw q
+  pub table-steps-done : (n k s : ℕ) → n ≤ k → tableSteps next (n - k) s ≡ s
+  unfolding tableSteps
+  table-steps-done n k s l = let q : n - k ≡ 0 = omega arith in rw q
 
-  pub stepped-in : (n : ℕ) → Closed n next → (k s : ℕ) → s < n → stepped next k s < n
-  unfolding stepped Closed
-  stepped-in n f zero s l = l
-  stepped-in n f (suc k) s l = stepped-in n f k (getD next s 0) (f s l)
+  pub table-steps-in : (n : ℕ) → ClosedTable n next → (k s : ℕ) → s < n → tableSteps next k s < n
+  unfolding tableSteps ClosedTable
+  table-steps-in n f zero s l = l
+  table-steps-in n f (suc k) s l = table-steps-in n f k (getD next s 0) (f s l)

@@ -16,7 +16,7 @@ use Rattle.base_fixpoint.specs.Pairs.{Pairs, In}
 
 -- walks along the hops of u come to rest: u is a set of silent hops of the graph, and a rank of at most the state count falls along each, so that they
 -- make no ring. This is all that the map and the short graph need to be made
-pub record Settles (sh : Shape) (hs : List ℕ) (u : Pairs) : Type 0 where
+pub record Terminating (sh : Shape) (hs : List ℕ) (u : Pairs) : Type 0 where
   pub silent : (s t : ℕ) → In u s t → HopOf hs s 0 t
   pub rank : ℕ → ℕ
   pub falls : (s t : ℕ) → In u s t → rank t < rank s
@@ -33,25 +33,25 @@ unfoldable pub markedFrom : List ℕ → Pairs → ℕ → ℕ → Bool
 markedFrom hs u s i = eqb (from hs i) s && (eqb (label hs i) 0 && u (from hs i) (to hs i))
 
 -- no hop of u leaves s
-unfoldable pub resting : List ℕ → Pairs → ℕ → Bool
-resting hs u s = not (any (count hs) (markedFrom hs u s))
+unfoldable pub isNormal : List ℕ → Pairs → ℕ → Bool
+isNormal hs u s = not (any (count hs) (markedFrom hs u s))
 
 -- where the first hop of s in u leads; s itself where it has none
-unfoldable pub onward : List ℕ → Pairs → ℕ → ℕ
-onward hs u s = cond (resting hs u s) s (to hs (least (count hs) (markedFrom hs u s)))
+unfoldable pub nextState : List ℕ → Pairs → ℕ → ℕ
+nextState hs u s = cond (isNormal hs u s) s (to hs (least (count hs) (markedFrom hs u s)))
 
 -- the state that s comes to by k such hops
-unfoldable pub followed : List ℕ → Pairs → ℕ → ℕ → ℕ
-followed hs u zero s = s
-followed hs u (suc k) s = followed hs u k (onward hs u s)
+unfoldable pub afterSteps : List ℕ → Pairs → ℕ → ℕ → ℕ
+afterSteps hs u zero s = s
+afterSteps hs u (suc k) s = afterSteps hs u k (nextState hs u s)
 
 -- the representative of s: without rings it is reached within as many hops as there are states
 unfoldable pub repOf : Shape → List ℕ → Pairs → ℕ → ℕ
-repOf sh hs u s = followed hs u (sh .states) s
+repOf sh hs u s = afterSteps hs u (sh .states) s
 
 -- "Representatives are renumbered 0, 1, 2 in ascending old order": a representative's new number is how many stand below it
 unfoldable pub newOf : List ℕ → Pairs → ℕ → ℕ
-newOf hs u r = tally r (resting hs u)
+newOf hs u r = tally r (isNormal hs u)
 
 -- "The map gives each old state the new number of its representative."
 unfoldable pub mapOf : Shape → List ℕ → Pairs → ℕ → ℕ

@@ -15,7 +15,7 @@ use Rattle.graph.specs.declared.Shape.{Shape}
 use Rattle.walk_silent.specs.Silent.{ringAnswer}
 use Rattle.base_fixpoint.specs.Pairs.{Pairs}
 use Rattle.mark_confluence.specs.MarkSet.{isMarked}
-use Rattle.reduce_representatives.specs.Representative.{onward}
+use Rattle.reduce_representatives.specs.Representative.{nextState}
 
 -- a graph that rows 1 to 5 let pass
 pub record Reducible (sh : Shape) (hs : List ℕ) : Type 0 where
@@ -33,56 +33,56 @@ pub record SilentMarks (hs ms : List ℕ) : Type 0 where
   pub silent : (i : ℕ) → i < count hs → isMarked ms i ≡ true → label hs i ≡ 0
 
 -- the table of next states with the hop at place i, if it is marked, as the first of its state
-unfoldable pub entered : List ℕ → List ℕ → ℕ → List ℕ → List ℕ
-entered hs ms i next = cond (isMarked ms i) (set next (from hs i) (to hs i)) next
+unfoldable pub withNext : List ℕ → List ℕ → ℕ → List ℕ → List ℕ
+withNext hs ms i next = cond (isMarked ms i) (set next (from hs i) (to hs i)) next
 
 -- the table leads from each state to itself
-unfoldable pub Own : List ℕ → Type 0
-Own next = (s : ℕ) → s < most-states → getD next s 0 ≡ s
+unfoldable pub IdentityTable : List ℕ → Type 0
+IdentityTable next = (s : ℕ) → s < most-states → getD next s 0 ≡ s
 
 -- each hop leaves a state that the table has
 unfoldable pub FromIn : List ℕ → Type 0
 FromIn hs = (i : ℕ) → i < count hs → from hs i < most-states
 
 -- the table says where the first hop of each state in u leads
-unfoldable pub Onward : List ℕ → Pairs → List ℕ → Type 0
-Onward hs u next = (s : ℕ) → s < most-states → getD next s 0 ≡ onward hs u s
+unfoldable pub NextTable : List ℕ → Pairs → List ℕ → Type 0
+NextTable hs u next = (s : ℕ) → s < most-states → getD next s 0 ≡ nextState hs u s
 
 -- by the table no state is left
-unfoldable pub stays : List ℕ → ℕ → Bool
-stays next s = eqb (getD next s 0) s
+unfoldable pub isFixed : List ℕ → ℕ → Bool
+isFixed next s = eqb (getD next s 0) s
 
 -- the state that s comes to by k steps of the table
-unfoldable pub stepped : List ℕ → ℕ → ℕ → ℕ
-stepped next zero s = s
-stepped next (suc k) s = stepped next k (getD next s 0)
+unfoldable pub tableSteps : List ℕ → ℕ → ℕ → ℕ
+tableSteps next zero s = s
+tableSteps next (suc k) s = tableSteps next k (getD next s 0)
 
 -- the table says how many of the states below each stay, up to one past the last
-unfoldable pub Numbers : List ℕ → List ℕ → Type 0
-Numbers next news = (s : ℕ) → s ≤ most-states → getD news s 0 ≡ tally s (stays next)
+unfoldable pub NewNumbers : List ℕ → List ℕ → Type 0
+NewNumbers next news = (s : ℕ) → s ≤ most-states → getD news s 0 ≡ tally s (isFixed next)
 
 -- the number of the state that s comes to
-unfoldable pub numbered : List ℕ → List ℕ → ℕ → ℕ → ℕ
-numbered next news k s = getD news (stepped next k s) 0
+unfoldable pub newNumber : List ℕ → List ℕ → ℕ → ℕ → ℕ
+newNumber next news k s = getD news (tableSteps next k s) 0
 
 -- the table leads from the first n states to these only
-unfoldable pub Closed : ℕ → List ℕ → Type 0
-Closed n next = (s : ℕ) → s < n → getD next s 0 < n
+unfoldable pub ClosedTable : ℕ → List ℕ → Type 0
+ClosedTable n next = (s : ℕ) → s < n → getD next s 0 < n
 
 -- along the table a rank falls, but at states where it stays
-unfoldable pub Falls : ℕ → (ℕ → ℕ) → List ℕ → Type 0
-Falls n rank next = (s : ℕ) → s < n → (getD next s 0 ≡ s) ⊎ (rank (getD next s 0) < rank s)
+unfoldable pub RankFalls : ℕ → (ℕ → ℕ) → List ℕ → Type 0
+RankFalls n rank next = (s : ℕ) → s < n → (getD next s 0 ≡ s) ⊎ (rank (getD next s 0) < rank s)
 
 -- walks by the table come to rest: some rank of at most n falls along it
-pub record Sinks (n : ℕ) (next : List ℕ) : Type 0 where
+pub record TerminatingTable (n : ℕ) (next : List ℕ) : Type 0 where
   pub rank : ℕ → ℕ
   pub bound : (s : ℕ) → s < n → rank s ≤ n
-  pub falls : Falls n rank next
+  pub falls : RankFalls n rank next
 
 -- the second table leads each of n states to where the first does, and whatever falls along the first falls along it: of some states the
 -- representative has been noted
-pub record Noted (n : ℕ) (next known : List ℕ) : Type 0 where
+pub record Compressed (n : ℕ) (next known : List ℕ) : Type 0 where
   pub long : length known ≡ length next
-  pub closed : Closed n known
-  pub same : (s : ℕ) → s < n → stepped known n s ≡ stepped next n s
-  pub falls : (rank : ℕ → ℕ) → Falls n rank next → Falls n rank known
+  pub closed : ClosedTable n known
+  pub same : (s : ℕ) → s < n → tableSteps known n s ≡ tableSteps next n s
+  pub falls : (rank : ℕ → ℕ) → RankFalls n rank next → RankFalls n rank known

@@ -12,11 +12,11 @@ ghost use lib.ListN.{length};
 ghost use Rattle.graph.specs.Hops.{count, from};
 ghost use Rattle.graph.specs.Answers.{most-states};
 ghost use Rattle.mark_confluence.specs.MarkSet.{markSet};
-ghost use Rattle.reduce_representatives.specs.Tables.{Marks, Own, FromIn, Onward, Closed, Sinks, Noted, entered, stays, stepped};
+ghost use Rattle.reduce_representatives.specs.Tables.{Marks, IdentityTable, FromIn, NextTable, ClosedTable, TerminatingTable, Compressed, withNext, isFixed, tableSteps};
 
 // A table that leads from each state to itself.
-fn own_states() -> [u16; MOST_STATES]
-    ensures { λ r. ⌜ Own r ⌝ }
+fn identity_table() -> [u16; MOST_STATES]
+    ensures { λ r. ⌜ IdentityTable r ⌝ }
 {
     let mut next = [0u16; MOST_STATES];
     let mut s = 0;
@@ -32,7 +32,7 @@ fn enter(hops: &[u16], marks: &[u8], next: &mut [u16; MOST_STATES], i: usize)
     requires inside { ⌜ i < count (now hops) ⌝ }
     requires marked { ⌜ i < length (now marks) ⌝ }
     requires tabled { ⌜ from (now hops) i < most-states ⌝ }
-    ensures { λ r. ⌜ now (next .exit) ≡ entered (now (hops .entry)) (now (marks .entry)) i (now (next .entry)) ⌝ }
+    ensures { λ r. ⌜ now (next .exit) ≡ withNext (now (hops .entry)) (now (marks .entry)) i (now (next .entry)) ⌝ }
 {
     if marks[i] == 1 {
         let at = from_at(hops, i).0 as usize;
@@ -44,9 +44,9 @@ fn enter(hops: &[u16], marks: &[u8], next: &mut [u16; MOST_STATES], i: usize)
 pub fn next_states(hops: &[u16], marks: &[u8]) -> [u16; MOST_STATES]
     requires marks { ⌜ Marks (now hops) (markSet (now hops) (now marks)) (now marks) ⌝ }
     requires tabled { ⌜ FromIn (now hops) ⌝ }
-    ensures { λ r. ⌜ Onward (now (hops .entry)) (markSet (now (hops .entry)) (now (marks .entry))) r ⌝ }
+    ensures { λ r. ⌜ NextTable (now (hops .entry)) (markSet (now (hops .entry)) (now (marks .entry))) r ⌝ }
 {
-    let mut next = own_states();
+    let mut next = identity_table();
     let mut i = hop_count(hops);
     while 0 < i {
         i -= 1;
@@ -56,9 +56,9 @@ pub fn next_states(hops: &[u16], marks: &[u8]) -> [u16; MOST_STATES]
 }
 
 // Whether the table leads from s to s.
-pub fn is_at_rest(next: &[u16; MOST_STATES], s: OldState) -> bool
+pub fn is_fixed(next: &[u16; MOST_STATES], s: OldState) -> bool
     requires { ⌜ s .0 < most-states ⌝ }
-    ensures { λ r. ⌜ r ≡ stays (now (next .entry)) (s .0) ⌝ }
+    ensures { λ r. ⌜ r ≡ isFixed (now (next .entry)) (s .0) ⌝ }
 {
     let at = s.0 as usize;
     next[at] == s.0
@@ -68,8 +68,8 @@ pub fn is_at_rest(next: &[u16; MOST_STATES], s: OldState) -> bool
 pub fn follow(next: &[u16; MOST_STATES], states: usize, s: OldState) -> OldState
     requires inside { ⌜ s .0 < states ⌝ }
     requires few { ⌜ states ≤ most-states ⌝ }
-    requires closed { ⌜ Closed states (now next) ⌝ }
-    ensures { λ r. ⌜ r .0 ≡ stepped (now (next .entry)) states (s .0) ⌝ }
+    requires closed { ⌜ ClosedTable states (now next) ⌝ }
+    ensures { λ r. ⌜ r .0 ≡ tableSteps (now (next .entry)) states (s .0) ⌝ }
 {
     let mut at = s.0;
     let mut k = 0;
@@ -86,14 +86,14 @@ pub fn follow(next: &[u16; MOST_STATES], states: usize, s: OldState) -> OldState
 }
 
 // Walks from s to its representative, and notes it with every state on the way.
-pub fn note_way(next: &mut [u16; MOST_STATES], states: usize, s: OldState, rep: OldState)
+pub fn compress_path(next: &mut [u16; MOST_STATES], states: usize, s: OldState, rep: OldState)
     requires inside { ⌜ s .0 < states ⌝ }
     requires few { ⌜ states ≤ most-states ⌝ }
     requires capacity { ⌜ most-states ≤ length (now next) ⌝ }
-    requires closed { ⌜ Closed states (now next) ⌝ }
-    requires sinks { ⌜ Sinks states (now next) ⌝ }
-    requires rep { ⌜ rep .0 ≡ stepped (now next) states (s .0) ⌝ }
-    ensures { λ r. ⌜ Noted states (now (next .entry)) (now (next .exit)) ⌝ }
+    requires closed { ⌜ ClosedTable states (now next) ⌝ }
+    requires sinks { ⌜ TerminatingTable states (now next) ⌝ }
+    requires rep { ⌜ rep .0 ≡ tableSteps (now next) states (s .0) ⌝ }
+    ensures { λ r. ⌜ Compressed states (now (next .entry)) (now (next .exit)) ⌝ }
 {
     let mut at = s.0;
     let mut passed = 0;

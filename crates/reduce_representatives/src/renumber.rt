@@ -1,8 +1,8 @@
 // New numbers: "Representatives are renumbered 0, 1, 2 in ascending old order", and the map.
 use super::NUMBERS;
+use super::follow::compress_path;
 use super::follow::follow;
-use super::follow::is_at_rest;
-use super::follow::note_way;
+use super::follow::is_fixed;
 use graph::MOST_STATES;
 use graph::OldState;
 use graph::map::map_at;
@@ -12,17 +12,17 @@ ghost use lib.ListN.{length};
 ghost use Rattle.base_bounded.specs.Quantifiers.{tabulate};
 ghost use Rattle.base_outputs.specs.Output.{onFront};
 ghost use Rattle.graph.specs.Answers.{most-states};
-ghost use Rattle.reduce_representatives.specs.Tables.{Closed, Sinks, Numbers, numbered};
+ghost use Rattle.reduce_representatives.specs.Tables.{ClosedTable, TerminatingTable, NewNumbers, newNumber};
 
 // How many states below s rest, for each s up to the one past the last: the new number of s where s rests.
 pub fn new_numbers(next: &[u16; MOST_STATES]) -> [u16; NUMBERS]
-    ensures { λ r. ⌜ Numbers (now (next .entry)) r ⌝ }
+    ensures { λ r. ⌜ NewNumbers (now (next .entry)) r ⌝ }
 {
     let mut news = [0u16; NUMBERS];
     let mut found = 0u16;
     let mut s = 0;
     while s < MOST_STATES {
-        if is_at_rest(next, OldState(s as u16)) {
+        if is_fixed(next, OldState(s as u16)) {
             found += 1;
         }
         s += 1;
@@ -37,14 +37,14 @@ pub fn fill_map(states: usize, mut next: [u16; MOST_STATES], news: &[u16], map: 
     requires few { ⌜ states ≤ most-states ⌝ }
     requires numbers { ⌜ states ≤ length (now news) ⌝ }
     requires capacity { ⌜ states ≤ length (now map) ⌝ }
-    requires closed { ⌜ Closed states next ⌝ }
-    requires sinks { ⌜ Sinks states next ⌝ }
-    ensures { λ r. ⌜ now (map .exit) ≡ onFront (tabulate states (numbered next (now (news .entry)) states)) (now (map .entry)) ⌝ }
+    requires closed { ⌜ ClosedTable states next ⌝ }
+    requires sinks { ⌜ TerminatingTable states next ⌝ }
+    ensures { λ r. ⌜ now (map .exit) ≡ onFront (tabulate states (newNumber next (now (news .entry)) states)) (now (map .entry)) ⌝ }
 {
     let mut s = 0;
     while s < states {
         let rep = follow(&next, states, OldState(s as u16));
-        note_way(&mut next, states, OldState(s as u16), rep);
+        compress_path(&mut next, states, OldState(s as u16), rep);
         let new = map_at(news, rep);
         map[s] = new.0;
         s += 1;

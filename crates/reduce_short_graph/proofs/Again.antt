@@ -17,24 +17,24 @@ use Rattle.walk_silent.specs.Silent.{HopOf, OnRing}
 use Rattle.walk_silent.proofs.Rings.{ring-answer-iff}
 use Rattle.walk_silent.proofs.Hops.{silent-start}
 use Rattle.base_fixpoint.specs.Pairs.{Pairs, In}
-use Rattle.reduce_representatives.specs.Representative.{Settles, resting, mapOf}
+use Rattle.reduce_representatives.specs.Representative.{Terminating, isNormal, mapOf}
 use Rattle.reduce_representatives.specs.Tables.{Reducible}
-use Rattle.reduce_representatives.proofs.Resting.{resting-normal, normal-resting, rep-rests}
+use Rattle.reduce_representatives.proofs.NormalForm.{is-normal-normal, normal-is-normal, rep-rests}
 use Rattle.reduce_representatives.proofs.Mapped.{map-own}
 use Rattle.reduce_short_graph.specs.Short.{shortHops, shortShape}
 use Rattle.reduce_short_graph.proofs.Images.{short-only}
-use Rattle.reduce_short_graph.proofs.Reduces.{short-left, shape-admitted}
+use Rattle.reduce_short_graph.proofs.Reduces.{short-renumbered, shape-admitted}
 
-module _ {sh : Shape} {hs : List ℕ} {u : Pairs} (adm : Admitted sh hs) (sett : Settles sh hs u) where
+module _ {sh : Shape} {hs : List ℕ} {u : Pairs} (adm : Admitted sh hs) (sett : Terminating sh hs u) where
   -- "no short graph has a ring"
-  pub short-ringless : Confluent (HopOf hs) (In u) → (n : ℕ) → OnRing (flat (shortHops sh hs u)) n → ⊥
-  short-ringless conf n (m, h, p) =
+  pub short-acyclic : Confluent (HopOf hs) (In u) → (n : ℕ) → OnRing (flat (shortHops sh hs u)) n → ⊥
+  short-acyclic conf n (m, h, p) =
       let (r, _, e, _, d, _) = short-only sh hs u n 0 m h in
       let at : mapOf sh hs u r ≡ n = map-own sh hs u r e ∙ d in
-      renumbered-acyclic conf (rep-rests sett) (short-left sett) r m (rw at h) (rw at p)
+      renumbered-acyclic conf (rep-rests sett) (short-renumbered sett) r m (rw at h) (rw at p)
 
   pub short-again : Confluent (HopOf hs) (In u) → Reducible (shortShape sh hs u) (flat (shortHops sh hs u))
-  short-again conf = record { admitted = shape-admitted adm sett; free = ring-answer-iff (shape-admitted adm sett .range) .1 (short-ringless conf) }
+  short-again conf = record { admitted = shape-admitted adm sett; free = ring-answer-iff (shape-admitted adm sett .range) .1 (short-acyclic conf) }
 
   pub short-fewer : (s t : ℕ) → In u s t → shortShape sh hs u .states < sh .states
   unfolding shortShape
@@ -43,9 +43,9 @@ module _ {sh : Shape} {hs : List ℕ} {u : Pairs} (adm : Admitted sh hs) (sett :
       omega (
         arith,
         tally-within (λ (_ : ℕ). true) (sh .states),
-        tally-less (resting hs u) (λ (_ : ℕ). true) (sh .states) (λ _ _ _. refl) l (no-test _ (λ e. resting-normal sett s e t m)) refl,
+        tally-less (isNormal hs u) (λ (_ : ℕ). true) (sh .states) (λ _ _ _. refl) l (no-test _ (λ e. is-normal-normal sett s e t m)) refl,
       )
 
 pub short-all : (sh : Shape) (hs : List ℕ) (u : Pairs) → ((s t : ℕ) → In u s t → ⊥) → shortShape sh hs u .states ≡ sh .states
 unfolding shortShape
-short-all sh hs u none = tally-full (resting hs u) (sh .states) (λ s l. normal-resting hs u s (none s))
+short-all sh hs u none = tally-full (isNormal hs u) (sh .states) (λ s l. normal-is-normal hs u s (none s))

@@ -11,34 +11,34 @@ use Rattle.graph.specs.Order.{Ascending}
 use Rattle.graph.specs.declared.Shape.{Shape}
 use Rattle.graph.proofs.Places.{has-at, has-place}
 use Rattle.base_fixpoint.specs.Pairs.{Pairs}
-use Rattle.reduce_insertion.proofs.Insertion.{rising-ascending}
-use Rattle.reduce_insertion.proofs.Collected.{collected-rising, collected-few, collected-within, collected-iff}
-use Rattle.reduce_representatives.specs.Representative.{resting, newOf, mapOf}
-use Rattle.reduce_short_graph.specs.Short.{image, gathered, shortHops}
+use Rattle.reduce_insertion.proofs.Insertion.{sorted-ascending}
+use Rattle.reduce_insertion.proofs.Collected.{collected-sorted, collected-few, collected-within, collected-iff}
+use Rattle.reduce_representatives.specs.Representative.{isNormal, newOf, mapOf}
+use Rattle.reduce_short_graph.specs.Short.{image, shortUpTo, shortHops}
 
 module _ (sh : Shape) (hs : List ℕ) (u : Pairs) where
   pub short-ascending : Ascending (flat (shortHops sh hs u))
-  unfolding shortHops gathered
-  short-ascending = rising-ascending _ (collected-rising (λ (i : ℕ). resting hs u (from hs i)) (image sh hs u) (count hs))
+  unfolding shortHops shortUpTo
+  short-ascending = sorted-ascending _ (collected-sorted (λ (i : ℕ). isNormal hs u (from hs i)) (image sh hs u) (count hs))
 
   -- at most as many as leave a representative
-  pub short-few : length (shortHops sh hs u) ≤ tally (count hs) (λ (i : ℕ). resting hs u (from hs i))
-  unfolding shortHops gathered
-  short-few = collected-few (λ (i : ℕ). resting hs u (from hs i)) (image sh hs u) (count hs)
+  pub short-few : length (shortHops sh hs u) ≤ tally (count hs) (λ (i : ℕ). isNormal hs u (from hs i))
+  unfolding shortHops shortUpTo
+  short-few = collected-few (λ (i : ℕ). isNormal hs u (from hs i)) (image sh hs u) (count hs)
 
   pub short-within : length (shortHops sh hs u) ≤ count hs
-  unfolding shortHops gathered
-  short-within = collected-within (λ (i : ℕ). resting hs u (from hs i)) (image sh hs u) (count hs)
+  unfolding shortHops shortUpTo
+  short-within = collected-within (λ (i : ℕ). isNormal hs u (from hs i)) (image sh hs u) (count hs)
 
   -- a hop of the short graph is the image of a hop of a representative
   abbrev pub ShortHop : ℕ → ℕ → ℕ → Type 0
-  ShortHop n a m = (r : ℕ) × (t : ℕ) × (resting hs u r ≡ true) × (has hs r a t ≡ true) × (newOf hs u r ≡ n) × (mapOf sh hs u t ≡ m)
+  ShortHop n a m = (r : ℕ) × (t : ℕ) × (isNormal hs u r ≡ true) × (has hs r a t ≡ true) × (newOf hs u r ≡ n) × (mapOf sh hs u t ≡ m)
 
   pub short-has : (n a m : ℕ) → ShortHop n a m → has (flat (shortHops sh hs u)) n a m ≡ true
-  unfolding shortHops gathered
+  unfolding shortHops shortUpTo
   short-has n a m (r, t, e, h, f, g) =
       let p = has-place hs r a t h in
-      collected-iff (λ (i : ℕ). resting hs u (from hs i)) (image sh hs u) (count hs) n a m .1 (
+      collected-iff (λ (i : ℕ). isNormal hs u (from hs i)) (image sh hs u) (count hs) n a m .1 (
         p .at,
         p .within,
         rw (p .from-is) e,
@@ -46,9 +46,9 @@ module _ (sh : Shape) (hs : List ℕ) (u : Pairs) where
       )
 
   pub short-only : (n a m : ℕ) → has (flat (shortHops sh hs u)) n a m ≡ true → ShortHop n a m
-  unfolding shortHops gathered
+  unfolding shortHops shortUpTo
   short-only n a m e =
-      let (i, l, f, q) = collected-iff (λ (i : ℕ). resting hs u (from hs i)) (image sh hs u) (count hs) n a m .0 e in (
+      let (i, l, f, q) = collected-iff (λ (i : ℕ). isNormal hs u (from hs i)) (image sh hs u) (count hs) n a m .0 e in (
         from hs i,
         to hs i,
         f,

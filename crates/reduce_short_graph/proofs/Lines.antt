@@ -10,21 +10,21 @@ use Rattle.base_fixpoint.specs.Pairs.{Pairs}
 use Rattle.reduce_smallest_line.specs.Lines.{smallestLine, Smallest}
 use Rattle.reduce_smallest_line.proofs.Lines.{smallest-is}
 use Rattle.reduce_insertion.proofs.Lined.{collected-line}
-use Rattle.reduce_representatives.specs.Representative.{resting}
-use Rattle.reduce_short_graph.specs.Short.{image, gathered, shortHops, comesFrom}
+use Rattle.reduce_representatives.specs.Representative.{isNormal}
+use Rattle.reduce_short_graph.specs.Short.{image, shortUpTo, shortHops, comesFrom}
 
 module _ (sh : Shape) (hs : List ℕ) (u : Pairs) {i : ℕ} (l : i < count (flat (shortHops sh hs u))) where
   abbrev pub shortHop : Hop
   shortHop = hopAt (flat (shortHops sh hs u)) i
 
   pub short-line : lineAt (flat (shortHops sh hs u)) i ≡ smallestLine (comesFrom sh hs u shortHop) (lineAt hs) (count hs)
-  unfolding shortHops gathered comesFrom
+  unfolding shortHops shortUpTo comesFrom
   short-line =
       ap (λ (h : Hop). h .line) (flat-at (shortHops sh hs u) i) ∙
       rw (flat-at (shortHops sh hs u) i)
-      (collected-line (λ (j : ℕ). resting hs u (from hs j)) (image sh hs u) (count hs) (rw (count-flat (shortHops sh hs u)) at l))
+      (collected-line (λ (j : ℕ). isNormal hs u (from hs j)) (image sh hs u) (count hs) (rw (count-flat (shortHops sh hs u)) at l))
 
   -- what that means: the line is one of those of the representatives' own hops whose image it is, and none of theirs that is not 0 is smaller
-  pub short-line-means : Smallest (comesFrom sh hs u shortHop) (lineAt hs) (count hs) (lineAt (flat (shortHops sh hs u)) i)
-  short-line-means =
+  pub short-line-smallest : Smallest (comesFrom sh hs u shortHop) (lineAt hs) (count hs) (lineAt (flat (shortHops sh hs u)) i)
+  short-line-smallest =
       subst (λ (x : ℕ). Smallest (comesFrom sh hs u shortHop) (lineAt hs) (count hs) x) (sym short-line) (smallest-is (comesFrom sh hs u shortHop) (lineAt hs) (count hs))

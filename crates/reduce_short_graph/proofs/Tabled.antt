@@ -11,11 +11,11 @@ use Rattle.graph_check.specs.Check.{Admitted}
 use Rattle.graph.specs.declared.Shape.{Shape}
 use Rattle.base_fixpoint.specs.Pairs.{Pairs}
 use Rattle.reduce_insertion.proofs.Same.{collected-below}
-use Rattle.reduce_representatives.specs.Representative.{Settles, resting, mapOf}
-use Rattle.reduce_representatives.specs.Tables.{Onward, Numbers, stays, numbered}
+use Rattle.reduce_representatives.specs.Representative.{Terminating, isNormal, mapOf}
+use Rattle.reduce_representatives.specs.Tables.{NextTable, NewNumbers, isFixed, newNumber}
 use Rattle.reduce_representatives.proofs.Mapped.{map-own}
 use Rattle.reduce_representatives.proofs.Tabled.{states-fit, tabled-stays, tabled-map}
-use Rattle.reduce_short_graph.specs.Short.{image, gathered, mapList}
+use Rattle.reduce_short_graph.specs.Short.{image, shortUpTo, mapList}
 use Rattle.reduce_sorted_images.specs.Ascending.{imaged}
 use Rattle.reduce_short_graph.specs.Tables.{shortBy}
 
@@ -24,22 +24,22 @@ unfolding tabulate
 listed-same f g zero h = refl
 listed-same f g (suc n) h = rw (h n (omega arith), listed-same f g n (λ i l. h i (omega arith)))
 
-module _ {sh : Shape} {hs : List ℕ} {u : Pairs} (adm : Admitted sh hs) (sett : Settles sh hs u) (next : List ℕ) (on : Onward hs u next) where
-  module _ (news : List ℕ) (fill : Numbers next news) where
-    pub tabled-list : tabulate (sh .states) (numbered next news (sh .states)) ≡ mapList sh hs u
+module _ {sh : Shape} {hs : List ℕ} {u : Pairs} (adm : Admitted sh hs) (sett : Terminating sh hs u) (next : List ℕ) (on : NextTable hs u next) where
+  module _ (news : List ℕ) (fill : NewNumbers next news) where
+    pub tabled-list : tabulate (sh .states) (newNumber next news (sh .states)) ≡ mapList sh hs u
     unfolding mapList
-    tabled-list = listed-same (numbered next news (sh .states)) (mapOf sh hs u) (sh .states) (tabled-map adm sett next on news fill)
+    tabled-list = listed-same (newNumber next news (sh .states)) (mapOf sh hs u) (sh .states) (tabled-map adm sett next on news fill)
 
   module _ (map : List ℕ) (mapped : (s : ℕ) → s < sh .states → getD map s 0 ≡ mapOf sh hs u s) where
-    tabled-image : (i : ℕ) → i < count hs → resting hs u (from hs i) ≡ true → imaged hs map i ≡ image sh hs u i
+    tabled-image : (i : ℕ) → i < count hs → isNormal hs u (from hs i) ≡ true → imaged hs map i ≡ image sh hs u i
     tabled-image i l e = λ d. linedHop
         ((mapped (from hs i) (adm .range .from-in i l) ∙ map-own sh hs u (from hs i) e) d)
         (label hs i)
         (mapped (to hs i) (adm .range .to-in i l) d)
         (lineAt hs i)
 
-    pub tabled-short : (n : ℕ) → n ≤ count hs → shortBy hs next map n ≡ gathered sh hs u n
-    unfolding shortBy gathered
+    pub tabled-short : (n : ℕ) → n ≤ count hs → shortBy hs next map n ≡ shortUpTo sh hs u n
+    unfolding shortBy shortUpTo
     tabled-short n l = collected-below n (λ i k. stays-is k) (λ i k e. tabled-image i (omega arith) (sym (stays-is k) ∙ e)) where
-      stays-is : {i : ℕ} → i < n → stays next (from hs i) ≡ resting hs u (from hs i)
+      stays-is : {i : ℕ} → i < n → isFixed next (from hs i) ≡ isNormal hs u (from hs i)
       stays-is {i} k = tabled-stays adm sett next on (from hs i) (omega (arith, adm .range .from-in i (omega arith), states-fit adm sett next on))

@@ -10,7 +10,7 @@ use Rattle.graph.specs.declared.Hop.{Hop}
 use Rattle.graph.specs.declared.Shape.{Shape}
 use Rattle.base_fixpoint.specs.Pairs.{Pairs}
 use Rattle.reduce_insertion.specs.Insertion.{collected}
-use Rattle.reduce_representatives.specs.Representative.{resting, newOf, mapOf}
+use Rattle.reduce_representatives.specs.Representative.{isNormal, newOf, mapOf}
 
 -- what a hop becomes, if it leaves a representative; it keeps its line
 abbrev pub becomes : Shape → List ℕ → Pairs → Hop → Hop
@@ -21,19 +21,19 @@ abbrev pub image : Shape → List ℕ → Pairs → ℕ → Hop
 image sh hs u i = becomes sh hs u (hopAt hs i)
 
 -- the images of the representatives' hops among the first n
-unfoldable pub gathered : Shape → List ℕ → Pairs → ℕ → List Hop
-gathered sh hs u = collected (λ (i : ℕ). resting hs u (from hs i)) (image sh hs u)
+unfoldable pub shortUpTo : Shape → List ℕ → Pairs → ℕ → List Hop
+shortUpTo sh hs u = collected (λ (i : ℕ). isNormal hs u (from hs i)) (image sh hs u)
 
 unfoldable pub shortHops : Shape → List ℕ → Pairs → List Hop
-shortHops sh hs u = gathered sh hs u (count hs)
+shortHops sh hs u = shortUpTo sh hs u (count hs)
 
 -- the hop at place i is among "the hops it comes from", of a hop h of the short graph: it leaves a representative, and what it becomes is like h
 unfoldable pub comesFrom : Shape → List ℕ → Pairs → Hop → ℕ → Bool
-comesFrom sh hs u h i = resting hs u (from hs i) && same (image sh hs u i) h
+comesFrom sh hs u h i = isNormal hs u (from hs i) && same (image sh hs u i) h
 
 -- "Its initial state is the map of the old one, its label count is the old one."
 unfoldable pub shortShape : Shape → List ℕ → Pairs → Shape
-shortShape sh hs u = record { states = tally (sh .states) (resting hs u); labels = sh .labels; initial = mapOf sh hs u (sh .initial) }
+shortShape sh hs u = record { states = tally (sh .states) (isNormal hs u); labels = sh .labels; initial = mapOf sh hs u (sh .initial) }
 
 -- the map as a list, "one element a state"
 unfoldable pub mapList : Shape → List ℕ → Pairs → List ℕ

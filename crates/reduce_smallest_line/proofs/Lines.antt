@@ -10,7 +10,7 @@ use lib.Dec.{ltb}
 use Rattle.base_bounded.proofs.Bools.{clash, decided, lt-or-le, eq-or-not}
 use Rattle.graph.specs.Hops.{Alike}
 use Rattle.graph.specs.declared.Hop.{Hop}
-use Rattle.reduce_smallest_line.specs.Lines.{lesserLine, joined, smallestLine, Smallest}
+use Rattle.reduce_smallest_line.specs.Lines.{lesserLine, mergedHop, smallestLine, Smallest}
 
 -- of two lines
 pub lesser-none : (b : ℕ) → lesserLine 0 b ≡ b
@@ -39,8 +39,8 @@ lesser-is a b = ⊎-elim (λ e. rw (eq-eqb a 0 e) (no-first e)) (λ e. rw (ne-eq
           (λ l. rw (le-ltb b a l) (record { which = inl refl; first = λ k. (k, omega arith); second = λ k. (omega (arith, e), l) })) (lt-or-le b a)
 
 -- what is kept of two hops is like the first
-pub joined-like : (x h : Hop) → Alike (joined x h) x
-joined-like x h = record { same-from = refl; same-label = refl; same-to = refl }
+pub merged-like : (x h : Hop) → Alike (mergedHop x h) x
+merged-like x h = record { same-from = refl; same-label = refl; same-to = refl }
 
 module _ (pass : ℕ → Bool) (line : ℕ → ℕ) where
   -- it is what it is to mean

@@ -12,8 +12,8 @@ unfoldable pub lesserLine : ℕ → ℕ → ℕ
 lesserLine a b = cond (eqb a 0) b (cond (eqb b 0) a (cond (ltb b a) b a))
 
 -- what is kept of two hops that are alike: x, with the lesser of their lines
-abbrev pub joined : Hop → Hop → Hop
-joined x h = linedHop (x .from) (x .label) (x .to) (lesserLine (x .line) (h .line))
+abbrev pub mergedHop : Hop → Hop → Hop
+mergedHop x h = linedHop (x .from) (x .label) (x .to) (lesserLine (x .line) (h .line))
 
 -- "the smallest nonzero line" among the lines `line i` of the places i below n that pass, "else 0"
 unfoldable pub smallestLine : (ℕ → Bool) → (ℕ → ℕ) → ℕ → ℕ

@@ -5,7 +5,7 @@
 use graph::Hop;
 use graph::hops::lined_hop;
 ghost use mathlib.Core.Path.{_≡_};
-ghost use Rattle.reduce_smallest_line.specs.Lines.{lesserLine, joined};
+ghost use Rattle.reduce_smallest_line.specs.Lines.{lesserLine, mergedHop};
 
 // The smaller of two lines that is not 0, or 0.
 fn lesser_line(a: u16, b: u16) -> u16
@@ -24,8 +24,8 @@ fn lesser_line(a: u16, b: u16) -> u16
 }
 
 // What is kept of two hops that are alike.
-pub fn join(x: Hop, h: Hop) -> Hop
-    ensures { λ r. ⌜ r ≡ joined x h ⌝ }
+pub fn merge(x: Hop, h: Hop) -> Hop
+    ensures { λ r. ⌜ r ≡ mergedHop x h ⌝ }
 {
     lined_hop(x.from, x.label, x.to, lesser_line(x.line, h.line))
 }

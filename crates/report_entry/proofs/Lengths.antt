@@ -23,12 +23,12 @@ use Rattle.base_fixpoint.specs.Pairs.{Pairs}
 use Rattle.mark_confluence.specs.Rounds.{marked}
 use Rattle.mark_confluence.specs.MarkSet.{markOf}
 use Rattle.mark_confluence.proofs.Marked.{marked-confluent}
-use Rattle.reduce_representatives.specs.Representative.{Settles, markedFrom, resting, mapOf}
+use Rattle.reduce_representatives.specs.Representative.{Terminating, markedFrom, isNormal, mapOf}
 use Rattle.reduce_representatives.specs.Tables.{Reducible}
-use Rattle.reduce_representatives.proofs.Marked.{silent-settles}
+use Rattle.reduce_representatives.proofs.Marked.{silent-terminating}
 use Rattle.reduce_short_graph.specs.Short.{shortHops, shortShape}
 use Rattle.reduce_short_graph.proofs.Images.{short-few}
-use Rattle.reduce_short_graph.proofs.Lines.{short-line-means}
+use Rattle.reduce_short_graph.proofs.Lines.{short-line-smallest}
 use Rattle.reduce_short_graph.proofs.Reduces.{shape-admitted, map-inside}
 use Rattle.report_text.specs.Text.{digits, decimal, spaced, numbered, line, lines, in-word, marked-word, map-word, out-word, hop-word, no-word}
 use Rattle.report_rows.specs.Rows.{markedLine, mapLine, hopLine, linesOf, refusalOf}
@@ -134,8 +134,8 @@ module _ (sh : Shape) (hs : List ℕ) (adm : Admitted sh hs) where
 
 -- a hop of u leaves no state at rest: how many are marked, and how many short hops there are, is together at most how many hops there are
 module _ (sh : Shape) (hs : List ℕ) (u : Pairs) where
-  moved : (i : ℕ) → i < count hs → isIn hs u i ≡ true → resting hs u (from hs i) ≡ false
-  unfolding resting markedFrom
+  moved : (i : ℕ) → i < count hs → isIn hs u i ≡ true → isNormal hs u (from hs i) ≡ false
+  unfolding isNormal markedFrom
   moved i l e = rw (any-found (markedFrom hs u (from hs i)) (count hs) l (and-yes (eq-eqb (from hs i) (from hs i) refl) e))
 
   once : tally (count hs) (isIn hs u) + length (shortHops sh hs u) ≤ count hs
@@ -143,13 +143,13 @@ module _ (sh : Shape) (hs : List ℕ) (u : Pairs) where
       omega (
         arith,
         short-few sh hs u,
-        tally-both (isIn hs u) (λ (i : ℕ). resting hs u (from hs i)) (λ (i : ℕ). true) (count hs) (λ i l e. (moved i l e, refl)) (λ i l e. refl),
+        tally-both (isIn hs u) (λ (i : ℕ). isNormal hs u (from hs i)) (λ (i : ℕ). true) (count hs) (λ i l e. (moved i l e, refl)) (λ i l e. refl),
         tally-within (λ (i : ℕ). true) (count hs),
       )
 
 -- the line of a short hop is 0 or the line of a hop, and so of 16 bits where those are
 line-narrow : (sh : Shape) (hs : List ℕ) (u : Pairs) → Narrow hs → (i : ℕ) → i < count (flat (shortHops sh hs u)) → lineAt (flat (shortHops sh hs u)) i < 65536
-line-narrow sh hs u n i l = ⊎-elim (λ z. omega arith) (λ p. let (j, _, _, e) = short-line-means sh hs u l .one-of-theirs (omega arith) in omega (arith, e, n (numberPlace j + 3)))
+line-narrow sh hs u n i l = ⊎-elim (λ z. omega arith) (λ p. let (j, _, _, e) = short-line-smallest sh hs u l .one-of-theirs (omega arith) in omega (arith, e, n (numberPlace j + 3)))
     (eq-or-not (lineAt (flat (shortHops sh hs u)) i) 0)
 
 -- 13 bytes for `in`, 17 a marked hop, 14 a state, 19 for `out`, 25 a short hop
@@ -175,8 +175,8 @@ report-most {sh} {hs} red narrow =
       u : Pairs
       u = marked hs
 
-      settles : Settles sh hs u
-      settles = silent-settles red u (marked-confluent hs .silent)
+      settles : Terminating sh hs u
+      settles = silent-terminating red u (marked-confluent hs .silent)
 
       new : Shape
       new = shortShape sh hs u

@@ -29,9 +29,9 @@ use Rattle.reduce_representatives.specs.Representative.{mapOf}
 use Rattle.reduce_representatives.specs.Tables.{Reducible}
 use Rattle.reduce_short_graph.specs.Short.{shortHops, shortShape, mapList}
 use Rattle.reduce_short_graph.proofs.Images.{short-within}
-use Rattle.reduce_by_marks.specs.Reducing.{shortGraph, mapLeft, shortLeft}
+use Rattle.reduce_by_marks.specs.ByMarks.{shortGraph, mapAfter, shortAfter}
 use Rattle.reduce_by_marks.specs.declared.ShortGraph.{ShortGraph}
-use Rattle.reduce_entry.proofs.Marked.{left-map, left-short, left-shape, left-hops}
+use Rattle.reduce_entry.proofs.Marked.{after-map, after-short, after-shape, after-hops}
 use Rattle.file_fields.specs.Format.{hopsIn, shapeIn, hopListIn}
 use Rattle.file_fields.proofs.Laws.{length-hop-list, count-hop-list}
 use Rattle.file_format.specs.Rows.{formatAnswer}
@@ -96,25 +96,25 @@ module _ {sh : Shape} {hs : List ℕ} (red : Reducible sh hs) where
     pub reduced-marks : (i : ℕ) → i < count hs → getD ms i 0 ≡ markOf hs (marked hs) i
     reduced-marks i l = marks-at hs (marked hs) ms ms0 e l
 
-    pub reduced-map : (m0 : List ℕ) {m : List ℕ} → m ≡ mapLeft sh hs ms m0 → (s : ℕ) → s < sh .states → getD m s 0 ≡ mapOf sh hs (marked hs) s
+    pub reduced-map : (m0 : List ℕ) {m : List ℕ} → m ≡ mapAfter sh hs ms m0 → (s : ℕ) → s < sh .states → getD m s 0 ≡ mapOf sh hs (marked hs) s
     unfolding mapList
     reduced-map m0 f s l =
-        rw (left-map sh hs (marked hs) ms ms0 e silent m0 f)
+        rw (after-map sh hs (marked hs) ms ms0 e silent m0 f)
         (List·getD-append (tabulate (sh .states) (mapOf sh hs (marked hs))) _ 0 s (rw (length-tabulate (mapOf sh hs (marked hs)) (sh .states)) l) ∙
         getD-tabulate (mapOf sh hs (marked hs)) (sh .states) l)
 
     module _ {r : ShortGraph} (d : r ≡ shortGraph sh hs (markSet hs ms)) where
       pub reduced-shape : r .shape ≡ shortShape sh hs (marked hs)
-      reduced-shape = left-shape sh hs (marked hs) ms ms0 e silent d
+      reduced-shape = after-shape sh hs (marked hs) ms ms0 e silent d
 
       reduced-hops : r .hops ≡ length (shortHops sh hs (marked hs))
-      reduced-hops = left-hops sh hs (marked hs) ms ms0 e silent d
+      reduced-hops = after-hops sh hs (marked hs) ms ms0 e silent d
 
       pub reduced-most : r .hops ≤ most-hops
       reduced-most = omega (arith, reduced-hops, short-within sh hs (marked hs), red .admitted .hops-most)
 
-      pub reduced-short : (s0 : List ℕ) {s part : List ℕ} → s ≡ shortLeft sh hs ms s0 → part ≡ between s 0 (r .hops) → part ≡ flat (shortHops sh hs (marked hs))
-      reduced-short s0 g p = p ∙ rw (left-short sh hs (marked hs) ms ms0 e silent s0 g) (flat-front (shortHops sh hs (marked hs)) _ reduced-hops)
+      pub reduced-short : (s0 : List ℕ) {s part : List ℕ} → s ≡ shortAfter sh hs ms s0 → part ≡ between s 0 (r .hops) → part ≡ flat (shortHops sh hs (marked hs))
+      reduced-short s0 g p = p ∙ rw (after-short sh hs (marked hs) ms ms0 e silent s0 g) (flat-front (shortHops sh hs (marked hs)) _ reduced-hops)
 
   pub reduced-lines : {mark map : ℕ → ℕ} {new : Shape} {short : List ℕ} → ((i : ℕ) → i < count hs → mark i ≡ markOf hs (marked hs) i) →
       ((s : ℕ) → s < sh .states → map s ≡ mapOf sh hs (marked hs) s) → new ≡ shortShape sh hs (marked hs) → short ≡ flat (shortHops sh hs (marked hs)) →

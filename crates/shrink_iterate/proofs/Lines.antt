@@ -16,10 +16,10 @@ use Rattle.graph.proofs.Ordered.{alike-itself, alike-back, alike-then, ascendin
 use Rattle.base_fixpoint.specs.Pairs.{Pairs}
 use Rattle.reduce_smallest_line.specs.Lines.{smallestLine, Smallest}
 use Rattle.reduce_smallest_line.proofs.Lines.{smallest-is, smallest-only}
-use Rattle.reduce_representatives.specs.Representative.{resting, newOf, mapOf}
+use Rattle.reduce_representatives.specs.Representative.{isNormal, newOf, mapOf}
 use Rattle.reduce_short_graph.specs.Short.{becomes, image, shortHops, comesFrom}
 use Rattle.reduce_short_graph.proofs.Images.{short-ascending, short-has}
-use Rattle.reduce_short_graph.proofs.Lines.{short-line-means}
+use Rattle.reduce_short_graph.proofs.Lines.{short-line-smallest}
 use Rattle.shrink_iterate.specs.Repeating.{Stage, nextStage, markedAt, marksSome, repeated, comesThrough, firstStage, lastStage, lastOf}
 
 -- hops that are alike become hops that are alike, and come to the same hops in the end
@@ -32,14 +32,14 @@ unfolding comesThrough
 through-alike k zero g h {x} {y} e c = alike-same (alike-then (alike-back e) (same-alike x h c))
 through-alike k (suc n) g h {x} {y} e c = go (marksSome k g) (λ d. through-alike k n (nextStage k g) h (becomes-alike (g .shape) (g .hops) (markedAt k g) e) d) c where
   on : Hop → Bool
-  on z = resting (g .hops) (markedAt k g) (z .from) && comesThrough k n (nextStage k g) h (becomes (g .shape) (g .hops) (markedAt k g) z)
+  on z = isNormal (g .hops) (markedAt k g) (z .from) && comesThrough k n (nextStage k g) h (becomes (g .shape) (g .hops) (markedAt k g) z)
 
   go : (m : Bool) →
       (comesThrough k n (nextStage k g) h (becomes (g .shape) (g .hops) (markedAt k g) x) ≡ true →
       comesThrough k n (nextStage k g) h (becomes (g .shape) (g .hops) (markedAt k g) y) ≡ true) → cond m (on x) (same x h) ≡ true → cond m (on y) (same y h) ≡ true
   go true ih d =
-      and-yes (ap (resting (g .hops) (markedAt k g)) (sym (e .same-from)) ∙ and-left (resting (g .hops) (markedAt k g) (x .from)) _ d)
-      (ih (and-right (resting (g .hops) (markedAt k g) (x .from)) _ d))
+      and-yes (ap (isNormal (g .hops) (markedAt k g)) (sym (e .same-from)) ∙ and-left (isNormal (g .hops) (markedAt k g) (x .from)) _ d)
+      (ih (and-right (isNormal (g .hops) (markedAt k g) (x .from)) _ d))
   go false ih d = alike-same (alike-then (alike-back e) (same-alike x h d))
 
 -- a hop that comes from itself alone has its own line
@@ -55,28 +55,28 @@ module _ (sh : Shape) (hs : List ℕ) (u : Pairs) (on : Hop → Bool) (alike : (
   short = flat (shortHops sh hs u)
 
   -- the place in the short graph of what the hop at place i becomes
-  place : (i : ℕ) → i < count hs → resting hs u (from hs i) ≡ true → (j : ℕ) × (j < count short) × Alike (hopAt short j) (image sh hs u i)
+  place : (i : ℕ) → i < count hs → isNormal hs u (from hs i) ≡ true → (j : ℕ) × (j < count short) × Alike (hopAt short j) (image sh hs u i)
   place i l e =
       let p = has-place short _ _ _ (short-has sh hs u _ _ _ (from hs i, _, e, has-at hs l, refl, refl)) in
       (p .at, p .within, record { same-from = p .from-is; same-label = p .label-is; same-to = p .to-is })
 
   back-one : {l : ℕ} → Smallest (λ (j : ℕ). on (hopAt short j)) (lineAt short) (count short) l →
-      Smallest (λ (i : ℕ). resting hs u (from hs i) && on (image sh hs u i)) (lineAt hs) (count hs) l
+      Smallest (λ (i : ℕ). isNormal hs u (from hs i) && on (image sh hs u i)) (lineAt hs) (count hs) l
   unfolding comesFrom
   back-one {l} s = record {
     one-of-theirs = λ k.
         let (j, m, c, q) = s .one-of-theirs k in
-        let (i, v, d, r) = short-line-means sh hs u m .one-of-theirs (rw q k) in (
+        let (i, v, d, r) = short-line-smallest sh hs u m .one-of-theirs (rw q k) in (
           i,
           v,
-          and-yes (and-left (resting hs u (from hs i)) _ d) (alike _ _ (alike-back (same-alike (image sh hs u i) (hopAt short j) (and-right (resting hs u (from hs i)) _ d))) c),
+          and-yes (and-left (isNormal hs u (from hs i)) _ d) (alike _ _ (alike-back (same-alike (image sh hs u i) (hopAt short j) (and-right (isNormal hs u (from hs i)) _ d))) c),
           r ∙ q,
         );
     none-smaller = λ i m c k.
-        let e = and-left (resting hs u (from hs i)) _ c in
+        let e = and-left (isNormal hs u (from hs i)) _ c in
         let (j, v, q) = place i m e in
-        let (x, y) = short-line-means sh hs u v .none-smaller i m (and-yes e (alike-same (alike-back q))) k in
-        let (z, w) = s .none-smaller j v (alike _ _ (alike-back q) (and-right (resting hs u (from hs i)) _ c)) x in
+        let (x, y) = short-line-smallest sh hs u v .none-smaller i m (and-yes e (alike-same (alike-back q))) k in
+        let (z, w) = s .none-smaller j v (alike _ _ (alike-back q) (and-right (isNormal hs u (from hs i)) _ c)) x in
         (z, omega (arith, w, y));
   }
 
@@ -92,7 +92,7 @@ module _ (k : ℕ) where
   repeated-line (suc n) g up = go (marksSome k g) (λ p l. repeated-line n (nextStage k g) (short-ascending (g .shape) (g .hops) (markedAt k g)) p l) where
     go : (m : Bool) → Carried n (nextStage k g) (repeated k n (nextStage k g)) → (p : ℕ) → p < count ((cond m (repeated k n (nextStage k g)) g) .hops) →
         Smallest (λ (i : ℕ). cond m
-        (resting (g .hops) (markedAt k g) (from (g .hops) i) &&
+        (isNormal (g .hops) (markedAt k g) (from (g .hops) i) &&
         comesThrough k n (nextStage k g) (hopAt ((cond m (repeated k n (nextStage k g)) g) .hops) p) (image (g .shape) (g .hops) (markedAt k g) i))
         (same (hopAt (g .hops) i) (hopAt ((cond m (repeated k n (nextStage k g)) g) .hops) p))) (lineAt (g .hops)) (count (g .hops))
         (lineAt ((cond m (repeated k n (nextStage k g)) g) .hops) p)

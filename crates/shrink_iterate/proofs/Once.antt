@@ -16,12 +16,12 @@ use Rattle.mark_senses.specs.Senses.{markedIn, senseOf}
 use Rattle.mark_senses.proofs.Marked.{marked-confluent-in, marked-greatest-in}
 use Rattle.reduce_representatives.specs.Representative.{mapOf}
 use Rattle.reduce_representatives.specs.Tables.{Reducible}
-use Rattle.reduce_representatives.proofs.Resting.{rep-rests}
+use Rattle.reduce_representatives.proofs.NormalForm.{rep-rests}
 use Rattle.reduce_representatives.proofs.Mapped.{map-own}
 use Rattle.reduce_short_graph.specs.Short.{shortHops, shortShape}
 use Rattle.reduce_short_graph.proofs.Images.{short-only}
-use Rattle.reduce_short_graph.proofs.Reduces.{short-left}
-use Rattle.reduce_entry.proofs.Marked.{marked-settles}
+use Rattle.reduce_short_graph.proofs.Reduces.{short-renumbered}
+use Rattle.reduce_entry.proofs.Marked.{marked-terminating}
 use Rattle.shrink_iterate.specs.Repeating.{Stage, firstStage, nextStage, marksSome, lastStage}
 use Rattle.shrink_iterate.proofs.Stages.{some-marked, first-staged}
 use Rattle.shrink_iterate.proofs.Last.{last-again, last-still}
@@ -37,7 +37,7 @@ module _ {sh : Shape} {hs : List ℕ} (red : Reducible sh hs) where
       let again = marked-confluent-in r8 (shortShape sh hs u) (flat (shortHops sh hs u)) in
       let (r, _, e, _, d, _) = short-only sh hs u n 0 m (again .silent n m w) in
       let at : mapOf sh hs u r ≡ n = map-own sh hs u r e ∙ d in
-      once (marked-confluent-in r8 sh hs) (rep-rests (marked-settles red r8)) (short-left (marked-settles red r8)) again
+      once (marked-confluent-in r8 sh hs) (rep-rests (marked-terminating red r8)) (short-renumbered (marked-terminating red r8)) again
       (marked-greatest-in r8 sh hs (red .admitted .range)) r m (rw at w)
 
 -- so where a stage is reduced under R8 nothing is marked afterwards

@@ -18,7 +18,7 @@ use Rattle.mark_senses.specs.Senses.{senseOf, inSetAt}
 use Rattle.mark_senses.proofs.Marked.{marked-confluent-in}
 use Rattle.reduce_representatives.specs.Tables.{Reducible}
 use Rattle.reduce_short_graph.proofs.Again.{short-all}
-use Rattle.reduce_entry.specs.Reduce.{markedHops}
+use Rattle.reduce_entry.specs.Reduce.{reducedHops}
 use Rattle.reduce_entry.proofs.Marked.{marked-within}
 use Rattle.reduce_entry.proofs.Reduced.{short-again, short-fewer}
 use Rattle.audit_entry.specs.Auditing.{auditOf, faultless}
@@ -66,5 +66,5 @@ next-staged k {sh} {hs} {g} st e = record {
   reducible = short-again (st .reducible) (senseOf k);
   right = audits-compose sh (g .shape) _ hs (g .hops) _ (g .map) _ (st .right) (reduce-right (st .reducible) (senseOf k));
   few = let l = fewer-states k g (st .reducible) e in omega (arith, st .few);
-  fits = omega (arith, length-flat (markedHops (g .shape) (g .hops) k), marked-within (g .shape) (g .hops) k, st .fits);
+  fits = omega (arith, length-flat (reducedHops (g .shape) (g .hops) k), marked-within (g .shape) (g .hops) k, st .fits);
 }

@@ -10,9 +10,9 @@ use Rattle.graph.specs.declared.Hop.{Hop}
 use Rattle.graph.specs.declared.Shape.{Shape}
 use Rattle.base_fixpoint.specs.Pairs.{Pairs, In}
 use Rattle.mark_senses.specs.Senses.{inSetAt, markedBy}
-use Rattle.reduce_representatives.specs.Representative.{resting}
+use Rattle.reduce_representatives.specs.Representative.{isNormal}
 use Rattle.reduce_short_graph.specs.Short.{becomes}
-use Rattle.reduce_entry.specs.Reduce.{markedMap, markedHops, markedShape}
+use Rattle.reduce_entry.specs.Reduce.{reducedMap, reducedHops, reducedShape}
 use Rattle.shrink_compose.specs.Chained.{chained, ownMap}
 
 -- how far a repetition has come: a graph, the map to it from the first states, and how many reductions marked something on the way
@@ -40,9 +40,9 @@ marksSome k g = someMarked k (g .shape) (g .hops)
 -- one reduction more: the short graph, its map behind the one so far, and one more counted
 abbrev pub nextStage : ℕ → Stage → Stage
 nextStage k g = record {
-  shape = markedShape (g .shape) (g .hops) k;
-  hops = flat (markedHops (g .shape) (g .hops) k);
-  map = chained (g .map) (markedMap (g .shape) (g .hops) k);
+  shape = reducedShape (g .shape) (g .hops) k;
+  hops = flat (reducedHops (g .shape) (g .hops) k);
+  map = chained (g .map) (reducedMap (g .shape) (g .hops) k);
   reductions = suc (g .reductions);
 }
 
@@ -64,7 +64,7 @@ lastStage k sh hs = lastOf k (firstStage sh hs)
 unfoldable pub comesThrough : ℕ → ℕ → Stage → Hop → Hop → Bool
 comesThrough k zero g h x = same x h
 comesThrough k (suc n) g h x =
-    cond (marksSome k g) (resting (g .hops) (markedAt k g) (x .from) && comesThrough k n (nextStage k g) h (becomes (g .shape) (g .hops) (markedAt k g) x))
+    cond (marksSome k g) (isNormal (g .hops) (markedAt k g) (x .from) && comesThrough k n (nextStage k g) h (becomes (g .shape) (g .hops) (markedAt k g) x))
     (same x h)
 
 -- what "until no hop is marked" means, with no bound: h is where the repetition from g ends

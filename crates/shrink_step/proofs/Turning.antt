@@ -18,10 +18,10 @@ use Rattle.mark_confluence.specs.MarkSet.{marksOf, markSet}
 use Rattle.mark_senses.specs.Senses.{senseOf, markedBy}
 use Rattle.mark_senses.proofs.Marked.{in-silent}
 use Rattle.reduce_short_graph.specs.Short.{mapList}
-use Rattle.reduce_by_marks.specs.Reducing.{shortGraph, mapLeft, shortLeft}
+use Rattle.reduce_by_marks.specs.ByMarks.{shortGraph, mapAfter, shortAfter}
 use Rattle.reduce_by_marks.specs.declared.ShortGraph.{ShortGraph}
-use Rattle.reduce_entry.specs.Reduce.{markedTo, markedMap, markedHops, markedShape}
-use Rattle.reduce_entry.proofs.Marked.{marked-within, left-shape, left-hops, left-map, left-short}
+use Rattle.reduce_entry.specs.Reduce.{reducedState, reducedMap, reducedHops, reducedShape}
+use Rattle.reduce_entry.proofs.Marked.{marked-within, after-shape, after-hops, after-map, after-short}
 use Rattle.shrink_compose.specs.Chained.{chained}
 use Rattle.shrink_iterate.specs.Repeating.{Stage, nextStage}
 use Rattle.shrink_step.specs.Reached.{stageOf}
@@ -41,11 +41,11 @@ module _
     silent : Subset (In u) (In (silentHops seen))
     silent = in-silent (senseOf k) (at .shape) seen
 
-    shape-is : made .shape ≡ markedShape (g .shape) (g .hops) k
-    shape-is = rw p at (left-shape (at .shape) seen u ms out e silent made-is)
+    shape-is : made .shape ≡ reducedShape (g .shape) (g .hops) k
+    shape-is = rw p at (after-shape (at .shape) seen u ms out e silent made-is)
 
-    hops-are : made .hops ≡ length (markedHops (g .shape) (g .hops) k)
-    hops-are = rw p at (left-hops (at .shape) seen u ms out e silent made-is)
+    hops-are : made .hops ≡ length (reducedHops (g .shape) (g .hops) k)
+    hops-are = rw p at (after-hops (at .shape) seen u ms out e silent made-is)
 
     -- the short hops are no more than the hops
     pub hops-within : made .hops ≤ count (g .hops)
@@ -54,27 +54,27 @@ module _
     pub hops-fewer : at .hops ≤ count hops → made .hops ≤ at .hops
     hops-fewer l = omega (arith, hops-within, between-count hops l)
 
-    module _ (old : List ℕ) {short : List ℕ} (s : short ≡ shortLeft (at .shape) seen ms old) where
-      short-hops : between short 0 (made .hops) ≡ flat (markedHops (g .shape) (g .hops) k)
+    module _ (old : List ℕ) {short : List ℕ} (s : short ≡ shortAfter (at .shape) seen ms old) where
+      short-hops : between short 0 (made .hops) ≡ flat (reducedHops (g .shape) (g .hops) k)
       short-hops =
-          ap (λ (x : List ℕ). between x 0 (made .hops)) (rw p at (left-short (at .shape) seen u ms out e silent old s)) ∙
-          flat-front (markedHops (g .shape) (g .hops) k) _ hops-are
+          ap (λ (x : List ℕ). between x 0 (made .hops)) (rw p at (after-short (at .shape) seen u ms out e silent old s)) ∙
+          flat-front (reducedHops (g .shape) (g .hops) k) _ hops-are
 
       -- they have room where the hops were
       pub short-capacity : {part : List ℕ} → part ≡ between short 0 (made .hops) → at .hops ≤ count hops → length part ≤ length hops
-      short-capacity q l = omega (arith, ap length (q ∙ short-hops), length-flat (markedHops (g .shape) (g .hops) k), hops-are, hops-fewer l)
+      short-capacity q l = omega (arith, ap length (q ∙ short-hops), length-flat (reducedHops (g .shape) (g .hops) k), hops-are, hops-fewer l)
 
-      pub turned : (was : List ℕ) {next then part after : List ℕ} → next ≡ mapLeft (at .shape) seen ms was → part ≡ between short 0 (made .hops) →
+      pub turned : (was : List ℕ) {next then part after : List ℕ} → next ≡ mapAfter (at .shape) seen ms was → part ≡ between short 0 (made .hops) →
           after ≡ onFront part hops → then ≡ chained map (take (at .shape .states) next) →
           stageOf (record { shape = made .shape; hops = made .hops; reductions = at .reductions + 1; more = true }) after then ≡ nextStage k g
       unfolding mapList
       turned was {then = then} {after = after} f q r t = λ d. record { shape = shape-is d; hops = last d; map = on d; reductions = add-one (at .reductions) d } where
-        last : between after 0 (made .hops) ≡ flat (markedHops (g .shape) (g .hops) k)
+        last : between after 0 (made .hops) ≡ flat (reducedHops (g .shape) (g .hops) k)
         last =
             ap (λ (x : List ℕ). between x 0 (made .hops)) (r ∙ ap (λ (x : List ℕ). onFront x hops) (q ∙ short-hops)) ∙
-            flat-front (markedHops (g .shape) (g .hops) k) _ hops-are
+            flat-front (reducedHops (g .shape) (g .hops) k) _ hops-are
 
-        on : then ≡ chained map (markedMap (g .shape) (g .hops) k)
+        on : then ≡ chained map (reducedMap (g .shape) (g .hops) k)
         on =
-            t ∙ ap (chained map) (ap (take (at .shape .states)) (rw p at (left-map (at .shape) seen u ms out e silent was f)) ∙
-            take-at (markedMap (g .shape) (g .hops) k) _ (at .shape .states) (length-tabulate (markedTo (g .shape) (g .hops) k) (at .shape .states)))
+            t ∙ ap (chained map) (ap (take (at .shape .states)) (rw p at (after-map (at .shape) seen u ms out e silent was f)) ∙
+            take-at (reducedMap (g .shape) (g .hops) k) _ (at .shape .states) (length-tabulate (reducedState (g .shape) (g .hops) k) (at .shape .states)))

@@ -13,9 +13,9 @@ use Rattle.mark_senses.specs.Senses.{inSetAt, reachesBy, hopOrStay, joinsAt, an
 use Rattle.mark_entry.specs.Mark.{markAnswer}
 use Rattle.mark_worklist.specs.Tests.{fell, stillMarked, affectedAt, affected, testedIn, testsIn, testsUpTo, testsOf}
 use Rattle.mark_entry_fast.specs.Fast.{markFastOf}
-use Rattle.reduce_representatives.specs.Representative.{markedFrom, resting, onward, followed, repOf, newOf, mapOf}
+use Rattle.reduce_representatives.specs.Representative.{markedFrom, isNormal, nextState, afterSteps, repOf, newOf, mapOf}
 use Rattle.reduce_insertion.specs.Insertion.{insert, collected}
-use Rattle.reduce_short_graph.specs.Short.{gathered, shortHops, shortShape, mapList}
+use Rattle.reduce_short_graph.specs.Short.{shortUpTo, shortHops, shortShape, mapList}
 use Rattle.reduce_entry.specs.Reduce.{reduceAnswer, reduceOf}
 use Rattle.audit_faults.specs.Faults.{initialFault, kept, lostFaults, offers, backed, matched, madeUp, madeUpFaults, faultsOf}
 use Rattle.audit_faults.specs.First.{firstInitial, lostPlace, firstLost, madeUpPlace, madeUpState, firstMadeUp, firstFault}
@@ -27,6 +27,6 @@ use Rattle.test_worked.specs.Table.{tableOf, table, outcomeOf, fallsIn}
 pub given : tableOf table ≡ table
 unfolding
     all any least tabulate tally total flat is labelled has before checkOf countsFit inside firstOutside ascendsAt firstNotAscending leadsBy onRing lowestOnRing ringAnswer
-    approximant survives marked closes tried answered answers hopAnswers answer closing inSetAt reachesBy hopOrStay joinsAt answersTo answersFrom answeredIn closesIn markedIn isSense senseOf senseAnswer marksOf markOf markAnswer fell stillMarked affectedAt affected testedIn testsIn testsUpTo testsOf markFastOf markedFrom resting onward followed repOf newOf mapOf
-    insert collected gathered shortHops shortShape mapList initialFault kept lostFaults offers backed matched madeUp madeUpFaults faultsOf firstInitial lostPlace firstLost madeUpPlace madeUpState firstMadeUp firstFault reduceAnswer reduceOf firstHigh mapFits auditAnswer auditOf hopsBefore findOf outcomeOf fallsIn
+    approximant survives marked closes tried answered answers hopAnswers answer closing inSetAt reachesBy hopOrStay joinsAt answersTo answersFrom answeredIn closesIn markedIn isSense senseOf senseAnswer marksOf markOf markAnswer fell stillMarked affectedAt affected testedIn testsIn testsUpTo testsOf markFastOf markedFrom isNormal nextState afterSteps repOf newOf mapOf
+    insert collected shortUpTo shortHops shortShape mapList initialFault kept lostFaults offers backed matched madeUp madeUpFaults faultsOf firstInitial lostPlace firstLost madeUpPlace madeUpState firstMadeUp firstFault reduceAnswer reduceOf firstHigh mapFits auditAnswer auditOf hopsBefore findOf outcomeOf fallsIn
 given = refl

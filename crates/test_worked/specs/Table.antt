@@ -14,7 +14,7 @@ use Rattle.graph.specs.declared.Answer.{Answer}
 use Rattle.mark_confluence.specs.Rounds.{survives}
 use Rattle.mark_entry.specs.Mark.{marksMade, markAnswer}
 use Rattle.mark_entry_fast.specs.Fast.{markFastOf}
-use Rattle.reduce_entry.specs.Reduce.{markedMap, markedHops, reduceOf}
+use Rattle.reduce_entry.specs.Reduce.{reducedMap, reducedHops, reduceOf}
 use Rattle.reduce_entry.specs.declared.Reduction.{Reduction}
 use Rattle.audit_faults.specs.First.{fault, noFault}
 use Rattle.audit_faults.specs.declared.Fault.{Fault}
@@ -89,8 +89,8 @@ outcomeOf sh hs =
       marks = marksMade sh hs 1;
       falls = tabulate (count hs) (fallsIn hs);
       tests = markFastOf sh hs hs .tests;
-      map = markedMap sh hs 1;
-      short = markedHops sh hs 1;
+      map = reducedMap sh hs 1;
+      short = reducedHops sh hs 1;
     })
     (record {
       answer = markAnswer sh hs 1 hs;

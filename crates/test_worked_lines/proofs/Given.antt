@@ -10,16 +10,16 @@ use Rattle.base_fixpoint.specs.Approximants.{approximant}
 use Rattle.mark_confluence.specs.Rounds.{tried}
 use Rattle.mark_confluence.specs.MarkSet.{marksOf, markOf}
 use Rattle.mark_senses.specs.Senses.{inSetAt, reachesBy, hopOrStay, joinsAt, answersTo, answersFrom, answeredIn, closesIn, markedIn, isSense, senseOf, senseAnswer}
-use Rattle.reduce_representatives.specs.Representative.{markedFrom, resting, onward, followed, repOf, newOf, mapOf}
+use Rattle.reduce_representatives.specs.Representative.{markedFrom, isNormal, nextState, afterSteps, repOf, newOf, mapOf}
 use Rattle.reduce_smallest_line.specs.Lines.{lesserLine}
 use Rattle.reduce_insertion.specs.Insertion.{insert, collected}
-use Rattle.reduce_short_graph.specs.Short.{gathered, shortHops, shortShape, mapList}
+use Rattle.reduce_short_graph.specs.Short.{shortUpTo, shortHops, shortShape, mapList}
 use Rattle.reduce_entry.specs.Reduce.{reduceAnswer}
 use Rattle.test_worked_lines.specs.Table.{tableOf, table}
 
 pub given : tableOf table ≡ table
 unfolding
     all any least tabulate tally flat is labelled has before checkOf countsFit inside firstOutside ascendsAt firstNotAscending leadsBy onRing lowestOnRing ringAnswer approximant tried marksOf markOf
-    inSetAt reachesBy hopOrStay joinsAt answersTo answersFrom answeredIn closesIn markedIn isSense senseOf senseAnswer markedFrom resting onward followed repOf newOf mapOf
-    lesserLine insert collected gathered shortHops shortShape mapList reduceAnswer
+    inSetAt reachesBy hopOrStay joinsAt answersTo answersFrom answeredIn closesIn markedIn isSense senseOf senseAnswer markedFrom isNormal nextState afterSteps repOf newOf mapOf
+    lesserLine insert collected shortUpTo shortHops shortShape mapList reduceAnswer
 given = refl

@@ -7,7 +7,7 @@ use Rattle.graph.specs.Answers.{accepted, refused}
 use Rattle.graph.specs.declared.Hop.{Hop}
 use Rattle.graph.specs.declared.Shape.{Shape}
 use Rattle.graph.specs.declared.Answer.{Answer}
-use Rattle.reduce_entry.specs.Reduce.{reduceAnswer, markedHops}
+use Rattle.reduce_entry.specs.Reduce.{reduceAnswer, reducedHops}
 
 -- a hop with its line; a state count and a label count, with initial state 0
 abbrev pub hop : ℕ → ℕ → ℕ → ℕ → Hop
@@ -35,7 +35,7 @@ pub record Table : Type 0 where
 
 -- the definitions' own account
 abbrev pub carriedOf : Carried → Carried
-carriedOf c = record { graph = c .graph; hops = c .hops; short = markedHops (c .graph) (flat (c .hops)) 1 }
+carriedOf c = record { graph = c .graph; hops = c .hops; short = reducedHops (c .graph) (flat (c .hops)) 1 }
 
 abbrev pub askedOf : Asked → Asked
 askedOf q = record {

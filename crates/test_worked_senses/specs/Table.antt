@@ -11,7 +11,7 @@ use Rattle.graph.specs.declared.Shape.{Shape}
 use Rattle.graph.specs.declared.Answer.{Answer}
 use Rattle.mark_confluence.specs.MarkSet.{marksOf}
 use Rattle.mark_senses.specs.Senses.{markedBy}
-use Rattle.reduce_entry.specs.Reduce.{reduceAnswer, reduceOf, markedMap, markedHops}
+use Rattle.reduce_entry.specs.Reduce.{reduceAnswer, reduceOf, reducedMap, reducedHops}
 use Rattle.reduce_entry.specs.declared.Reduction.{Reduction}
 
 -- a hop as document 01 writes it; a state count and a label count, with initial state 0
@@ -73,8 +73,8 @@ reducedOf m = record {
   hops = m .hops;
   sense = m .sense;
   returned = reduceOf (m .graph) (flat (m .hops)) (m .sense) (m .graph .states) (length (flat (m .hops)));
-  map = markedMap (m .graph) (flat (m .hops)) (m .sense);
-  short = markedHops (m .graph) (flat (m .hops)) (m .sense);
+  map = reducedMap (m .graph) (flat (m .hops)) (m .sense);
+  short = reducedHops (m .graph) (flat (m .hops)) (m .sense);
 }
 
 abbrev pub askedOf : Asked → Asked

@@ -19,9 +19,9 @@ use Rattle.base_fixpoint.specs.Pairs.{Pairs}
 use Rattle.mark_confluence.specs.Rounds.{tried}
 use Rattle.mark_confluence.specs.MarkSet.{isMarked, markSetAt, markSet, markOf, marksOf}
 use Rattle.mark_senses.specs.Senses.{inSetAt, reachesBy, hopOrStay, joinsAt, answersTo, answersFrom, answeredIn, closesIn, markedIn, isSense, senseOf, senseAnswer}
-use Rattle.reduce_representatives.specs.Representative.{markedFrom, resting, onward, followed, repOf, newOf, mapOf}
+use Rattle.reduce_representatives.specs.Representative.{markedFrom, isNormal, nextState, afterSteps, repOf, newOf, mapOf}
 use Rattle.reduce_insertion.specs.Insertion.{insert, collected}
-use Rattle.reduce_short_graph.specs.Short.{gathered, shortHops, shortShape, mapList}
+use Rattle.reduce_short_graph.specs.Short.{shortUpTo, shortHops, shortShape, mapList}
 use Rattle.reduce_entry.specs.Reduce.{reduceAnswer}
 use Rattle.shrink_compose.specs.Chained.{chained, ownMap}
 use Rattle.shrink_iterate.specs.Repeating.{Stage, firstStage, nextStage, markedAt, someMarked, marksSome, repeated, lastOf, lastStage}
@@ -140,8 +140,8 @@ rows-given (row r rs) = λ d. row-given r d ∷ rows-given rs d
 rows : Rows (table .shrunk)
 unfolding
     all any least tabulate tally flat is labelled has before checkOf countsFit inside firstOutside ascendsAt firstNotAscending leadsBy onRing lowestOnRing ringAnswer approximant tried
-    inSetAt reachesBy hopOrStay joinsAt answersTo answersFrom answeredIn closesIn markedIn isSense senseOf senseAnswer markedFrom resting onward followed repOf newOf mapOf
-    insert collected gathered shortHops shortShape mapList reduceAnswer
+    inSetAt reachesBy hopOrStay joinsAt answersTo answersFrom answeredIn closesIn markedIn isSense senseOf senseAnswer markedFrom isNormal nextState afterSteps repOf newOf mapOf
+    insert collected shortUpTo shortHops shortShape mapList reduceAnswer
     chained ownMap isMarked markSetAt markSet marksOf markOf closesAt leftAt end
 rows = row chain-r1-row (row chain-r2-row (row chain-r3-row (row chain-r8-row (row p1-r1-row (row p2-r1-row (row twice-r2-row none)))))) where
   chain-r1-row : Row chain-r1
@@ -168,8 +168,8 @@ rows = row chain-r1-row (row chain-r2-row (row chain-r3-row (row chain-r8-row (r
 refusals : map refusedOf (table .refused) ≡ table .refused
 unfolding
     all any least tabulate tally flat is labelled has before checkOf countsFit inside firstOutside ascendsAt firstNotAscending leadsBy onRing lowestOnRing ringAnswer approximant tried
-    inSetAt reachesBy hopOrStay joinsAt answersTo answersFrom answeredIn closesIn markedIn isSense senseOf senseAnswer markedFrom resting onward followed repOf newOf mapOf
-    insert collected gathered shortHops shortShape mapList reduceAnswer
+    inSetAt reachesBy hopOrStay joinsAt answersTo answersFrom answeredIn closesIn markedIn isSense senseOf senseAnswer markedFrom isNormal nextState afterSteps repOf newOf mapOf
+    insert collected shortUpTo shortHops shortShape mapList reduceAnswer
     shrinkOf
 refusals = refl
 

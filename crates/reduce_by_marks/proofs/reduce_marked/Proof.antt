@@ -1,8 +1,8 @@
 -- `reduce_by_marks::reduce_marked` meets its contract: the tables hold what the definitions say. Assumes nothing.
 use native.Mathlib.Omega.{arith}
 use Rattle.reduce_representatives.specs.Tables.{FromIn}
-use Rattle.reduce_representatives.proofs.Marked.{held-marks}
-use Rattle.reduce_representatives.proofs.Tabled.{tabled-closed, tabled-sinks}
+use Rattle.reduce_representatives.proofs.Marked.{mark-set-marks}
+use Rattle.reduce_representatives.proofs.Tabled.{tabled-closed, tabled-terminating}
 use Rattle.reduce_by_marks.proofs.Tabled.{reduced-map, reduced-images, reduced-short, reduced-returns}
 use borrow.Author.Needs.{needs}
 use Rattle.reduce_by_marks.proofs.reduce_marked.Statement.{statement}
@@ -16,7 +16,7 @@ unfolding FromIn
 next-states-requires c κs =
     let st = c .before .before .before .before .before in
     let adm = st .pre .0 in
-    (held-marks (adm .ascending) (st .pre .1 .1 .0), λ i l. omega (arith, adm .range .from-in i l, adm .states-most))
+    (mark-set-marks (adm .ascending) (st .pre .1 .1 .0), λ i l. omega (arith, adm .range .from-in i l, adm .states-most))
 
 new-numbers-requires : tie.Need-new-numbers-requires
 new-numbers-requires c κs = search needs
@@ -30,7 +30,7 @@ fill-map-requires c κs =
     let adm = st .pre .0 in
     let sett = st .pre .1 .0 in
     let on = c .before .before .before .before .next-states .ensures in
-    (adm .states-most, (omega (arith, adm .states-most), (st .pre .1 .1 .1 .0, (tabled-closed adm sett _ on, tabled-sinks adm sett _ on))))
+    (adm .states-most, (omega (arith, adm .states-most), (st .pre .1 .1 .1 .0, (tabled-closed adm sett _ on, tabled-terminating adm sett _ on))))
 
 shorten-requires : tie.Need-shorten-requires
 unfolding FromIn

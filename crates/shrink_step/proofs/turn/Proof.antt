@@ -4,8 +4,8 @@ use native.Mathlib.Omega.{arith}
 use borrow.Author.Tests.{not-true, not-false}
 use lib.ListN.{length}
 use lib.Seq.{length-take-le}
-use Rattle.reduce_representatives.proofs.Marked.{held-settles}
-use Rattle.reduce_entry.proofs.Marked.{left-marks}
+use Rattle.reduce_representatives.proofs.Marked.{mark-set-terminating}
+use Rattle.reduce_entry.proofs.Marked.{after-marks}
 use Rattle.shrink_step.proofs.Looking.{seen-reducible, seen-some, more-is}
 use Rattle.shrink_step.proofs.Turning.{hops-within, hops-fewer, short-capacity, turned}
 use borrow.Author.Needs.{needs}
@@ -51,7 +51,7 @@ reduce-marked-requires c κs =
     let red = seen-reducible q (st .pre .0) in
     let marked = c .before .before .before .before .before .look .ensures .1 in
     let many = red .admitted .hops-most in
-    (red .admitted, (held-settles red _, (left-marks (st .args .at .shape) _ _ _ _ marked (omega (arith, many)), (red .admitted .states-most, omega (arith, many, red .admitted .whole-hops)))))
+    (red .admitted, (mark-set-terminating red _, (after-marks (st .args .at .shape) _ _ _ _ marked (omega (arith, many)), (red .admitted .states-most, omega (arith, many, red .admitted .whole-hops)))))
 
 cast-states : tie.Need-cast-states
 cast-states c = search needs

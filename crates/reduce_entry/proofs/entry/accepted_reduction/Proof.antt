@@ -2,8 +2,8 @@
 use native.Mathlib.Omega.{arith}
 use Rattle.mark_senses.specs.Senses.{senseOf, markedBy}
 use Rattle.mark_senses.proofs.Marked.{in-silent}
-use Rattle.reduce_representatives.proofs.Marked.{held-settles}
-use Rattle.reduce_entry.proofs.Marked.{left-marks, left-made, left-map, left-short}
+use Rattle.reduce_representatives.proofs.Marked.{mark-set-terminating}
+use Rattle.reduce_entry.proofs.Marked.{after-marks, after-made, after-map, after-short}
 use borrow.Author.Needs.{needs}
 use Rattle.reduce_entry.proofs.entry.accepted_reduction.Statement.{statement}
 use Rattle.reduce_entry.proofs.entry.accepted_reduction.Tie as tie
@@ -24,7 +24,7 @@ reduce-marked-requires : tie.Need-reduce-marked-requires
 reduce-marked-requires c κs =
     let st = c .before .before .before .before .before .before .before .before .before in
     let red = st .pre .0 in
-    (red .admitted, (held-settles red _, (left-marks (st .args .shape) _ _ _ _ (c .before .before .before .before .mark-in .ensures) (omega (arith, red .admitted .hops-most)), (st .pre .1 .1 .0, st .pre .1 .1 .1))))
+    (red .admitted, (mark-set-terminating red _, (after-marks (st .args .shape) _ _ _ _ (c .before .before .before .before .mark-in .ensures) (omega (arith, red .admitted .hops-most)), (st .pre .1 .1 .0, st .pre .1 .1 .1))))
 
 accept-requires : tie.Need-accept-requires
 accept-requires c κs = search needs
@@ -45,7 +45,7 @@ returns c =
     let made = c .before .before .before .before .before .before .reduce-marked .ensures in
     let u = markedBy k sh hs in
     let silent = in-silent (senseOf k) sh hs in
-    (left-made sh hs k _ _ marked (c .accept .ensures) (made .0), (left-map sh hs u _ _ marked silent _ (made .1 .0), left-short sh hs u _ _ marked silent _ (made .1 .1)))
+    (after-made sh hs k _ _ marked (c .accept .ensures) (made .0), (after-map sh hs u _ _ marked silent _ (made .1 .0), after-short sh hs u _ _ marked silent _ (made .1 .1)))
 
 pub accepted-reduction-spec : {M : Type 1} → statement M
 accepted-reduction-spec =

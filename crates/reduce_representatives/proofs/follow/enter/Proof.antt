@@ -1,7 +1,7 @@
 -- `reduce_representatives::follow::enter` meets its contract: the code is the definition. Assumes nothing.
 use borrow.Author.Tests.{eq-eqb, ne-eqb}
 use Rattle.mark_confluence.specs.MarkSet.{isMarked}
-use Rattle.reduce_representatives.specs.Tables.{entered}
+use Rattle.reduce_representatives.specs.Tables.{withNext}
 use borrow.Author.Needs.{needs}
 use Rattle.reduce_representatives.proofs.follow.enter.Statement.{statement}
 use Rattle.reduce_representatives.proofs.follow.enter.Tie as tie
@@ -25,12 +25,12 @@ element-write-next : tie.Need-element-write-next
 element-write-next c = search needs
 
 returns : tie.Need-returns
-unfolding entered isMarked
+unfolding withNext isMarked
 returns c =
     rw (eq-eqb _ 1 (c .before .before .before .if1 .taken)) (cc)
 
 returns-2 : tie.Need-returns-2
-unfolding entered isMarked
+unfolding withNext isMarked
 returns-2 c = rw (ne-eqb _ 1 (c .if1 .left))
 
 pub enter-spec : {M : Type 1} → statement M

@@ -6,8 +6,8 @@ use lib.ListN.{length, getD}
 use Rattle.graph.specs.Hops.{count}
 use Rattle.graph.specs.Answers.{most-states}
 use Rattle.mark_confluence.specs.MarkSet.{markSet}
-use Rattle.reduce_representatives.specs.Tables.{Own, FromIn, Onward}
-use Rattle.reduce_representatives.proofs.Nexts.{Ends, ends-none, ends-onward, entered-ends, length-entered}
+use Rattle.reduce_representatives.specs.Tables.{IdentityTable, FromIn, NextTable}
+use Rattle.reduce_representatives.proofs.Nexts.{Ends, ends-none, ends-next-state, entered-ends, length-entered}
 use borrow.Author.Needs.{needs}
 use Rattle.reduce_representatives.proofs.follow.next_states.Statement.{statement}
 use Rattle.reduce_representatives.proofs.follow.next_states.Tie as tie
@@ -19,16 +19,16 @@ Inv-loop hops marks next₀ i₀ next i =
 abbrev μ-loop : tie.MeasureT-loop
 μ-loop hops marks next₀ i₀ next i = i
 
-own-states-requires : tie.Need-own-states-requires Inv-loop μ-loop
-own-states-requires c κs = search needs
+identity-table-requires : tie.Need-identity-table-requires Inv-loop μ-loop
+identity-table-requires c κs = search needs
 
 hop-count-requires : tie.Need-hop-count-requires Inv-loop μ-loop
 hop-count-requires c κs = search needs
 
 loop-holds : tie.Need-loop-holds Inv-loop μ-loop
-unfolding Own
+unfolding IdentityTable
 loop-holds c =
-    (omega arith, search needs, λ s l. rw (c .hop-count .ensures) (ends-none _ _ s _ (c .before .own-states .ensures s l)))
+    (omega arith, search needs, λ s l. rw (c .hop-count .ensures) (ends-none _ _ s _ (c .before .identity-table .ensures s l)))
 
 sub-i : tie.Need-sub-i Inv-loop μ-loop
 sub-i c = search needs
@@ -57,10 +57,10 @@ loop-again c =
     )
 
 returns : tie.Need-returns Inv-loop μ-loop
-unfolding Onward
+unfolding NextTable
 returns c =
     let q : c .before .loop .i ≡ 0 = omega arith in
-    λ s l. ends-onward _ _ (rw q at (c .before .loop .inv .2 s l))
+    λ s l. ends-next-state _ _ (rw q at (c .before .loop .inv .2 s l))
 
 pub next-states-spec : {M : Type 1} → statement M
 next-states-spec =
@@ -68,7 +68,7 @@ next-states-spec =
     (tie.spec
     Inv-loop
     μ-loop
-    own-states-requires
+    identity-table-requires
     hop-count-requires
     loop-holds
     sub-i

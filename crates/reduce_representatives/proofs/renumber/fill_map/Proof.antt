@@ -6,19 +6,19 @@ use native.Mathlib.Omega.{arith}
 use lib.ListN.{length, getD, length-set}
 use Rattle.base_bounded.specs.Quantifiers.{tabulate}
 use Rattle.graph.specs.Answers.{most-states}
-use Rattle.reduce_representatives.specs.Tables.{Noted, numbered}
+use Rattle.reduce_representatives.specs.Tables.{Compressed, newNumber}
 use Rattle.base_outputs.specs.Output.{onFront}
 use Rattle.base_outputs.proofs.Front.{tabulate-none, tabulate-more, tabulate-done}
-use Rattle.reduce_representatives.proofs.Nexts.{stepped-in}
-use Rattle.reduce_representatives.proofs.Ways.{noted-none, noted-then, noted-sinks}
+use Rattle.reduce_representatives.proofs.Nexts.{table-steps-in}
+use Rattle.reduce_representatives.proofs.Compressed.{compressed-none, compressed-then, compressed-terminating}
 use borrow.Author.Needs.{needs}
 use Rattle.reduce_representatives.proofs.renumber.fill_map.Statement.{statement}
 use Rattle.reduce_representatives.proofs.renumber.fill_map.Tie as tie
 
 abbrev Inv-loop : tie.InvT-loop
 Inv-loop states news map₀ next₀ s₀ map next s =
-    (s ≤ states) × (states ≤ length map₀) × (length map ≡ length map₀) × (map ≡ onFront (tabulate s (numbered next₀ news states)) map₀) ×
-    Noted states next₀ next × (most-states ≤ length next₀)
+    (s ≤ states) × (states ≤ length map₀) × (length map ≡ length map₀) × (map ≡ onFront (tabulate s (newNumber next₀ news states)) map₀) ×
+    Compressed states next₀ next × (most-states ≤ length next₀)
 
 abbrev μ-loop : tie.MeasureT-loop
 μ-loop states news map₀ next₀ s₀ map next s = states - s
@@ -26,7 +26,7 @@ abbrev μ-loop : tie.MeasureT-loop
 loop-holds : tie.Need-loop-holds Inv-loop μ-loop
 loop-holds c =
     let st = c .before .before in
-    (omega arith, omega arith, refl, tabulate-none _ _, noted-none _ _ (st .pre .1 .1 .1 .0), search needs)
+    (omega arith, omega arith, refl, tabulate-none _ _, compressed-none _ _ (st .pre .1 .1 .1 .0), search needs)
 
 cast-t11 : tie.Need-cast-t11 Inv-loop μ-loop
 cast-t11 c = search needs
@@ -39,12 +39,12 @@ follow-requires c κs =
 cast-t11-2 : tie.Need-cast-t11-2 Inv-loop μ-loop
 cast-t11-2 c = search needs
 
-note-way-requires : tie.Need-note-way-requires Inv-loop μ-loop
-note-way-requires c κs =
+compress-path-requires : tie.Need-compress-path-requires Inv-loop μ-loop
+compress-path-requires c κs =
     let st = c .before .before .before .before .before .before .before in
     let v = c .before .before .before .before .loop .inv in
     let noted = v .4 in
-    (omega arith, (omega arith, (omega (arith, noted .long, v .5), (noted .closed, (noted-sinks noted (st .pre .1 .1 .1 .1), c .before .follow .ensures)))))
+    (omega arith, (omega arith, (omega (arith, noted .long, v .5), (noted .closed, (compressed-terminating noted (st .pre .1 .1 .1 .1), c .before .follow .ensures)))))
 
 map-at-requires : tie.Need-map-at-requires Inv-loop μ-loop
 map-at-requires c κs =
@@ -54,7 +54,7 @@ map-at-requires c κs =
       arith,
       c .before .before .follow .ensures,
       v .inv .4 .same (v .s) (omega arith),
-      stepped-in _ (st .args .states) (st .pre .1 .1 .1 .0) (st .args .states) (v .s) (omega arith),
+      table-steps-in _ (st .args .states) (st .pre .1 .1 .1 .0) (st .args .states) (v .s) (omega arith),
     )
 
 mul-map : tie.Need-mul-map Inv-loop μ-loop
@@ -70,17 +70,17 @@ loop-less : tie.Need-loop-less Inv-loop μ-loop
 loop-less c = search needs
 
 loop-again : tie.Need-loop-again Inv-loop μ-loop
-unfolding numbered
+unfolding newNumber
 loop-again c =
     let v = c .before .before .before .before .before .before .loop in
     let st = c .before .before .before .before .before .before .before .before .before in (
       omega arith,
       omega arith,
       simp length-set (v .inv .2),
-      tabulate-more (numbered _ (st .args .news .now) (st .args .states)) (st .args .map .now) (v .inv .3)
+      tabulate-more (newNumber _ (st .args .news .now) (st .args .states)) (st .args .map .now) (v .inv .3)
           (c .map-at .ensures ∙ ap (λ (k : ℕ). getD (st .args .news .now) k 0) (c .before .before .before .follow .ensures ∙ v .inv .4 .same (v .s) (omega arith)))
           (omega arith),
-      noted-then (v .inv .4) (c .before .note-way .ensures),
+      compressed-then (v .inv .4) (c .before .compress-path .ensures),
       v .inv .5,
     )
 
@@ -100,7 +100,7 @@ fill-map-spec =
     cast-t11
     follow-requires
     cast-t11-2
-    note-way-requires
+    compress-path-requires
     map-at-requires
     mul-map
     slice-write-map

@@ -4,8 +4,8 @@ use mathlib.Core.Path.{sym}
 use lib.ListN.{replicate}
 use Rattle.graph.specs.Answers.{most-states, most-hops, most-numbers}
 use Rattle.graph_successors.proofs.Firsts.{admitted-indexable}
-use Rattle.reduce_representatives.proofs.Marked.{held-settles}
-use Rattle.reduce_entry.proofs.Marked.{left-marks}
+use Rattle.reduce_representatives.proofs.Marked.{mark-set-terminating}
+use Rattle.reduce_entry.proofs.Marked.{after-marks}
 use Rattle.report_text.proofs.Puts.{put-same, capacity-same}
 use Rattle.report_entry.proofs.Lengths.{report-most}
 use Rattle.report_entry.proofs.Shown.{reduced-marks, reduced-shape, reduced-most, reduced-short, reduced-map, reduced-lines, text-capacity}
@@ -36,7 +36,7 @@ reduce-marked-requires c κs =
     let st = c .before .before .before .before .before .before .before .before in
     let red = st .pre .0 in
     let e = c .before .before .before .before .mark-rounds .ensures .1 in
-    (red .admitted, (held-settles red _, (left-marks (st .args .shape) _ _ _ _ e (omega (arith, red .admitted .hops-most)), (omega (arith, red .admitted .states-most), omega (arith, red .admitted .hops-most, red .admitted .whole-hops)))))
+    (red .admitted, (mark-set-terminating red _, (after-marks (st .args .shape) _ _ _ _ e (omega (arith, red .admitted .hops-most)), (omega (arith, red .admitted .states-most), omega (arith, red .admitted .hops-most, red .admitted .whole-hops)))))
 
 slice-aggregate-put-report : tie.Need-slice-aggregate-put-report
 slice-aggregate-put-report c = search needs

@@ -1,13 +1,13 @@
--- `reduce_representatives::follow::own_states` meets its contract: the elements below s are filled. Assumes nothing.
+-- `reduce_representatives::follow::identity_table` meets its contract: the elements below s are filled. Assumes nothing.
 use Prim.Native.Nat.{ℕ, _<_, _≤_, _-_}
 use mathlib.Core.Path.{_≡_, refl}
 use native.Mathlib.Omega.{arith}
 use lib.ListN.{length, getD, length-set, length-replicate}
 use Rattle.graph.specs.Answers.{most-states}
-use Rattle.reduce_representatives.specs.Tables.{Own}
+use Rattle.reduce_representatives.specs.Tables.{IdentityTable}
 use Rattle.graph_successors.proofs.Firsts.{filled-more}
-use Rattle.reduce_representatives.proofs.follow.own_states.Statement.{statement}
-use Rattle.reduce_representatives.proofs.follow.own_states.Tie as tie
+use Rattle.reduce_representatives.proofs.follow.identity_table.Statement.{statement}
+use Rattle.reduce_representatives.proofs.follow.identity_table.Tie as tie
 
 abbrev Inv-loop : tie.InvT-loop
 Inv-loop next₀ s₀ next s = (length next ≡ most-states) × (s ≤ most-states) × ((t : ℕ) → t < s → getD next t 0 ≡ t)
@@ -39,11 +39,11 @@ loop-again c =
     (simp length-set (v .0), omega arith, filled-more (λ (t : ℕ). t) (c .before .loop .next) (omega arith) refl (v .2))
 
 returns : tie.Need-returns Inv-loop μ-loop
-unfolding Own
+unfolding IdentityTable
 returns c = λ t l. c .before .loop .inv .2 t (omega arith)
 
-pub own-states-spec : {M : Type 1} → statement M
-own-states-spec =
+pub identity-table-spec : {M : Type 1} → statement M
+identity-table-spec =
     tie.close
     (tie.spec
     Inv-loop

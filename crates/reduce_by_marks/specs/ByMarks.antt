@@ -17,11 +17,11 @@ abbrev pub shortGraph : Shape → List ℕ → Pairs → ShortGraph
 shortGraph sh hs u = record { shape = shortShape sh hs u; hops = length (shortHops sh hs u) }
 
 -- the outputs afterwards, where ms are the marks: "Acceptance writes the named elements and none past them"
-abbrev pub mapLeft : Shape → List ℕ → List ℕ → List ℕ → List ℕ
-mapLeft sh hs ms map = onFront (mapList sh hs (markSet hs ms)) map
+abbrev pub mapAfter : Shape → List ℕ → List ℕ → List ℕ → List ℕ
+mapAfter sh hs ms map = onFront (mapList sh hs (markSet hs ms)) map
 
-abbrev pub shortLeft : Shape → List ℕ → List ℕ → List ℕ → List ℕ
-shortLeft sh hs ms short = onFront (flat (shortHops sh hs (markSet hs ms))) short
+abbrev pub shortAfter : Shape → List ℕ → List ℕ → List ℕ → List ℕ
+shortAfter sh hs ms short = onFront (flat (shortHops sh hs (markSet hs ms))) short
 
 -- the short graph's counts and initial state by the tables of new numbers and of the map
 abbrev pub shapeBy : Shape → List ℕ → List ℕ → Shape

@@ -1,18 +1,18 @@
--- `reduce_representatives::follow::note_way` meets its contract: the states passed have their representative in the table, which leads where it led. Assumes nothing.
+-- `reduce_representatives::follow::compress_path` meets its contract: the states passed have their representative in the table, which leads where it led. Assumes nothing.
 use Prim.Native.Nat.{_<_, _≤_, _-_}
 use mathlib.Core.Path.{_≡_, sym, _∙_}
 use native.Mathlib.Omega.{arith}
 use lib.ListN.{length}
-use Rattle.reduce_representatives.specs.Tables.{Closed, Sinks, stepped}
-use Rattle.reduce_representatives.proofs.Ways.{Way, way-starts, way-more, way-noted}
+use Rattle.reduce_representatives.specs.Tables.{ClosedTable, TerminatingTable, tableSteps}
+use Rattle.reduce_representatives.proofs.Compressed.{Way, way-starts, way-more, way-compressed}
 use borrow.Author.Needs.{needs}
-use Rattle.reduce_representatives.proofs.follow.note_way.Statement.{statement}
-use Rattle.reduce_representatives.proofs.follow.note_way.Tie as tie
+use Rattle.reduce_representatives.proofs.follow.compress_path.Statement.{statement}
+use Rattle.reduce_representatives.proofs.follow.compress_path.Tie as tie
 
 abbrev Inv-loop : tie.InvT-loop
 Inv-loop next₀ states rep at₀ passed₀ next at passed =
-    (passed ≤ states) × (at < states) × (states ≤ length next₀) × Closed states next₀ × Sinks states next₀ ×
-    Way states next₀ next × (rep .0 ≡ stepped next₀ states at)
+    (passed ≤ states) × (at < states) × (states ≤ length next₀) × ClosedTable states next₀ × TerminatingTable states next₀ ×
+    Way states next₀ next × (rep .0 ≡ tableSteps next₀ states at)
 
 abbrev μ-loop : tie.MeasureT-loop
 μ-loop next₀ states rep at₀ passed₀ next at passed = states - passed
@@ -34,7 +34,7 @@ element-copy-out-to : tie.Need-element-copy-out-to Inv-loop μ-loop
 element-copy-out-to c = search needs
 
 returns : tie.Need-returns Inv-loop μ-loop
-returns c = let v = c .before .before .before .before .loop .inv in way-noted _ _ (v .3) (v .4) (v .5)
+returns c = let v = c .before .before .before .before .loop .inv in way-compressed _ _ (v .3) (v .4) (v .5)
 
 mul-next : tie.Need-mul-next Inv-loop μ-loop
 mul-next c = search needs
@@ -49,7 +49,7 @@ loop-less : tie.Need-loop-less Inv-loop μ-loop
 loop-less c = search needs
 
 loop-again : tie.Need-loop-again Inv-loop μ-loop
-unfolding Closed
+unfolding ClosedTable
 loop-again c =
     let v = c .before .before .before .before .loop .inv in (
       omega arith,
@@ -62,10 +62,10 @@ loop-again c =
     )
 
 returns-2 : tie.Need-returns-2 Inv-loop μ-loop
-returns-2 c = let v = c .before .loop .inv in way-noted _ _ (v .3) (v .4) (v .5)
+returns-2 c = let v = c .before .loop .inv in way-compressed _ _ (v .3) (v .4) (v .5)
 
-pub note-way-spec : {M : Type 1} → statement M
-note-way-spec =
+pub compress-path-spec : {M : Type 1} → statement M
+compress-path-spec =
     tie.close
     (tie.spec
     Inv-loop
