@@ -1,1 +1,1 @@
-pub mod Fitting  -- admitted maps, rows 7 and 8, and the audit's answer
+pub mod Admitted  -- admitted maps, rows 7 and 8, and the audit's answer

@@ -10,7 +10,7 @@ use graph::answers::accept;
 use graph::answers::refuse;
 use graph_check::check;
 ghost use mathlib.Core.Path.{_≡_};
-ghost use Rattle.audit_admitted.specs.Fitting.{firstHigh, mapFits, auditAnswer};
+ghost use Rattle.audit_admitted.specs.Admitted.{firstHigh, mapFits, auditAnswer};
 
 // Row 8: the first entry not below state count 2, or the map's length.
 fn first_high(shape2: Shape, map: &[u16]) -> usize

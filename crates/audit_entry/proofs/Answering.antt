@@ -12,10 +12,10 @@ use Rattle.audit_faults.specs.Faults.{faultsOf}
 use Rattle.audit_faults.specs.First.{noFault, firstFault}
 use Rattle.audit_faults.specs.Images.{Auditable}
 use Rattle.audit_faults.specs.declared.Fault.{Fault}
-use Rattle.audit_admitted.specs.Fitting.{auditAnswer}
-use Rattle.audit_faults.proofs.Naming.{none-named}
-use Rattle.audit_admitted.proofs.Fits.{Audited, answer-audited, audited-answer}
-use Rattle.audit_entry.specs.Auditing.{auditOf, faultless}
+use Rattle.audit_admitted.specs.Admitted.{auditAnswer}
+use Rattle.audit_faults.proofs.Naming.{no-fault-named}
+use Rattle.audit_admitted.proofs.Admitted.{Audited, answer-audited, audited-answer}
+use Rattle.audit_entry.specs.Audit.{auditOf, faultless}
 use Rattle.audit_entry.specs.declared.Audit.{Audit}
 
 pub auditable : {sh1 sh2 : Shape} {h1 h2 m : List ℕ} → Audited sh1 sh2 h1 h2 m → Auditable sh1 h1 h2 m
@@ -41,7 +41,7 @@ module _ (sh1 sh2 : Shape) (h1 h2 m : List ℕ) {a : Answer} (ea : a ≡ auditAn
 -- the audit accepts and finds no fault exactly where all that was lent is admitted and the count is 0
 pub faultless-iff : (sh1 sh2 : Shape) (h1 h2 m : List ℕ) → (auditOf sh1 sh2 h1 h2 m ≡ faultless) ↔ (Audited sh1 sh2 h1 h2 m × (faultsOf sh1 sh2 h1 h2 m ≡ 0))
 unfolding auditOf
-faultless-iff sh1 sh2 h1 h2 m = (λ e. (audited e, none e), λ (a, z). sym (audit-counts sh1 sh2 h1 h2 m (sym (audited-answer sh1 sh2 h1 h2 m a)) refl (sym z) (none-named sh1 sh2 h1 h2 m z))) where
+faultless-iff sh1 sh2 h1 h2 m = (λ e. (audited e, none e), λ (a, z). sym (audit-counts sh1 sh2 h1 h2 m (sym (audited-answer sh1 sh2 h1 h2 m a)) refl (sym z) (no-fault-named sh1 sh2 h1 h2 m z))) where
   zero : auditOf sh1 sh2 h1 h2 m ≡ faultless → auditAnswer sh1 sh2 h1 h2 m .number ≡ 0
   zero e = ap (λ (x : Audit). x .answer .number) e
 

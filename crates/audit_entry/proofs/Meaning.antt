@@ -20,8 +20,8 @@ use Rattle.lts.specs.Reduction.{MatchedBack, Reduces}
 use Rattle.walk_silent.specs.Silent.{HopOf, Leads, leads}
 use Rattle.walk_silent.proofs.Leads.{leads-iff}
 use Rattle.graph.specs.Map.{mapped}
-use Rattle.audit_faults.specs.Faults.{initialFault, kept, lostFaults, offers, backed, matched, madeUp, madeUpFaults, faultsOf}
-use Rattle.audit_admitted.specs.Fitting.{AdmittedMap}
+use Rattle.audit_faults.specs.Faults.{initialFault, preserved, lostFaults, matchAt, matchedFrom, matched, unmatched, unmatchedFaults, faultsOf}
+use Rattle.audit_admitted.specs.Admitted.{AdmittedMap}
 use Rattle.audit_entry.specs.Bisimulation.{BranchingBisimulation, MapRelation, JoinsInitial}
 
 -- the map loses no hop of graph 1 and makes no hop of graph 2 up, and leads from the one initial state to the other
@@ -39,26 +39,26 @@ module _ {sh : Shape} {hs : List ℕ} (ranged : InRange sh hs) (s a t : ℕ) (h 
 
 module _ (h1 h2 m : List ℕ) where
   -- the test of the second sum
-  kept-says : (i : ℕ) → kept h1 h2 m i ≡ true →
+  kept-says : (i : ℕ) → preserved h1 h2 m i ≡ true →
       ((label h1 i ≡ 0) × (mapped m (from h1 i) ≡ mapped m (to h1 i))) ⊎ HopOf h2 (mapped m (from h1 i)) (label h1 i) (mapped m (to h1 i))
-  unfolding kept
+  unfolding preserved
   kept-says i e =
       ⊎-elim (λ d. inl (eqb-true _ _ (and-left (eqb (label h1 i) 0) _ d), eqb-true _ _ (and-right (eqb (label h1 i) 0) _ d))) inr
       (or-yes (eqb (label h1 i) 0 && eqb (mapped m (from h1 i)) (mapped m (to h1 i))) _ e)
 
   says-kept : (i : ℕ) →
       ((label h1 i ≡ 0) × (mapped m (from h1 i) ≡ mapped m (to h1 i))) ⊎ HopOf h2 (mapped m (from h1 i)) (label h1 i) (mapped m (to h1 i)) →
-      kept h1 h2 m i ≡ true
-  unfolding kept
+      preserved h1 h2 m i ≡ true
+  unfolding preserved
   says-kept i (inl (a, b)) = or-left _ (and-yes (eq-eqb _ _ a) (eq-eqb _ _ b))
   says-kept i (inr e) = or-right (eqb (label h1 i) 0 && eqb (mapped m (from h1 i)) (mapped m (to h1 i))) e
 
 module _ (sh1 sh2 : Shape) (h1 h2 m : List ℕ) (ranged : InRange sh1 h1) where
   -- a test of the third sum: the state that s leads to, and its hop
-  backed-says : (s a q : ℕ) → backed sh1 h1 m s (mapped m s) a q ≡ true → MatchedBack (HopOf h1) (mapped m) s a q
-  unfolding backed offers
+  backed-says : (s a q : ℕ) → matchedFrom sh1 h1 m s (mapped m s) a q ≡ true → MatchedBack (HopOf h1) (mapped m) s a q
+  unfolding matchedFrom matchAt
   backed-says s a q e =
-      let (u, l, d) = any-at (λ (u : ℕ). leads h1 (sh1 .states) s u && offers h1 m (mapped m s) a q u) (sh1 .states) e in
+      let (u, l, d) = any-at (λ (u : ℕ). leads h1 (sh1 .states) s u && matchAt h1 m (mapped m s) a q u) (sh1 .states) e in
       let o = and-right (leads h1 (sh1 .states) s u) _ d in
       let (i, k, f) = any-at (λ (i : ℕ). eqb (from h1 i) u && (eqb (label h1 i) a && eqb (mapped m (to h1 i)) q)) (count h1) (and-right (eqb (mapped m u) (mapped m s)) _ o) in
       let g = and-right (eqb (from h1 i) u) _ f in (
@@ -76,11 +76,11 @@ module _ (sh1 sh2 : Shape) (h1 h2 m : List ℕ) (ranged : InRange sh1 h1) where
         eqb-true _ _ (and-right (eqb (label h1 i) a) _ g),
       )
 
-  says-backed : (s a q : ℕ) → MatchedBack (HopOf h1) (mapped m) s a q → backed sh1 h1 m s (mapped m s) a q ≡ true
-  unfolding backed offers
+  says-backed : (s a q : ℕ) → MatchedBack (HopOf h1) (mapped m) s a q → matchedFrom sh1 h1 m s (mapped m s) a q ≡ true
+  unfolding matchedFrom matchAt
   says-backed s a q (u, t, su, c, h, e) =
       let p = has-place h1 u a t h in
-      any-found (λ (u : ℕ). leads h1 (sh1 .states) s u && offers h1 m (mapped m s) a q u) (sh1 .states) (hop-from ranged u a t h)
+      any-found (λ (u : ℕ). leads h1 (sh1 .states) s u && matchAt h1 m (mapped m s) a q u) (sh1 .states) (hop-from ranged u a t h)
       (and-yes (leads-iff ranged s u .1 su) (and-yes (eq-eqb _ _ c)
       (any-found (λ (i : ℕ). eqb (from h1 i) u && (eqb (label h1 i) a && eqb (mapped m (to h1 i)) q)) (count h1) (p .within)
       (and-yes (eq-eqb _ _ (p .from-is)) (and-yes (eq-eqb _ _ (p .label-is)) (eq-eqb _ _ (ap (mapped m) (p .to-is) ∙ e)))))))
@@ -100,21 +100,21 @@ module _ (sh1 sh2 : Shape) (h1 h2 m : List ℕ) (ranged : InRange sh1 h1) where
     says-matched (inr b) = or-right (eqb (label h2 j) 0 && eqb (from h2 j) (to h2 j)) (rw e at (says-backed s _ _ b))
 
   -- a pair is no fault exactly when it is matched, where it is a pair at all
-  unmade-matched : (j s : ℕ) → mapped m s ≡ from h2 j → madeUp sh1 h1 h2 m j s ≡ false → matched sh1 h1 h2 m j s ≡ true
-  unfolding madeUp
+  unmade-matched : (j s : ℕ) → mapped m s ≡ from h2 j → unmatched sh1 h1 h2 m j s ≡ false → matched sh1 h1 h2 m j s ≡ true
+  unfolding unmatched
   unmade-matched j s e d = not-false _ (rw (eq-eqb _ _ e) at d)
 
-  matched-unmade : (j s : ℕ) → (mapped m s ≡ from h2 j → matched sh1 h1 h2 m j s ≡ true) → madeUp sh1 h1 h2 m j s ≡ false
-  unfolding madeUp
+  matched-unmade : (j s : ℕ) → (mapped m s ≡ from h2 j → matched sh1 h1 h2 m j s ≡ true) → unmatched sh1 h1 h2 m j s ≡ false
+  unfolding unmatched
   matched-unmade j s f = go (decided (eqb (mapped m s) (from h2 j))) where
     go : (eqb (mapped m s) (from h2 j) ≡ true) ⊎ (eqb (mapped m s) (from h2 j) ≡ false) →
         (eqb (mapped m s) (from h2 j) && not (matched sh1 h1 h2 m j s)) ≡ false
     go (inl e) = and-no-right (eqb (mapped m s) (from h2 j)) (not-yes (f (eqb-true _ _ e)))
     go (inr e) = and-no-left _ e
 
-  pub zero-faultless : faultsOf sh1 sh2 h1 h2 m ≡ 0 → Faultless sh1 sh2 h1 h2 m
-  unfolding faultsOf initialFault lostFaults madeUpFaults
-  zero-faultless z = record { joins = joined (eqb (mapped m (sh1 .initial)) (sh2 .initial)) refl first; keeps = record { fore = ahead; back = behind } }
+  pub zero-faults-reduces : faultsOf sh1 sh2 h1 h2 m ≡ 0 → Faultless sh1 sh2 h1 h2 m
+  unfolding faultsOf initialFault lostFaults unmatchedFaults
+  zero-faults-reduces z = record { joins = joined (eqb (mapped m (sh1 .initial)) (sh2 .initial)) refl first; keeps = record { fore = ahead; back = behind } }
     where
       first : initialFault sh1 sh2 m ≡ 0
       first = omega arith
@@ -122,7 +122,7 @@ module _ (sh1 sh2 : Shape) (h1 h2 m : List ℕ) (ranged : InRange sh1 h1) where
       second : lostFaults h1 h2 m ≡ 0
       second = omega arith
 
-      third : madeUpFaults sh1 h1 h2 m ≡ 0
+      third : unmatchedFaults sh1 h1 h2 m ≡ 0
       third = omega arith
 
       joined : (x : Bool) → eqb (mapped m (sh1 .initial)) (sh2 .initial) ≡ x → _≡_ {A = ℕ} (cond x 0 1) 0 → mapped m (sh1 .initial) ≡ sh2 .initial
@@ -133,7 +133,7 @@ module _ (sh1 sh2 : Shape) (h1 h2 m : List ℕ) (ranged : InRange sh1 h1) where
       ahead s a t h =
           let p = has-place h1 s a t h in
           rw (p .from-is, p .label-is, p .to-is) at
-          (kept-says h1 h2 m (p .at) (not-false _ (tally-each (λ (i : ℕ). not (kept h1 h2 m i)) (count h1) second (p .within))))
+          (kept-says h1 h2 m (p .at) (not-false _ (tally-each (λ (i : ℕ). not (preserved h1 h2 m i)) (count h1) second (p .within))))
 
       behind : (s a q : ℕ) → s < sh1 .states → HopOf h2 (mapped m s) a q →
           ((a ≡ 0) × (mapped m s ≡ q)) ⊎ MatchedBack (HopOf h1) (mapped m) s a q
@@ -141,20 +141,20 @@ module _ (sh1 sh2 : Shape) (h1 h2 m : List ℕ) (ranged : InRange sh1 h1) where
           let p = has-place h2 (mapped m s) a q h in
           rw (p .label-is, p .to-is) at
           (matched-says (p .at) s (sym (p .from-is)) (unmade-matched (p .at) s (sym (p .from-is))
-          (tally-each (madeUp sh1 h1 h2 m (p .at)) (sh1 .states) (total-each (λ (j : ℕ). tally (sh1 .states) (madeUp sh1 h1 h2 m j)) (count h2) third (p .within)) l)))
+          (tally-each (unmatched sh1 h1 h2 m (p .at)) (sh1 .states) (total-each (λ (j : ℕ). tally (sh1 .states) (unmatched sh1 h1 h2 m j)) (count h2) third (p .within)) l)))
 
   faultless-zero : Faultless sh1 sh2 h1 h2 m → faultsOf sh1 sh2 h1 h2 m ≡ 0
-  unfolding faultsOf initialFault lostFaults madeUpFaults
+  unfolding faultsOf initialFault lostFaults unmatchedFaults
   faultless-zero f =
       rw (
         eq-eqb _ _ (f .joins),
-        tally-zero (λ (i : ℕ). not (kept h1 h2 m i)) (count h1) second,
-        total-zero (λ (j : ℕ). tally (sh1 .states) (madeUp sh1 h1 h2 m j)) (count h2) (λ j l. tally-zero (madeUp sh1 h1 h2 m j) (sh1 .states) (λ s k. third j s l k)),
+        tally-zero (λ (i : ℕ). not (preserved h1 h2 m i)) (count h1) second,
+        total-zero (λ (j : ℕ). tally (sh1 .states) (unmatched sh1 h1 h2 m j)) (count h2) (λ j l. tally-zero (unmatched sh1 h1 h2 m j) (sh1 .states) (λ s k. third j s l k)),
       ) where
-        second : (i : ℕ) → i < count h1 → not (kept h1 h2 m i) ≡ false
+        second : (i : ℕ) → i < count h1 → not (preserved h1 h2 m i) ≡ false
         second i l = not-yes (says-kept h1 h2 m i (f .keeps .fore (from h1 i) (label h1 i) (to h1 i) (has-at h1 l)))
 
-        third : (j s : ℕ) → j < count h2 → s < sh1 .states → madeUp sh1 h1 h2 m j s ≡ false
+        third : (j s : ℕ) → j < count h2 → s < sh1 .states → unmatched sh1 h1 h2 m j s ≡ false
         third j s l k = matched-unmade j s (λ e. says-matched j s e (f .keeps .back s (label h2 j) (to h2 j) k (rw e (has-at h2 l))))
 
   faultless-bisimulation : AdmittedMap sh1 sh2 m → Faultless sh1 sh2 h1 h2 m → BranchingBisimulation sh1 sh2 h1 h2 (MapRelation sh1 m)
@@ -199,10 +199,10 @@ module _ (sh1 sh2 : Shape) (h1 h2 m : List ℕ) (ranged : InRange sh1 h1) where
       behind s a q (inr (u, t, su, h, (k, d), (l, e))) = inr (u, t, su, d, h, e)
 
 -- the audit's count is 0 exactly when the map is a branching bisimulation that joins the initial states
-pub zero-means : (sh1 sh2 : Shape) (h1 h2 m : List ℕ) → Admitted sh1 h1 → Admitted sh2 h2 → AdmittedMap sh1 sh2 m →
+pub audit-zero-iff : (sh1 sh2 : Shape) (h1 h2 m : List ℕ) → Admitted sh1 h1 → Admitted sh2 h2 → AdmittedMap sh1 sh2 m →
     (faultsOf sh1 sh2 h1 h2 m ≡ 0) ↔ (BranchingBisimulation sh1 sh2 h1 h2 (MapRelation sh1 m) × JoinsInitial sh1 sh2 (MapRelation sh1 m))
-zero-means sh1 sh2 h1 h2 m a1 a2 fit = (
-  λ z. (let f = zero-faultless sh1 sh2 h1 h2 m (a1 .range) z in (faultless-bisimulation sh1 sh2 h1 h2 m (a1 .range) fit f, (a1 .initial-in, f .joins))),
+audit-zero-iff sh1 sh2 h1 h2 m a1 a2 fit = (
+  λ z. (let f = zero-faults-reduces sh1 sh2 h1 h2 m (a1 .range) z in (faultless-bisimulation sh1 sh2 h1 h2 m (a1 .range) fit f, (a1 .initial-in, f .joins))),
   λ b. faultless-zero sh1 sh2 h1 h2 m (a1 .range) (bisimulation-faultless sh1 sh2 h1 h2 m (a1 .range) b),
 )
 

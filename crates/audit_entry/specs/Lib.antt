@@ -1,2 +1,2 @@
 pub mod Bisimulation  -- Definition 2.4, and the map taken as a relation
-pub mod Auditing  -- what the entry returns
+pub mod Audit  -- what the entry returns

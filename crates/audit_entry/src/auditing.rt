@@ -5,7 +5,7 @@ use audit_admitted::audit_answer;
 use audit_faults::first::no_fault;
 use graph::Shape;
 ghost use mathlib.Core.Path.{_≡_};
-ghost use Rattle.audit_entry.specs.Auditing.{auditOf};
+ghost use Rattle.audit_entry.specs.Audit.{auditOf};
 
 // The entry.
 pub fn audit(shape1: Shape, hops1: &[u16], shape2: Shape, hops2: &[u16], map: &[u16]) -> Audit

@@ -5,7 +5,7 @@ use audit_faults::first::or_else;
 use audit_faults::images::images_of;
 use audit_faults::lost::initial_fault;
 use audit_faults::lost::lost_faults;
-use audit_unmatched::all_made_up;
+use audit_unmatched::all_unmatched;
 use graph::Shape;
 use graph_successors::starts_of;
 ghost use mathlib.Core.Path.{_≡_};
@@ -29,7 +29,7 @@ pub(crate) fn fault_count(
     let images = images_of(shape1, hops1, hops2, &starts2, map);
     let initial = initial_fault(shape1, shape2, map);
     let lost = lost_faults(shape1, hops1, hops2, map, &images);
-    let made_up = all_made_up(shape1, hops1, hops2, &starts2, map, &images);
+    let made_up = all_unmatched(shape1, hops1, hops2, &starts2, map, &images);
     Share {
         faults: initial.faults + lost.faults + made_up.faults,
         first: or_else(initial.first, or_else(lost.first, made_up.first)),

@@ -13,7 +13,7 @@ use Rattle.graph_check.specs.Check.{Admitted}
 use Rattle.graph.specs.declared.Shape.{Shape}
 use Rattle.base_bounded.proofs.Quantifiers.{tally-within, total-most}
 use Rattle.graph.specs.Map.{mapped}
-use Rattle.audit_faults.specs.Faults.{initialFault, kept, lostFaults, madeUp, madeUpFaults, faultsOf}
+use Rattle.audit_faults.specs.Faults.{initialFault, preserved, lostFaults, unmatched, unmatchedFaults, faultsOf}
 
 pub initial-most : (sh1 sh2 : Shape) (m : List ℕ) → initialFault sh1 sh2 m ≤ 1
 unfolding initialFault
@@ -24,21 +24,21 @@ initial-most sh1 sh2 m = go (eqb (mapped m (sh1 .initial)) (sh2 .initial)) where
 
 pub lost-most : (h1 h2 m : List ℕ) → lostFaults h1 h2 m ≤ count h1
 unfolding lostFaults
-lost-most h1 h2 m = tally-within (λ (i : ℕ). not (kept h1 h2 m i)) (count h1)
+lost-most h1 h2 m = tally-within (λ (i : ℕ). not (preserved h1 h2 m i)) (count h1)
 
-pub made-up-most : (sh1 : Shape) (h1 h2 m : List ℕ) → madeUpFaults sh1 h1 h2 m ≤ count h2 * sh1 .states
-unfolding madeUpFaults
-made-up-most sh1 h1 h2 m =
-    total-most (λ (j : ℕ). tally (sh1 .states) (madeUp sh1 h1 h2 m j)) (sh1 .states) (count h2) (λ j l. tally-within (madeUp sh1 h1 h2 m j) (sh1 .states))
+pub unmatched-most : (sh1 : Shape) (h1 h2 m : List ℕ) → unmatchedFaults sh1 h1 h2 m ≤ count h2 * sh1 .states
+unfolding unmatchedFaults
+unmatched-most sh1 h1 h2 m =
+    total-most (λ (j : ℕ). tally (sh1 .states) (unmatched sh1 h1 h2 m j)) (sh1 .states) (count h2) (λ j l. tally-within (unmatched sh1 h1 h2 m j) (sh1 .states))
 
 -- the third sum of admitted graphs
-pub made-up-few : (sh1 : Shape) (h1 h2 m : List ℕ) → sh1 .states ≤ most-states → count h2 ≤ most-hops → madeUpFaults sh1 h1 h2 m ≤ most-hops * most-states
-made-up-few sh1 h1 h2 m l k =
+pub unmatched-few : (sh1 : Shape) (h1 h2 m : List ℕ) → sh1 .states ≤ most-states → count h2 ≤ most-hops → unmatchedFaults sh1 h1 h2 m ≤ most-hops * most-states
+unmatched-few sh1 h1 h2 m l k =
     let pairs : count h2 * sh1 .states ≤ most-hops * most-states = mul-le-mul k l in
-    omega (arith, made-up-most sh1 h1 h2 m)
+    omega (arith, unmatched-most sh1 h1 h2 m)
 
 -- "At most 4,198,401."
 pub faults-most : (sh1 sh2 : Shape) (h1 h2 m : List ℕ) → Admitted sh1 h1 → Admitted sh2 h2 → faultsOf sh1 sh2 h1 h2 m ≤ 4198401
 unfolding faultsOf
 faults-most sh1 sh2 h1 h2 m a1 a2 =
-    omega (arith, initial-most sh1 sh2 m, lost-most h1 h2 m, made-up-few sh1 h1 h2 m (a1 .states-most) (a2 .hops-most))
+    omega (arith, initial-most sh1 sh2 m, lost-most h1 h2 m, unmatched-few sh1 h1 h2 m (a1 .states-most) (a2 .hops-most))

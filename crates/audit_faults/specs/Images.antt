@@ -27,12 +27,12 @@ abbrev pub mappedHop : List ℕ → List ℕ → ℕ → Hop
 mappedHop h1 m i = hopOf (mapped m (from h1 i)) (label h1 i) (mapped m (to h1 i))
 
 -- the place of a hop that was found, and one past all places for a hop that was not
-abbrev pub nowhere : ℕ
-nowhere = most-hops
+abbrev pub noPlace : ℕ
+noPlace = most-hops
 
 abbrev pub placeOf : Found → ℕ
 placeOf (At p) = p
-placeOf (Gap p) = nowhere
+placeOf (Gap p) = noPlace
 
 -- where graph 2 has it
 unfoldable pub imageOf : List ℕ → List ℕ → List ℕ → ℕ → ℕ

@@ -18,7 +18,7 @@ ghost use Rattle.graph_successors.specs.SuccessorIndex.{SuccessorIndex};
 ghost use Rattle.audit_faults.specs.Images.{Auditable, imageOf, Imaged};
 
 // The place of a hop that graph 2 has not: one past all that can be.
-pub const NOWHERE: usize = MOST_HOPS;
+pub const NO_PLACE: usize = MOST_HOPS;
 
 // The place in graph 2 of the hop at place i of graph 1.
 fn image_at(
@@ -40,7 +40,7 @@ fn image_at(
     let found = find_row(hops2, starts2, hop_of(r.0, a.0, q.0));
     match found {
         Found::At(p) => p as u16,
-        Found::Gap(_) => NOWHERE as u16,
+        Found::Gap(_) => NO_PLACE as u16,
     }
 }
 

@@ -3,7 +3,7 @@
 use super::Fault;
 use super::Share;
 use super::first::no_fault;
-use super::images::NOWHERE;
+use super::images::NO_PLACE;
 use graph::MOST_HOPS;
 use graph::OldState;
 use graph::Shape;
@@ -18,7 +18,7 @@ ghost use Prim.Native.Nat.{_<_, _≤_};
 ghost use lib.ListN.{length};
 ghost use Rattle.graph.specs.Hops.{count};
 ghost use Rattle.graph.specs.Answers.{most-states};
-ghost use Rattle.audit_faults.specs.Faults.{initialFault, kept, lostFaults};
+ghost use Rattle.audit_faults.specs.Faults.{initialFault, preserved, lostFaults};
 ghost use Rattle.audit_faults.specs.First.{firstInitial, lostPlace, firstLost};
 ghost use Rattle.audit_faults.specs.Images.{Auditable, Imaged};
 
@@ -47,7 +47,7 @@ pub fn initial_fault(shape1: Shape, shape2: Shape, map: &[u16]) -> Share
 }
 
 // Whether the hop at a place of graph 1 is in graph 2, which the table tells, or is silent inside a class.
-fn is_kept(
+fn is_preserved(
     shape1: Shape,
     hops1: &[u16],
     hops2: &[u16],
@@ -58,9 +58,9 @@ fn is_kept(
     requires auditable { ⌜ Auditable shape1 (now hops1) (now hops2) (now map) ⌝ }
     requires imaged { ⌜ Imaged (now hops1) (now hops2) (now map) (now images) ⌝ }
     requires place { ⌜ i < count (now hops1) ⌝ }
-    ensures { λ r. ⌜ r ≡ kept (now (hops1 .entry)) (now (hops2 .entry)) (now (map .entry)) i ⌝ }
+    ensures { λ r. ⌜ r ≡ preserved (now (hops1 .entry)) (now (hops2 .entry)) (now (map .entry)) i ⌝ }
 {
-    if wide(images[i]) != NOWHERE {
+    if wide(images[i]) != NO_PLACE {
         return true;
     }
     let r = map_at(map, from_at(hops1, i));
@@ -83,7 +83,7 @@ fn first_lost(
     let n = hop_count(hops1);
     let mut i = 0;
     while i < n {
-        if !is_kept(shape1, hops1, hops2, map, images, i) {
+        if !is_preserved(shape1, hops1, hops2, map, images, i) {
             return i;
         }
         i += 1;
@@ -109,7 +109,7 @@ fn lost_from(
     let mut faults = 0;
     let mut i = first;
     while i < n {
-        if !is_kept(shape1, hops1, hops2, map, images, i) {
+        if !is_preserved(shape1, hops1, hops2, map, images, i) {
             faults += 1;
         }
         i += 1;

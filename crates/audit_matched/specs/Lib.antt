@@ -1,1 +1,1 @@
-pub mod Ticks  -- what ticks what, and what the ticking has at hand
+pub mod Stamps  -- what ticks what, and what the ticking has at hand

@@ -19,10 +19,10 @@ ghost use lib.ListN.{length, getD, set};
 ghost use Rattle.graph.specs.Hops.{count};
 ghost use Rattle.graph.specs.Search.{firstOf};
 ghost use Rattle.graph.specs.Answers.{most-hops};
-ghost use Rattle.audit_matched.specs.Ticks.{Tickable, TickedBy, TickedOn};
+ghost use Rattle.audit_matched.specs.Stamps.{StampInput, StampedUpTo, StampedFrom};
 
 // Ticks what the hop at place i of graph 1 is in graph 2, if it is there: the place of one that is not is past the stamps.
-fn tick(images: &[u16; MOST_HOPS], stamps: &mut [u16], k: u16, i: usize)
+fn stamp_hop(images: &[u16; MOST_HOPS], stamps: &mut [u16], k: u16, i: usize)
     requires { ⌜ i < most-hops ⌝ }
     ensures { λ _. ⌜ now (stamps .exit) ≡ set (now (stamps .entry)) (getD (now (images .entry)) i 0) k ⌝ }
 {
@@ -33,7 +33,7 @@ fn tick(images: &[u16; MOST_HOPS], stamps: &mut [u16], k: u16, i: usize)
 }
 
 // Ticks by the hops of the state u of graph 1, if u is seen and its map is r.
-fn tick_state(
+fn stamp_state(
     shape1: Shape,
     hops1: &[u16],
     starts1: &[u16; STARTS],
@@ -46,11 +46,11 @@ fn tick_state(
     k: u16,
     u: OldState,
 )
-    requires tickable { ⌜ Tickable shape1 (now hops1) (now starts1) (now hops2) (now map) (now images) ⌝ }
+    requires stamping { ⌜ StampInput shape1 (now hops1) (now starts1) (now hops2) (now map) (now images) ⌝ }
     requires seen { ⌜ shape1 .states ≤ length (now seen) ⌝ }
     requires stamps { ⌜ count (now hops2) ≤ length (now stamps) ⌝ }
     requires state { ⌜ u .0 < shape1 .states ⌝ }
-    ensures { λ _. ⌜ TickedOn (now (hops1 .entry)) (now (hops2 .entry)) (now (map .entry)) (now (seen .entry)) (r .0) k
+    ensures { λ _. ⌜ StampedFrom (now (hops1 .entry)) (now (hops2 .entry)) (now (map .entry)) (now (seen .entry)) (r .0) k
         (firstOf (now (hops1 .entry)) (u .0)) (firstOf (now (hops1 .entry)) (u .0 + 1)) (now (stamps .entry)) (now (stamps .exit)) ⌝ }
 {
     let v = map_at(map, u);
@@ -59,14 +59,14 @@ fn tick_state(
         let past = start_of(starts1, at + 1);
         let mut i = start_of(starts1, at);
         while i < past {
-            tick(images, stamps, k, i);
+            stamp_hop(images, stamps, k, i);
             i += 1;
         }
     }
 }
 
 // Ticks by the hops of every such state of graph 1.
-pub fn tick_all(
+pub fn stamp_all(
     shape1: Shape,
     hops1: &[u16],
     starts1: &[u16; STARTS],
@@ -78,16 +78,16 @@ pub fn tick_all(
     r: NewState,
     k: u16,
 )
-    requires tickable { ⌜ Tickable shape1 (now hops1) (now starts1) (now hops2) (now map) (now images) ⌝ }
+    requires stamping { ⌜ StampInput shape1 (now hops1) (now starts1) (now hops2) (now map) (now images) ⌝ }
     requires seen { ⌜ shape1 .states ≤ length (now seen) ⌝ }
     requires stamps { ⌜ count (now hops2) ≤ length (now stamps) ⌝ }
-    ensures { λ _. ⌜ TickedBy (now (hops1 .entry)) (now (hops2 .entry)) (now (map .entry)) (now (seen .entry)) (r .0) k
+    ensures { λ _. ⌜ StampedUpTo (now (hops1 .entry)) (now (hops2 .entry)) (now (map .entry)) (now (seen .entry)) (r .0) k
         (count (now (hops1 .entry))) (now (stamps .entry)) (now (stamps .exit)) ⌝ }
 {
     let n = shape1.states as usize;
     let mut u = 0;
     while u < n {
-        tick_state(
+        stamp_state(
             shape1,
             hops1,
             starts1,

@@ -1,5 +1,5 @@
 -- Demand 3 over the outputs themselves, in the sense asked. The fronts of the two outputs of an accepted `reduce` are the map and the short hops, whatever the outputs
--- held before, so the audit of them is that of `reduce-right`. Assumes nothing.
+-- held before, so the audit of them is that of `short-audit-zero`. Assumes nothing.
 use Prim.Native.Nat.{ℕ, _≤_}
 use mathlib.Core.Path.{_≡_, refl, _∙_}
 use mathlib.Core.Bool.{Bool, true, false, cond}
@@ -21,9 +21,9 @@ use Rattle.reduce_entry.specs.Reduce.{noShape, reducedState, reducedMap, reduce
 use Rattle.reduce_entry.specs.declared.Reduction.{Reduction}
 use Rattle.reduce_entry.proofs.Answering.{reduce-reducible, reduce-map-capacity, reduce-short-capacity, accepted-returns, accepted-map, accepted-short}
 use Rattle.audit_entry.specs.declared.Audit.{Audit}
-use Rattle.audit_entry.specs.Auditing.{faultless}
-use Rattle.audit_of_reduce.specs.Together.{auditLeft}
-use Rattle.audit_of_reduce.proofs.Right.{reduce-right}
+use Rattle.audit_entry.specs.Audit.{faultless}
+use Rattle.audit_of_reduce.specs.AuditOfReduce.{auditOfReduce}
+use Rattle.audit_of_reduce.proofs.Correct.{short-audit-zero}
 
 module _ (sh : Shape) (hs : List ℕ) (k : ℕ) (map short : List ℕ) where
   abbrev answer : Answer
@@ -53,9 +53,9 @@ module _ (sh : Shape) (hs : List ℕ) (k : ℕ) (map short : List ℕ) where
     front-short = rw (← accepted-short sh hs k map short refl zero refl) (flat-front (reducedHops sh hs k) _ refl)
 
     -- demand 3: the audit of what an accepted `reduce` left, whatever the outputs held before, accepts and finds no fault
-    pub left-right : auditLeft sh hs (reduceOf sh hs k (length map) (length short)) (mapOutput sh hs k map short) (shortOutput sh hs k map short) ≡ faultless
-    unfolding auditLeft
-    left-right = rw (← figures, front-map, front-short) (reduce-right (reduce-reducible sh hs k (length map) (length short) zero) (senseOf k))
+    pub reduce-audit-zero : auditOfReduce sh hs (reduceOf sh hs k (length map) (length short)) (mapOutput sh hs k map short) (shortOutput sh hs k map short) ≡ faultless
+    unfolding auditOfReduce
+    reduce-audit-zero = rw (← figures, front-map, front-short) (short-audit-zero (reduce-reducible sh hs k (length map) (length short) zero) (senseOf k))
 
   -- what the code has in hand: the reduction that was returned, accepted
   module _ {red : Reduction} (e : red ≡ reduceOf sh hs k (length map) (length short)) (z : red .answer .number ≡ 0) where
@@ -72,6 +72,6 @@ module _ (sh : Shape) (hs : List ℕ) (k : ℕ) (map short : List ℕ) where
         let capacity : length hs ≤ length short = reduce-short-capacity sh hs k (length map) (length short) (zero accepts) in
         rw (e, ← figures accepts) (omega arith)
 
-    pub left-faultless : {x : Audit} {map-after short-after : List ℕ} → x ≡ auditLeft sh hs red map-after short-after →
+    pub output-faultless : {x : Audit} {map-after short-after : List ℕ} → x ≡ auditOfReduce sh hs red map-after short-after →
         map-after ≡ mapOutput sh hs k map short → short-after ≡ shortOutput sh hs k map short → x ≡ faultless
-    left-faultless a p q = (rw (e, p, q) at a) ∙ left-right accepts
+    output-faultless a p q = (rw (e, p, q) at a) ∙ reduce-audit-zero accepts

@@ -1,1 +1,1 @@
-pub mod Together  -- the audit of what an accepted reduce left
+pub mod AuditOfReduce  -- the audit of what an accepted reduce left

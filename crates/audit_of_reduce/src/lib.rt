@@ -15,8 +15,8 @@ ghost use Prim.Native.Nat.{_≤_};
 ghost use lib.ListN.{length};
 ghost use Rattle.graph.specs.Hops.{count};
 ghost use Rattle.reduce_entry.specs.Reduce.{reduceOf, mapOutput, shortOutput};
-ghost use Rattle.audit_entry.specs.Auditing.{faultless};
-ghost use Rattle.audit_of_reduce.specs.Together.{auditLeft};
+ghost use Rattle.audit_entry.specs.Audit.{faultless};
+ghost use Rattle.audit_of_reduce.specs.AuditOfReduce.{auditOfReduce};
 
 // What reducing and then auditing returns: the results of both.
 pub struct AuditedReduction {
@@ -35,7 +35,7 @@ fn audit_reduction(
     requires accepted { ⌜ reduction .answer .number ≡ 0 ⌝ }
     requires map_there { ⌜ shape .states ≤ length (now map) ⌝ }
     requires short_there { ⌜ reduction .hops ≤ count (now short) ⌝ }
-    ensures { λ r. ⌜ r ≡ auditLeft shape (now (hops .entry)) reduction (now (map .entry)) (now (short .entry)) ⌝ }
+    ensures { λ r. ⌜ r ≡ auditOfReduce shape (now (hops .entry)) reduction (now (map .entry)) (now (short .entry)) ⌝ }
 {
     let states = shape.states as usize;
     let short_shape = reduction.shape;
@@ -52,7 +52,7 @@ pub fn reduce_and_audit(
     short: &mut [u16],
 ) -> AuditedReduction
     ensures reduced { λ r. ⌜ r .reduction ≡ reduceOf shape (now (hops .entry)) sense (length (now (map .entry))) (length (now (short .entry))) ⌝ }
-    ensures audited { λ r. ⌜ r .audit ≡ auditLeft shape (now (hops .entry)) (r .reduction) (now (map .exit)) (now (short .exit)) ⌝ }
+    ensures audited { λ r. ⌜ r .audit ≡ auditOfReduce shape (now (hops .entry)) (r .reduction) (now (map .exit)) (now (short .exit)) ⌝ }
     ensures right { λ r. ⌜ (r .reduction .answer .number ≡ 0 → r .audit ≡ faultless) ⌝ }
     ensures mapped { λ r. ⌜ now (map .exit) ≡ mapOutput shape (now (hops .entry)) sense (now (map .entry)) (now (short .entry)) ⌝ }
     ensures shortened { λ r. ⌜ now (short .exit) ≡ shortOutput shape (now (hops .entry)) sense (now (map .entry)) (now (short .entry)) ⌝ }

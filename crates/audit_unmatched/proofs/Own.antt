@@ -15,7 +15,7 @@ use Rattle.base_bounded.proofs.Bools.{lt-or-le, and-no-left}
 use Rattle.base_bounded.proofs.Quantifiers.{least-before, least-is}
 use Rattle.graph.proofs.Lookup.{first-law}
 use Rattle.graph_successors.proofs.Firsts.{first-below}
-use Rattle.audit_unmatched.specs.States.{unticked}
+use Rattle.audit_unmatched.specs.States.{unstamped}
 
 -- how many pass a test that fails from lo on
 module _ (p : ℕ → Bool) {lo : ℕ} where
@@ -30,10 +30,10 @@ module _ (p : ℕ → Bool) {lo : ℕ} where
 
 module _ (h2 stamps : List ℕ) (up : Ascending h2) (r k : ℕ) where
   abbrev test : ℕ → Bool
-  test = unticked h2 stamps r k
+  test = unstamped h2 stamps r k
 
   not-of : (j : ℕ) → (r ≡ from h2 j → ⊥) → test j ≡ false
-  unfolding unticked
+  unfolding unstamped
   not-of j d = and-no-left _ (ne-eqb r (from h2 j) d)
 
   none-before : {j : ℕ} → j < firstOf h2 r → test j ≡ false

@@ -10,7 +10,7 @@
 use audit_faults::Fault;
 use audit_faults::Share;
 use audit_faults::first::no_fault;
-use audit_matched::tick_all;
+use audit_matched::stamp_all;
 use graph::MOST_HOPS;
 use graph::MOST_STATES;
 use graph::NewState;
@@ -36,10 +36,10 @@ ghost use Rattle.base_bounded.specs.Quantifiers.{least, tally};
 ghost use Rattle.graph.specs.Hops.{count};
 ghost use Rattle.graph.specs.Answers.{most-states};
 ghost use Rattle.graph_successors.specs.SuccessorIndex.{SuccessorIndex, Indexable};
-ghost use Rattle.audit_faults.specs.Faults.{madeUpFaults};
-ghost use Rattle.audit_faults.specs.First.{fault, noFault, firstMadeUp};
+ghost use Rattle.audit_faults.specs.Faults.{unmatchedFaults};
+ghost use Rattle.audit_faults.specs.First.{fault, noFault, firstUnmatched};
 ghost use Rattle.audit_faults.specs.Images.{Auditable, Imaged};
-ghost use Rattle.audit_unmatched.specs.States.{Countable, Rooms, unticked, Fresh, madeUpOf, madeUpPlaceOf};
+ghost use Rattle.audit_unmatched.specs.States.{CountInput, Workspace, unstamped, Fresh, unmatchedOf, unmatchedPlaceOf};
 
 // What is made up for one state: how many hops of graph 2, and the place of the first, or the hop count.
 pub struct OfState {
@@ -48,10 +48,10 @@ pub struct OfState {
 }
 
 // Whether the hop at place j of graph 2 leaves r, is no silent hop to r itself, and is not ticked.
-fn is_unticked(hops2: &[u16], stamps: &[u16], r: NewState, k: u16, j: usize) -> bool
+fn is_unstamped(hops2: &[u16], stamps: &[u16], r: NewState, k: u16, j: usize) -> bool
     requires place { ⌜ j < count (now hops2) ⌝ }
     requires stamps { ⌜ count (now hops2) ≤ length (now stamps) ⌝ }
-    ensures { λ u. ⌜ u ≡ unticked (now (hops2 .entry)) (now (stamps .entry)) (r .0) k j ⌝ }
+    ensures { λ u. ⌜ u ≡ unstamped (now (hops2 .entry)) (now (stamps .entry)) (r .0) k j ⌝ }
 {
     let from = new_from_at(hops2, j);
     let a = label_at(hops2, j);
@@ -60,7 +60,7 @@ fn is_unticked(hops2: &[u16], stamps: &[u16], r: NewState, k: u16, j: usize) -> 
 }
 
 // The first place of graph 2 whose hop is so, or its hop count: the hops of r are all that can be.
-fn first_unticked(
+fn first_unstamped(
     hops2: &[u16],
     starts2: &[u16; STARTS],
     stamps: &[u16],
@@ -71,13 +71,13 @@ fn first_unticked(
     requires table { ⌜ SuccessorIndex (now hops2) (now starts2) ⌝ }
     requires stamps { ⌜ count (now hops2) ≤ length (now stamps) ⌝ }
     requires state { ⌜ r .0 < most-states ⌝ }
-    ensures { λ u. ⌜ u ≡ least (count (now (hops2 .entry))) (unticked (now (hops2 .entry)) (now (stamps .entry)) (r .0) k) ⌝ }
+    ensures { λ u. ⌜ u ≡ least (count (now (hops2 .entry))) (unstamped (now (hops2 .entry)) (now (stamps .entry)) (r .0) k) ⌝ }
 {
     let at = wide(r.0);
     let past = start_of(starts2, at + 1);
     let mut j = start_of(starts2, at);
     while j < past {
-        if is_unticked(hops2, stamps, r, k, j) {
+        if is_unstamped(hops2, stamps, r, k, j) {
             return j;
         }
         j += 1;
@@ -86,7 +86,7 @@ fn first_unticked(
 }
 
 // How many hops of graph 2 are so, counted from the first of them on.
-fn unticked_from(
+fn unstamped_from(
     hops2: &[u16],
     starts2: &[u16; STARTS],
     stamps: &[u16],
@@ -98,14 +98,14 @@ fn unticked_from(
     requires table { ⌜ SuccessorIndex (now hops2) (now starts2) ⌝ }
     requires stamps { ⌜ count (now hops2) ≤ length (now stamps) ⌝ }
     requires state { ⌜ r .0 < most-states ⌝ }
-    requires first { ⌜ first ≡ least (count (now hops2)) (unticked (now hops2) (now stamps) (r .0) k) ⌝ }
-    ensures { λ u. ⌜ u ≡ tally (count (now (hops2 .entry))) (unticked (now (hops2 .entry)) (now (stamps .entry)) (r .0) k) ⌝ }
+    requires first { ⌜ first ≡ least (count (now hops2)) (unstamped (now hops2) (now stamps) (r .0) k) ⌝ }
+    ensures { λ u. ⌜ u ≡ tally (count (now (hops2 .entry))) (unstamped (now (hops2 .entry)) (now (stamps .entry)) (r .0) k) ⌝ }
 {
     let past = start_of(starts2, wide(r.0) + 1);
     let mut faults = 0;
     let mut j = first;
     while j < past {
-        if is_unticked(hops2, stamps, r, k, j) {
+        if is_unstamped(hops2, stamps, r, k, j) {
             faults += 1;
         }
         j += 1;
@@ -114,7 +114,7 @@ fn unticked_from(
 }
 
 // The faults of the pairs of a hop of graph 2 and the state s, and the first place of such a hop.
-fn made_up_of(
+fn unmatched_of(
     shape1: Shape,
     hops1: &[u16],
     starts1: &[u16; STARTS],
@@ -128,18 +128,18 @@ fn made_up_of(
     queue: &mut [u16],
     stamps: &mut [u16],
 ) -> OfState
-    requires countable { ⌜ Countable shape1 (now hops1) (now starts1) (now silent) (now hops2) (now starts2) (now map) (now images) ⌝ }
+    requires countable { ⌜ CountInput shape1 (now hops1) (now starts1) (now silent) (now hops2) (now starts2) (now map) (now images) ⌝ }
     requires state { ⌜ s .0 < shape1 .states ⌝ }
-    requires capacities { ⌜ Rooms (shape1 .states) (now hops2) (now seen) (now queue) (now stamps) ⌝ }
+    requires capacities { ⌜ Workspace (shape1 .states) (now hops2) (now seen) (now queue) (now stamps) ⌝ }
     requires fresh { ⌜ Fresh (now hops2) (now stamps) (s .0 + 1) ⌝ }
-    ensures counts { λ r. ⌜ r .faults ≡ madeUpOf shape1 (now (hops1 .entry)) (now (hops2 .entry)) (now (map .entry)) (s .0) ⌝ }
-    ensures names { λ r. ⌜ r .place ≡ madeUpPlaceOf shape1 (now (hops1 .entry)) (now (hops2 .entry)) (now (map .entry)) (s .0) ⌝ }
+    ensures counts { λ r. ⌜ r .faults ≡ unmatchedOf shape1 (now (hops1 .entry)) (now (hops2 .entry)) (now (map .entry)) (s .0) ⌝ }
+    ensures names { λ r. ⌜ r .place ≡ unmatchedPlaceOf shape1 (now (hops1 .entry)) (now (hops2 .entry)) (now (map .entry)) (s .0) ⌝ }
     ensures fresh { λ r. ⌜ Fresh (now (hops2 .entry)) (now (stamps .exit)) (s .0 + 1 + 1) ⌝ }
 {
     let r = map_at(map, s);
     let k = s.0 + 1;
     reach(shape1, hops1, starts1, silent, s, seen, queue);
-    tick_all(
+    stamp_all(
         shape1,
         hops1,
         starts1,
@@ -151,8 +151,8 @@ fn made_up_of(
         r,
         k,
     );
-    let place = first_unticked(hops2, starts2, stamps, r, k);
-    let faults = unticked_from(hops2, starts2, stamps, r, k, place);
+    let place = first_unstamped(hops2, starts2, stamps, r, k);
+    let faults = unstamped_from(hops2, starts2, stamps, r, k, place);
     OfState { faults, place }
 }
 
@@ -179,7 +179,7 @@ fn share_of(faults: u32, place: usize, state: u16, none: usize) -> Share
 
 // The third sum, with the tables of places, and working space for the search and for the stamps, which begin at 0. Going by states meets the faults in another
 // order than theirs, by hops: the smallest place is kept, with the first state that has it.
-fn made_up_faults(
+fn unmatched_faults(
     shape1: Shape,
     hops1: &[u16],
     starts1: &[u16; STARTS],
@@ -192,11 +192,11 @@ fn made_up_faults(
     queue: &mut [u16],
     stamps: &mut [u16],
 ) -> Share
-    requires countable { ⌜ Countable shape1 (now hops1) (now starts1) (now silent) (now hops2) (now starts2) (now map) (now images) ⌝ }
-    requires capacities { ⌜ Rooms (shape1 .states) (now hops2) (now seen) (now queue) (now stamps) ⌝ }
+    requires countable { ⌜ CountInput shape1 (now hops1) (now starts1) (now silent) (now hops2) (now starts2) (now map) (now images) ⌝ }
+    requires capacities { ⌜ Workspace (shape1 .states) (now hops2) (now seen) (now queue) (now stamps) ⌝ }
     requires fresh { ⌜ Fresh (now hops2) (now stamps) 1 ⌝ }
-    ensures counts { λ r. ⌜ r .faults ≡ madeUpFaults shape1 (now (hops1 .entry)) (now (hops2 .entry)) (now (map .entry)) ⌝ }
-    ensures names { λ r. ⌜ r .first ≡ firstMadeUp shape1 (now (hops1 .entry)) (now (hops2 .entry)) (now (map .entry)) ⌝ }
+    ensures counts { λ r. ⌜ r .faults ≡ unmatchedFaults shape1 (now (hops1 .entry)) (now (hops2 .entry)) (now (map .entry)) ⌝ }
+    ensures names { λ r. ⌜ r .first ≡ firstUnmatched shape1 (now (hops1 .entry)) (now (hops2 .entry)) (now (map .entry)) ⌝ }
 {
     let n = shape1.states as usize;
     let none = hop_count(hops2);
@@ -205,7 +205,7 @@ fn made_up_faults(
     let mut state = 0;
     let mut s = 0;
     while s < n {
-        let of = made_up_of(
+        let of = unmatched_of(
             shape1,
             hops1,
             starts1,
@@ -230,7 +230,7 @@ fn made_up_faults(
 }
 
 // The third sum: 1 for each pair of a hop of graph 2 and a state of graph 1 that is a fault, and the first of them.
-pub fn all_made_up(
+pub fn all_unmatched(
     shape1: Shape,
     hops1: &[u16],
     hops2: &[u16],
@@ -241,15 +241,15 @@ pub fn all_made_up(
     requires auditable { ⌜ Auditable shape1 (now hops1) (now hops2) (now map) ⌝ }
     requires table { ⌜ SuccessorIndex (now hops2) (now starts2) ⌝ }
     requires imaged { ⌜ Imaged (now hops1) (now hops2) (now map) (now images) ⌝ }
-    ensures counts { λ r. ⌜ r .faults ≡ madeUpFaults shape1 (now (hops1 .entry)) (now (hops2 .entry)) (now (map .entry)) ⌝ }
-    ensures names { λ r. ⌜ r .first ≡ firstMadeUp shape1 (now (hops1 .entry)) (now (hops2 .entry)) (now (map .entry)) ⌝ }
+    ensures counts { λ r. ⌜ r .faults ≡ unmatchedFaults shape1 (now (hops1 .entry)) (now (hops2 .entry)) (now (map .entry)) ⌝ }
+    ensures names { λ r. ⌜ r .first ≡ firstUnmatched shape1 (now (hops1 .entry)) (now (hops2 .entry)) (now (map .entry)) ⌝ }
 {
     let starts1 = starts_of(hops1);
     let silent = silent_bytes(hops1);
     let mut seen = [0u8; MOST_STATES];
     let mut queue = [0u16; MOST_STATES];
     let mut stamps = [0u16; MOST_HOPS];
-    made_up_faults(
+    unmatched_faults(
         shape1,
         hops1,
         &starts1,

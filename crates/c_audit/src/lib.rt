@@ -9,8 +9,8 @@ use c_answer::tell;
 use graph::Shape;
 ghost use mathlib.Core.Path.{_≡_};
 ghost use lib.ListN.{length};
-ghost use Rattle.audit_admitted.specs.Fitting.{auditAnswer};
-ghost use Rattle.audit_entry.specs.Auditing.{auditOf};
+ghost use Rattle.audit_admitted.specs.Admitted.{auditAnswer};
+ghost use Rattle.audit_entry.specs.Audit.{auditOf};
 ghost use Rattle.c_answer.specs.Numbers.{shapeOf, returned, told};
 ghost use Rattle.c_audit.specs.Numbers.{auditNumbers};
 

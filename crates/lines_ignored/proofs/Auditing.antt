@@ -7,18 +7,18 @@ use lib.Dec.{eqb}
 use Rattle.base_bounded.specs.Quantifiers.{any, least, tally, total}
 use Rattle.graph.specs.Map.{mapped}
 use Rattle.graph.specs.declared.Shape.{Shape}
-use Rattle.audit_faults.specs.Faults.{kept, lostFaults, offers, backed, matched, madeUp, madeUpFaults, faultsOf}
-use Rattle.audit_faults.specs.First.{lostPlace, firstLost, madeUpPlace, madeUpState, firstMadeUp, firstFault}
-use Rattle.audit_admitted.specs.Fitting.{auditAnswer}
-use Rattle.audit_entry.specs.Auditing.{auditOf}
+use Rattle.audit_faults.specs.Faults.{preserved, lostFaults, matchAt, matchedFrom, matched, unmatched, unmatchedFaults, faultsOf}
+use Rattle.audit_faults.specs.First.{lostPlace, firstLost, unmatchedPlace, unmatchedState, firstUnmatched, firstFault}
+use Rattle.audit_admitted.specs.Admitted.{auditAnswer}
+use Rattle.audit_entry.specs.Audit.{auditOf}
 use Rattle.lines_ignored.specs.Unlined.{Unlined}
 use Rattle.lines_ignored.proofs.Checks.{count-same, from-same, label-same, to-same, has-same, check-same}
 use Rattle.lines_ignored.proofs.Walks.{leads-same}
 
 module _ {h1 h1' h2 h2' : List ℕ} (un1 : Unlined h1 h1') (un2 : Unlined h2 h2') (m : List ℕ) where
   -- the hops that are lost
-  kept-same : kept h1 h2 m ≡ kept h1' h2' m
-  unfolding kept
+  kept-same : preserved h1 h2 m ≡ preserved h1' h2' m
+  unfolding preserved
   kept-same = λ d. λ (i : ℕ).
       (eqb (label-same un1 i d) 0 && eqb (mapped m (from-same un1 i d)) (mapped m (to-same un1 i d))) ||
       has-same un2 d (mapped m (from-same un1 i d)) (label-same un1 i d) (mapped m (to-same un1 i d))
@@ -36,32 +36,32 @@ module _ {h1 h1' h2 h2' : List ℕ} (un1 : Unlined h1 h1') (un2 : Unlined h2 h2'
   first-lost-same = rw (place-same, count-same un1)
 
   -- the hops that are made up
-  offers-same : offers h1 m ≡ offers h1' m
-  unfolding offers
+  offers-same : matchAt h1 m ≡ matchAt h1' m
+  unfolding matchAt
   offers-same = λ d. λ (r a q u : ℕ). eqb (mapped m u) r && any (count-same un1 d)
       (λ (i : ℕ). eqb (from-same un1 i d) u && (eqb (label-same un1 i d) a && eqb (mapped m (to-same un1 i d)) q))
 
   module _ (sh1 : Shape) where
-    backed-same : backed sh1 h1 m ≡ backed sh1 h1' m
-    unfolding backed
+    backed-same : matchedFrom sh1 h1 m ≡ matchedFrom sh1 h1' m
+    unfolding matchedFrom
     backed-same = λ d. λ (s r a q : ℕ). any (sh1 .states) (λ (u : ℕ). leads-same un1 (sh1 .states) s u d && offers-same d r a q u)
 
-    made-up-same : madeUp sh1 h1 h2 m ≡ madeUp sh1 h1' h2' m
-    unfolding madeUp matched
+    made-up-same : unmatched sh1 h1 h2 m ≡ unmatched sh1 h1' h2' m
+    unfolding unmatched matched
     made-up-same = λ d. λ (j s : ℕ). eqb (mapped m s) (from-same un2 j d) &&
         not ((eqb (label-same un2 j d) 0 && eqb (from-same un2 j d) (to-same un2 j d)) ||
         backed-same d s (from-same un2 j d) (label-same un2 j d) (to-same un2 j d))
 
-    made-up-faults-same : madeUpFaults sh1 h1 h2 m ≡ madeUpFaults sh1 h1' h2' m
-    unfolding madeUpFaults
+    made-up-faults-same : unmatchedFaults sh1 h1 h2 m ≡ unmatchedFaults sh1 h1' h2' m
+    unfolding unmatchedFaults
     made-up-faults-same = λ d. total (count-same un2 d) (λ (j : ℕ). tally (sh1 .states) (made-up-same d j))
 
-    made-up-place-same : madeUpPlace sh1 h1 h2 m ≡ madeUpPlace sh1 h1' h2' m
-    unfolding madeUpPlace
+    made-up-place-same : unmatchedPlace sh1 h1 h2 m ≡ unmatchedPlace sh1 h1' h2' m
+    unfolding unmatchedPlace
     made-up-place-same = λ d. least (count-same un2 d) (λ (j : ℕ). any (sh1 .states) (made-up-same d j))
 
-    first-made-up-same : firstMadeUp sh1 h1 h2 m ≡ firstMadeUp sh1 h1' h2' m
-    unfolding firstMadeUp madeUpState
+    first-made-up-same : firstUnmatched sh1 h1 h2 m ≡ firstUnmatched sh1 h1' h2' m
+    unfolding firstUnmatched unmatchedState
     first-made-up-same = rw (made-up-place-same, made-up-same, count-same un2)
 
     module _ (sh2 : Shape) where

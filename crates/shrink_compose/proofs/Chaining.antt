@@ -6,7 +6,7 @@ use lib.ListN.{length}
 use Rattle.base_bounded.proofs.Quantifiers.{length-tabulate, getD-tabulate}
 use Rattle.graph.specs.Map.{mapped}
 use Rattle.graph.specs.declared.Shape.{Shape}
-use Rattle.audit_admitted.specs.Fitting.{AdmittedMap}
+use Rattle.audit_admitted.specs.Admitted.{AdmittedMap}
 use Rattle.shrink_compose.specs.Chained.{chained, ownMap}
 
 pub chained-length : (m n : List ℕ) → length (chained m n) ≡ length m

@@ -8,9 +8,9 @@ use Rattle.graph.specs.declared.Shape.{Shape}
 use Rattle.graph_check.specs.Check.{Admitted}
 use Rattle.lts.proofs.Compose.{reduces-compose, Reduces·refl}
 use Rattle.audit_faults.specs.Faults.{faultsOf}
-use Rattle.audit_admitted.proofs.Fits.{Audited}
-use Rattle.audit_entry.specs.Auditing.{auditOf, faultless}
-use Rattle.audit_entry.proofs.Meaning.{hop-to, zero-faultless, reduces-zero}
+use Rattle.audit_admitted.proofs.Admitted.{Audited}
+use Rattle.audit_entry.specs.Audit.{auditOf, faultless}
+use Rattle.audit_entry.proofs.Meaning.{hop-to, zero-faults-reduces, reduces-zero}
 use Rattle.audit_entry.proofs.Answering.{faultless-iff}
 use Rattle.shrink_compose.specs.Chained.{chained, ownMap}
 use Rattle.shrink_compose.proofs.Chaining.{chained-at, own-length, own-at, chained-admitted}
@@ -25,8 +25,8 @@ module _ (sh1 sh2 sh3 : Shape) (h1 h2 h3 m n : List ℕ) where
   pub zero-composes : Audited sh1 sh2 h1 h2 m → Audited sh2 sh3 h2 h3 n → faultsOf sh1 sh2 h1 h2 m ≡ 0 → faultsOf sh2 sh3 h2 h3 n ≡ 0 →
       faultsOf sh1 sh3 h1 h3 (chained m n) ≡ 0
   zero-composes a b y z =
-      let f = zero-faultless sh1 sh2 h1 h2 m (a .first .range) y in
-      let g = zero-faultless sh2 sh3 h2 h3 n (b .first .range) z in
+      let f = zero-faults-reduces sh1 sh2 h1 h2 m (a .first .range) y in
+      let g = zero-faults-reduces sh2 sh3 h2 h3 n (b .first .range) z in
       reduces-zero sh1 sh3 h1 h3 (chained m n) (a .first .range)
       (reduces-compose {D2 = λ s. s < sh2 .states} (λ s i t h. hop-to (a .first .range) s i t h) (a .map .entries-in) (f .keeps) (g .keeps)) chain
       (chain (sh1 .initial) (a .first .initial-in) ∙ ap (mapped n) (f .joins) ∙ g .joins)

@@ -10,7 +10,7 @@ use Rattle.graph.specs.declared.Shape.{Shape}
 use Rattle.reduce_representatives.specs.Tables.{Reducible}
 use Rattle.reduce_entry.specs.Reduce.{reduceAnswer}
 use Rattle.reduce_entry.proofs.Answering.{reduce-reducible}
-use Rattle.audit_entry.specs.Auditing.{auditOf, faultless}
+use Rattle.audit_entry.specs.Audit.{auditOf, faultless}
 use Rattle.audit_entry.proofs.Answering.{faultless-iff}
 use Rattle.shrink_iterate.specs.Repeating.{Stage, lastStage}
 use Rattle.shrink_iterate.proofs.Last.{last-staged, last-right, last-below}

@@ -13,7 +13,7 @@ use Rattle.graph.specs.Hops.{count, between}
 use Rattle.graph.specs.Answers.{most-states}
 use Rattle.graph.specs.declared.Shape.{Shape}
 use Rattle.reduce_representatives.specs.Tables.{Reducible}
-use Rattle.audit_admitted.proofs.Fits.{Audited}
+use Rattle.audit_admitted.proofs.Admitted.{Audited}
 use Rattle.audit_entry.proofs.Answering.{faultless-iff}
 use Rattle.shrink_compose.specs.Chained.{ownMap, Into}
 use Rattle.shrink_iterate.specs.Repeating.{Stage, nextStage, marksSome, lastOf, lastStage}

@@ -10,7 +10,7 @@ use Rattle.base_bounded.proofs.Bools.{decided}
 use Rattle.graph.specs.declared.Shape.{Shape}
 use Rattle.base_fixpoint.specs.Pairs.{In}
 use Rattle.reduce_representatives.specs.Tables.{Reducible}
-use Rattle.audit_entry.specs.Auditing.{auditOf, faultless}
+use Rattle.audit_entry.specs.Audit.{auditOf, faultless}
 use Rattle.shrink_iterate.specs.Repeating.{Stage, firstStage, nextStage, markedAt, marksSome, repeated, lastOf, lastStage, Ends, still, again}
 use Rattle.shrink_iterate.proofs.Stages.{some-marked, none-marked, fewer-states, Staged, first-staged, next-staged}
 

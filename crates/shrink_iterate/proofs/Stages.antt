@@ -21,9 +21,9 @@ use Rattle.reduce_short_graph.proofs.Again.{short-all}
 use Rattle.reduce_entry.specs.Reduce.{reducedHops}
 use Rattle.reduce_entry.proofs.Marked.{marked-within}
 use Rattle.reduce_entry.proofs.Reduced.{short-again, short-fewer}
-use Rattle.audit_entry.specs.Auditing.{auditOf, faultless}
+use Rattle.audit_entry.specs.Audit.{auditOf, faultless}
 use Rattle.shrink_compose.proofs.Composed.{audits-compose, own-faultless}
-use Rattle.audit_of_reduce.proofs.Right.{reduce-right}
+use Rattle.audit_of_reduce.proofs.Correct.{short-audit-zero}
 use Rattle.shrink_iterate.specs.Repeating.{Stage, firstStage, nextStage, markedAt, someMarked, marksSome}
 
 -- the test that some hop is marked, and what it says
@@ -64,7 +64,7 @@ first-staged {sh} {hs} red = record { reducible = red; right = own-faultless sh 
 pub next-staged : (k : ℕ) {sh : Shape} {hs : List ℕ} {g : Stage} → Staged sh hs g → marksSome k g ≡ true → Staged sh hs (nextStage k g)
 next-staged k {sh} {hs} {g} st e = record {
   reducible = short-again (st .reducible) (senseOf k);
-  right = audits-compose sh (g .shape) _ hs (g .hops) _ (g .map) _ (st .right) (reduce-right (st .reducible) (senseOf k));
+  right = audits-compose sh (g .shape) _ hs (g .hops) _ (g .map) _ (st .right) (short-audit-zero (st .reducible) (senseOf k));
   few = let l = fewer-states k g (st .reducible) e in omega (arith, st .few);
   fits = omega (arith, length-flat (reducedHops (g .shape) (g .hops) k), marked-within (g .shape) (g .hops) k, st .fits);
 }

@@ -17,10 +17,10 @@ use Rattle.reduce_representatives.specs.Representative.{markedFrom, isNormal, n
 use Rattle.reduce_insertion.specs.Insertion.{insert, collected}
 use Rattle.reduce_short_graph.specs.Short.{shortUpTo, shortHops, shortShape, mapList}
 use Rattle.reduce_entry.specs.Reduce.{reduceAnswer, reduceOf}
-use Rattle.audit_faults.specs.Faults.{initialFault, kept, lostFaults, offers, backed, matched, madeUp, madeUpFaults, faultsOf}
-use Rattle.audit_faults.specs.First.{firstInitial, lostPlace, firstLost, madeUpPlace, madeUpState, firstMadeUp, firstFault}
-use Rattle.audit_admitted.specs.Fitting.{firstHigh, mapFits, auditAnswer}
-use Rattle.audit_entry.specs.Auditing.{auditOf}
+use Rattle.audit_faults.specs.Faults.{initialFault, preserved, lostFaults, matchAt, matchedFrom, matched, unmatched, unmatchedFaults, faultsOf}
+use Rattle.audit_faults.specs.First.{firstInitial, lostPlace, firstLost, unmatchedPlace, unmatchedState, firstUnmatched, firstFault}
+use Rattle.audit_admitted.specs.Admitted.{firstHigh, mapFits, auditAnswer}
+use Rattle.audit_entry.specs.Audit.{auditOf}
 use Rattle.graph_find.specs.Find.{hopsBefore, findOf}
 use Rattle.test_worked.specs.Table.{tableOf, table, outcomeOf, fallsIn}
 
@@ -28,5 +28,5 @@ pub given : tableOf table ≡ table
 unfolding
     all any least tabulate tally total flat is labelled has before checkOf countsFit inside firstOutside ascendsAt firstNotAscending leadsBy onRing lowestOnRing ringAnswer
     approximant survives marked closes tried answered answers hopAnswers answer closing inSetAt reachesBy hopOrStay joinsAt answersTo answersFrom answeredIn closesIn markedIn isSense senseOf senseAnswer marksOf markOf markAnswer fell stillMarked affectedAt affected testedIn testsIn testsUpTo testsOf markFastOf markedFrom isNormal nextState afterSteps repOf newOf mapOf
-    insert collected shortUpTo shortHops shortShape mapList initialFault kept lostFaults offers backed matched madeUp madeUpFaults faultsOf firstInitial lostPlace firstLost madeUpPlace madeUpState firstMadeUp firstFault reduceAnswer reduceOf firstHigh mapFits auditAnswer auditOf hopsBefore findOf outcomeOf fallsIn
+    insert collected shortUpTo shortHops shortShape mapList initialFault preserved lostFaults matchAt matchedFrom matched unmatched unmatchedFaults faultsOf firstInitial lostPlace firstLost unmatchedPlace unmatchedState firstUnmatched firstFault reduceAnswer reduceOf firstHigh mapFits auditAnswer auditOf hopsBefore findOf outcomeOf fallsIn
 given = refl

@@ -18,7 +18,7 @@ use Rattle.reduce_entry.specs.Reduce.{reducedMap, reducedHops, reduceOf}
 use Rattle.reduce_entry.specs.declared.Reduction.{Reduction}
 use Rattle.audit_faults.specs.First.{fault, noFault}
 use Rattle.audit_faults.specs.declared.Fault.{Fault}
-use Rattle.audit_entry.specs.Auditing.{auditOf}
+use Rattle.audit_entry.specs.Audit.{auditOf}
 use Rattle.audit_entry.specs.declared.Audit.{Audit}
 use Rattle.graph_find.specs.Find.{findOf}
 use Rattle.graph_find.specs.declared.Finding.{Finding}

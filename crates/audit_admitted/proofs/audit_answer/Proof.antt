@@ -1,7 +1,7 @@
 -- `audit_admitted::audit_answer` meets its contract: each way out is a case of the definition. Assumes nothing.
 use borrow.Author.Needs.{needs}
 use mathlib.Core.Path.{_∙_}
-use Rattle.audit_admitted.proofs.Fits.{answer-first, answer-second, answer-labels, answer-map}
+use Rattle.audit_admitted.proofs.Admitted.{answer-first, answer-second, answer-labels, answer-map}
 use Rattle.audit_admitted.proofs.audit_answer.Statement.{statement}
 use Rattle.audit_admitted.proofs.audit_answer.Tie as tie
 

@@ -11,7 +11,7 @@ use Rattle.base_bounded.specs.Quantifiers.{least}
 use Rattle.base_bounded.proofs.Bools.{not-yes, not-no}
 use Rattle.base_bounded.proofs.Quantifiers.{least-none, least-more, least-found, least-done}
 use Rattle.graph.specs.Map.{mapped}
-use Rattle.audit_admitted.specs.Fitting.{firstHigh}
+use Rattle.audit_admitted.specs.Admitted.{firstHigh}
 use Rattle.audit_admitted.proofs.first_high.Statement.{statement}
 use Rattle.audit_admitted.proofs.first_high.Tie as tie
 

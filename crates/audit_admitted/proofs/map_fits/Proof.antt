@@ -1,7 +1,7 @@
 -- `audit_admitted::map_fits` meets its contract: each way out is a case of the definition. Assumes nothing.
 use borrow.Author.Needs.{needs}
 use mathlib.Core.Path.{_∙_}
-use Rattle.audit_admitted.proofs.Fits.{fits-length, fits-high, fits-accepts}
+use Rattle.audit_admitted.proofs.Admitted.{fits-length, fits-high, fits-accepts}
 use Rattle.audit_admitted.proofs.map_fits.Statement.{statement}
 use Rattle.audit_admitted.proofs.map_fits.Tie as tie
 

@@ -4,7 +4,7 @@ use Prim.Native.Nat.{_-_}
 use mathlib.Core.Path.{_≡_}
 use native.Mathlib.Omega.{arith}
 use borrow.Author.Tests.{eq-eqb}
-use Rattle.audit_of_reduce.specs.Together.{auditLeft}
+use Rattle.audit_of_reduce.specs.AuditOfReduce.{auditOfReduce}
 use Rattle.audit_of_reduce.proofs.audit_reduction.Statement.{statement}
 use Rattle.audit_of_reduce.proofs.audit_reduction.Tie as tie
 
@@ -27,7 +27,7 @@ audit-requires : tie.Need-audit-requires
 audit-requires c κs = search needs
 
 returns : tie.Need-returns
-unfolding auditLeft
+unfolding auditOfReduce
 returns c = let s = c .before .before .before .before .before .before .before .before in
     let e : s .args .shape .states - 0 ≡ s .args .shape .states = omega arith in
     rw (eq-eqb _ 0 (s .pre .0)) (rw (c .before .before .part .ensures .0, e) at (c .audit .ensures))

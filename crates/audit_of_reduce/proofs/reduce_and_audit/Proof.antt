@@ -1,9 +1,9 @@
--- `audit_of_reduce::reduce_and_audit` meets its contract: by the contracts of `reduce` and `audit_reduction`, and by `left-right`. Assumes nothing.
+-- `audit_of_reduce::reduce_and_audit` meets its contract: by the contracts of `reduce` and `audit_reduction`, and by `reduce-audit-zero`. Assumes nothing.
 use borrow.Author.Needs.{needs}
 use native.Mathlib.Omega.{arith}
 use borrow.Author.Tests.{ne-eqb}
-use Rattle.audit_of_reduce.specs.Together.{auditLeft}
-use Rattle.audit_of_reduce.proofs.Fronts.{map-there, short-there, left-faultless}
+use Rattle.audit_of_reduce.specs.AuditOfReduce.{auditOfReduce}
+use Rattle.audit_of_reduce.proofs.Fronts.{map-there, short-there, output-faultless}
 use Rattle.audit_of_reduce.proofs.reduce_and_audit.Statement.{statement}
 use Rattle.audit_of_reduce.proofs.reduce_and_audit.Tie as tie
 
@@ -20,7 +20,7 @@ same-length-2 : tie.Need-same-length-2
 same-length-2 c = omega arith
 
 returns : tie.Need-returns
-unfolding auditLeft
+unfolding auditOfReduce
 returns c = let r = c .before .before .before .before .before .before .before .before .reduce in
     (r .ensures .0, (rw (ne-eqb _ 0 (c .before .if1 .taken), c .no-fault .ensures), ((λ z. absurd (c .before .if1 .taken z)), (r .ensures .1 .0, r .ensures .1 .1))))
 
@@ -43,7 +43,7 @@ returns-2 : tie.Need-returns-2
 returns-2 c =
     let r = c .before .before .before .before .before .before .before .before .before .before .reduce in
     let s = c .before .before .before .before .before .before .before .before .before .before .before .before .before .before .before .before .args in
-    let right = left-faultless (s .shape) (s .hops .now) (s .sense) (s .map .now) (s .short .now) (r .ensures .0) (c .before .before .before .if1 .left) (c .audit-reduction .ensures) (r .ensures .1 .0) (r .ensures .1 .1) in
+    let right = output-faultless (s .shape) (s .hops .now) (s .sense) (s .map .now) (s .short .now) (r .ensures .0) (c .before .before .before .if1 .left) (c .audit-reduction .ensures) (r .ensures .1 .0) (r .ensures .1 .1) in
     (r .ensures .0, (c .audit-reduction .ensures, ((λ _. right), (r .ensures .1 .0, r .ensures .1 .1))))
 
 pub reduce-and-audit-spec : {M : Type 1} → statement M

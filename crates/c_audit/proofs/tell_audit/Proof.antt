@@ -2,7 +2,7 @@
 use borrow.Author.Needs.{needs}
 use mathlib.Core.Path.{ap}
 use Rattle.audit_entry.specs.declared.Audit.{Audit}
-use Rattle.audit_entry.specs.Auditing.{auditOf}
+use Rattle.audit_entry.specs.Audit.{auditOf}
 use Rattle.c_audit.specs.Numbers.{auditNumbers}
 use lib.ListN.{length}
 use Rattle.c_answer.specs.Numbers.{shapeOf}

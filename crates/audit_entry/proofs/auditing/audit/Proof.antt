@@ -2,7 +2,7 @@
 use borrow.Author.Needs.{needs}
 use mathlib.Core.Path.{sym, ap, _∙_}
 use Rattle.graph.specs.declared.Answer.{Answer}
-use Rattle.audit_admitted.proofs.Fits.{answer-audited}
+use Rattle.audit_admitted.proofs.Admitted.{answer-audited}
 use Rattle.audit_entry.proofs.Answering.{auditable, audit-refuses, audit-counts}
 use Rattle.audit_entry.proofs.auditing.audit.Statement.{statement}
 use Rattle.audit_entry.proofs.auditing.audit.Tie as tie

@@ -7,7 +7,7 @@ use Rattle.graph.specs.Answers.{most-hops}
 use Rattle.audit_faults.specs.Faults.{faultsOf}
 use Rattle.audit_faults.specs.First.{orElse, firstFault}
 use Rattle.audit_faults.specs.declared.Fault.{Fault}
-use Rattle.audit_faults.proofs.Bound.{initial-most, lost-most, made-up-few}
+use Rattle.audit_faults.proofs.Bound.{initial-most, lost-most, unmatched-few}
 use Rattle.audit_entry.proofs.counting.fault_count.Statement.{statement}
 use Rattle.audit_entry.proofs.counting.fault_count.Tie as tie
 
@@ -24,11 +24,11 @@ initial-fault-requires c κs =
 lost-faults-requires : tie.Need-lost-faults-requires
 lost-faults-requires c κs = (c .before .before .before .before .before .before .before .before .pre, c .before .before .images-of .ensures)
 
-all-made-up-requires : tie.Need-all-made-up-requires
-all-made-up-requires c κs = (c .before .before .before .before .before .before .before .before .before .before .before .pre, (c .before .before .before .before .before .before .before .starts-of .ensures, c .before .before .before .before .before .images-of .ensures))
+all-unmatched-requires : tie.Need-all-unmatched-requires
+all-unmatched-requires c κs = (c .before .before .before .before .before .before .before .before .before .before .before .pre, (c .before .before .before .before .before .before .before .starts-of .ensures, c .before .before .before .before .before .images-of .ensures))
 
 -- the first two sums, and what they are at most
-module _ (c : tie.After-all-made-up) where
+module _ (c : tie.After-all-unmatched) where
   abbrev start : tie.Start
   start = c .before .before .before .before .before .before .before .before .before .before .before .before
 
@@ -52,8 +52,8 @@ add-t18 c =
     omega (
       arith,
       first-two (c .before .before .before),
-      c .before .before .before .all-made-up .ensures .0,
-      made-up-few (s .args .shape1) (s .args .hops1 .now) (s .args .hops2 .now) (s .args .map .now) (s .pre .admitted .states-most) (s .pre .ready .hops-most),
+      c .before .before .before .all-unmatched .ensures .0,
+      unmatched-few (s .args .shape1) (s .args .hops1 .now) (s .args .hops2 .now) (s .args .map .now) (s .pre .admitted .states-most) (s .pre .ready .hops-most),
     )
 
 or-else-requires : tie.Need-or-else-requires
@@ -69,8 +69,8 @@ named d e a b c = e ∙ rw (d, a, b, c)
 returns : tie.Need-returns
 unfolding faultsOf firstFault
 returns c = (
-  omega (arith, c .before .before .before .before .before .before .before .before .before .before .initial-fault .ensures .0, c .before .before .before .before .before .before .before .before .lost-faults .ensures .0, c .before .before .before .before .before .all-made-up .ensures .0),
-  named (c .before .or-else .ensures) (c .or-else2 .ensures) (c .before .before .before .before .before .before .before .before .before .before .initial-fault .ensures .1) (c .before .before .before .before .before .before .before .before .lost-faults .ensures .1) (c .before .before .before .before .before .all-made-up .ensures .1),
+  omega (arith, c .before .before .before .before .before .before .before .before .before .before .initial-fault .ensures .0, c .before .before .before .before .before .before .before .before .lost-faults .ensures .0, c .before .before .before .before .before .all-unmatched .ensures .0),
+  named (c .before .or-else .ensures) (c .or-else2 .ensures) (c .before .before .before .before .before .before .before .before .before .before .initial-fault .ensures .1) (c .before .before .before .before .before .before .before .before .lost-faults .ensures .1) (c .before .before .before .before .before .all-unmatched .ensures .1),
 )
 
 pub fault-count-spec : {M : Type 1} → statement M
@@ -81,7 +81,7 @@ fault-count-spec =
     images-of-requires
     initial-fault-requires
     lost-faults-requires
-    all-made-up-requires
+    all-unmatched-requires
     add-t17
     add-t18
     or-else-requires

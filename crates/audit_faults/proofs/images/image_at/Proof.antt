@@ -6,7 +6,7 @@ use Rattle.graph.specs.declared.Hop.{Hop}
 use Rattle.graph.specs.declared.Found.{Found}
 use Rattle.graph.specs.declared.Found.the-variants.{At, Gap}
 use Rattle.audit_faults.specs.Images.{placeOf, imageOf}
-use Rattle.audit_faults.proofs.Mapping.{found-within, image-told}
+use Rattle.audit_faults.proofs.Mapping.{found-within, image-result}
 use Rattle.audit_faults.proofs.images.image_at.Statement.{statement}
 use Rattle.audit_faults.proofs.images.image_at.Tie as tie
 
@@ -48,7 +48,7 @@ module _ (c : tie.After-find-row) where
   told g d =
       let m = c .before .before in
       let s = start (m .before .before .before .before) in
-      image-told (s .args .hops1 .now) (s .args .hops2 .now) (s .args .map .now) (s .args .i) (m .before .before .before .before .from-at .ensures)
+      image-result (s .args .hops1 .now) (s .args .hops2 .now) (s .args .map .now) (s .args .i) (m .before .before .before .before .from-at .ensures)
       (m .before .before .before .map-at .ensures) (m .before .before .label-at .ensures) (m .before .to-at .ensures) (m .map-at2 .ensures)
       (c .before .hop-of .ensures) (c .find-row .ensures) d
 

@@ -7,13 +7,13 @@ use native.Mathlib.Omega.{arith}
 use Rattle.base_bounded.specs.Quantifiers.{least}
 use Rattle.graph.specs.Hops.{count}
 use Rattle.base_bounded.proofs.Quantifiers.{least-none, least-more, least-found, least-done}
-use Rattle.audit_faults.specs.Faults.{kept}
+use Rattle.audit_faults.specs.Faults.{preserved}
 use Rattle.audit_faults.specs.First.{lostPlace}
 use Rattle.audit_faults.proofs.lost.first_lost.Statement.{statement}
 use Rattle.audit_faults.proofs.lost.first_lost.Tie as tie
 
 abbrev Inv-loop : tie.InvT-loop
-Inv-loop shape1 hops1 hops2 map images n i₀ i = (n ≡ count hops1) × (i ≤ n) × (least i (λ (j : ℕ). not (kept hops1 hops2 map j)) ≡ i)
+Inv-loop shape1 hops1 hops2 map images n i₀ i = (n ≡ count hops1) × (i ≤ n) × (least i (λ (j : ℕ). not (preserved hops1 hops2 map j)) ≡ i)
 
 abbrev μ-loop : tie.MeasureT-loop
 μ-loop shape1 hops1 hops2 map images n i₀ i = n - i
@@ -30,15 +30,15 @@ module _ (c : tie.At-loop Inv-loop μ-loop) where
   start = c .before .before .before .before .before
 
   abbrev lost : ℕ → Bool
-  lost j = not (kept (start .args .hops1 .now) (start .args .hops2 .now) (start .args .map .now) j)
+  lost j = not (preserved (start .args .hops1 .now) (start .args .hops2 .now) (start .args .map .now) j)
 
-is-kept-requires : tie.Need-is-kept-requires Inv-loop μ-loop
-is-kept-requires c κs =
+is-preserved-requires : tie.Need-is-preserved-requires Inv-loop μ-loop
+is-preserved-requires c κs =
     let s = start (c .before) in (s .pre .0, (s .pre .1, omega (arith, c .before .loop .inv .0, c .loop-test .taken)))
 
 -- the test at the place that was looked at
-lost-is : (c : tie.After-is-kept Inv-loop μ-loop) {x : Bool} → not (c .is-kept .result) ≡ x → lost (c .before .before) (c .before .before .loop .i) ≡ x
-lost-is c {x} e = rw (c .is-kept .ensures) at e
+lost-is : (c : tie.After-is-preserved Inv-loop μ-loop) {x : Bool} → not (c .is-preserved .result) ≡ x → lost (c .before .before) (c .before .before .loop .i) ≡ x
+lost-is c {x} e = rw (c .is-preserved .ensures) at e
 
 returns : tie.Need-returns Inv-loop μ-loop
 unfolding lostPlace
@@ -68,7 +68,7 @@ first-lost-spec =
     μ-loop
     hop-count-requires
     loop-holds
-    is-kept-requires
+    is-preserved-requires
     returns
     add-i
     loop-less

@@ -1,6 +1,6 @@
 -- `audit_faults::lost::initial_fault` meets its contract. Assumes nothing.
 use borrow.Author.Needs.{needs}
-use Rattle.audit_faults.proofs.Keeping.{initial-joined, initial-parted}
+use Rattle.audit_faults.proofs.Preserved.{initial-joined, initial-parted}
 use Rattle.audit_faults.proofs.lost.initial_fault.Statement.{statement}
 use Rattle.audit_faults.proofs.lost.initial_fault.Tie as tie
 

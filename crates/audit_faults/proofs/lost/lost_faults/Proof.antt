@@ -1,6 +1,6 @@
 -- `audit_faults::lost::lost_faults` meets its contract: a hop is lost exactly when the first place is below the hop count. Assumes nothing.
 use borrow.Author.Needs.{needs}
-use Rattle.audit_faults.proofs.Keeping.{lost-first, lost-none}
+use Rattle.audit_faults.proofs.Preserved.{lost-first, lost-none}
 use Rattle.audit_faults.proofs.lost.lost_faults.Statement.{statement}
 use Rattle.audit_faults.proofs.lost.lost_faults.Tie as tie
 

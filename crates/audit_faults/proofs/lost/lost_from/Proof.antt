@@ -9,13 +9,13 @@ use Rattle.base_bounded.specs.Quantifiers.{tally}
 use Rattle.graph.specs.Hops.{count}
 use Rattle.base_bounded.proofs.Quantifiers.{least-within, tally-more, tally-skip, tally-done, tally-within}
 use Rattle.base_bounded.proofs.Least.{tally-least}
-use Rattle.audit_faults.specs.Faults.{kept, lostFaults}
+use Rattle.audit_faults.specs.Faults.{preserved, lostFaults}
 use Rattle.audit_faults.specs.First.{lostPlace}
 use Rattle.audit_faults.proofs.lost.lost_from.Statement.{statement}
 use Rattle.audit_faults.proofs.lost.lost_from.Tie as tie
 
 abbrev Inv-loop : tie.InvT-loop
-Inv-loop shape1 hops1 hops2 map images first n faults₀ i₀ faults i = (n ≡ count hops1) × (i ≤ n) × (faults ≡ tally i (λ (j : ℕ). not (kept hops1 hops2 map j)))
+Inv-loop shape1 hops1 hops2 map images first n faults₀ i₀ faults i = (n ≡ count hops1) × (i ≤ n) × (faults ≡ tally i (λ (j : ℕ). not (preserved hops1 hops2 map j)))
 
 abbrev μ-loop : tie.MeasureT-loop
 μ-loop shape1 hops1 hops2 map images first n faults₀ i₀ faults i = n - i
@@ -27,7 +27,7 @@ loop-holds : tie.Need-loop-holds Inv-loop μ-loop
 unfolding lostPlace
 loop-holds c =
     let s = c .before .before .before .before in
-    let test : ℕ → Bool = λ j. not (kept (s .args .hops1 .now) (s .args .hops2 .now) (s .args .map .now) j) in
+    let test : ℕ → Bool = λ j. not (preserved (s .args .hops1 .now) (s .args .hops2 .now) (s .args .map .now) j) in
     let at = s .pre .1 .1 in
     (search needs, omega (arith, at, least-within test (count (s .args .hops1 .now))), rw at (sym (tally-least test (count (s .args .hops1 .now)))))
 
@@ -37,15 +37,15 @@ module _ (c : tie.At-loop Inv-loop μ-loop) where
   start = c .before .before .before .before .before
 
   abbrev lost : ℕ → Bool
-  lost j = not (kept (start .args .hops1 .now) (start .args .hops2 .now) (start .args .map .now) j)
+  lost j = not (preserved (start .args .hops1 .now) (start .args .hops2 .now) (start .args .map .now) j)
 
-is-kept-requires : tie.Need-is-kept-requires Inv-loop μ-loop
-is-kept-requires c κs =
+is-preserved-requires : tie.Need-is-preserved-requires Inv-loop μ-loop
+is-preserved-requires c κs =
     let s = start (c .before) in (s .pre .0, (s .pre .1 .0, omega (arith, c .before .loop .inv .0, c .loop-test .taken)))
 
 -- the test at the place that was looked at
-lost-is : (c : tie.After-is-kept Inv-loop μ-loop) {x : Bool} → not (c .is-kept .result) ≡ x → lost (c .before .before) (c .before .before .loop .i) ≡ x
-lost-is c {x} e = rw (c .is-kept .ensures) at e
+lost-is : (c : tie.After-is-preserved Inv-loop μ-loop) {x : Bool} → not (c .is-preserved .result) ≡ x → lost (c .before .before) (c .before .before .loop .i) ≡ x
+lost-is c {x} e = rw (c .is-preserved .ensures) at e
 
 add-faults : tie.Need-add-faults Inv-loop μ-loop
 add-faults c = let a = c .before .before .before in omega (arith, tally-within (lost a) (a .loop .i))
@@ -76,7 +76,7 @@ lost-from-spec =
     μ-loop
     hop-count-requires
     loop-holds
-    is-kept-requires
+    is-preserved-requires
     add-faults
     add-i
     loop-less

@@ -16,9 +16,9 @@ use Rattle.reduce_entry.proofs.Reduced.{map-inside, short-admitted, short-reduc
 use Rattle.graph.specs.Map.{mapped}
 use Rattle.audit_faults.specs.Faults.{faultsOf}
 use Rattle.audit_entry.specs.Bisimulation.{BranchingBisimulation, MapRelation, JoinsInitial}
-use Rattle.audit_entry.specs.Auditing.{auditOf, faultless}
-use Rattle.audit_entry.proofs.Meaning.{zero-means, reduces-zero}
-use Rattle.audit_admitted.proofs.Fits.{Audited}
+use Rattle.audit_entry.specs.Audit.{auditOf, faultless}
+use Rattle.audit_entry.proofs.Meaning.{audit-zero-iff, reduces-zero}
+use Rattle.audit_admitted.proofs.Admitted.{Audited}
 use Rattle.audit_entry.proofs.Answering.{faultless-iff}
 
 module _ {sh : Shape} {hs : List ℕ} (red : Reducible sh hs) (sense : Sense) where
@@ -39,20 +39,20 @@ module _ {sh : Shape} {hs : List ℕ} (red : Reducible sh hs) (sense : Sense) wh
   }
 
   -- the audit's count of what `reduce` makes is 0
-  pub reduced-zero : faultsOf sh (shortShape sh hs u) hs (flat (shortHops sh hs u)) (mapList sh hs u) ≡ 0
+  pub short-faults-zero : faultsOf sh (shortShape sh hs u) hs (flat (shortHops sh hs u)) (mapList sh hs u) ≡ 0
   unfolding shortShape
-  reduced-zero =
+  short-faults-zero =
       reduces-zero sh (shortShape sh hs u) hs (flat (shortHops sh hs u)) (mapList sh hs u) (red .admitted .range) (short-reduces red sense) list-maps joins where
         joins : mapped (mapList sh hs u) (sh .initial) ≡ shortShape sh hs u .initial
         joins = list-maps (sh .initial) (red .admitted .initial-in)
 
   -- the audit accepts what `reduce` makes, and finds no fault
-  pub reduce-right : auditOf sh (shortShape sh hs u) hs (flat (shortHops sh hs u)) (mapList sh hs u) ≡ faultless
-  reduce-right = faultless-iff sh (shortShape sh hs u) hs (flat (shortHops sh hs u)) (mapList sh hs u) .1 (reduced-audited, reduced-zero)
+  pub short-audit-zero : auditOf sh (shortShape sh hs u) hs (flat (shortHops sh hs u)) (mapList sh hs u) ≡ faultless
+  short-audit-zero = faultless-iff sh (shortShape sh hs u) hs (flat (shortHops sh hs u)) (mapList sh hs u) .1 (reduced-audited, short-faults-zero)
 
   -- so the map is one of Definition 2.4
   pub reduce-bisimulation :
       BranchingBisimulation sh (shortShape sh hs u) hs (flat (shortHops sh hs u)) (MapRelation sh (mapList sh hs u)) ×
       JoinsInitial sh (shortShape sh hs u) (MapRelation sh (mapList sh hs u))
   reduce-bisimulation =
-      zero-means sh (shortShape sh hs u) hs (flat (shortHops sh hs u)) (mapList sh hs u) (reduced-audited .first) (reduced-audited .second) (reduced-audited .map) .0 reduced-zero
+      audit-zero-iff sh (shortShape sh hs u) hs (flat (shortHops sh hs u)) (mapList sh hs u) (reduced-audited .first) (reduced-audited .second) (reduced-audited .map) .0 short-faults-zero

@@ -16,7 +16,7 @@ use Rattle.walk_reach.specs.Frontier.{visited}
 use Rattle.audit_faults.specs.Images.{Auditable, Imaged}
 
 -- what ticking has at hand: the two graphs and the map, the first places of graph 1, and the places of its hops in graph 2
-pub record Tickable (sh1 : Shape) (h1 st1 h2 m images : List ℕ) : Type 0 where
+pub record StampInput (sh1 : Shape) (h1 st1 h2 m images : List ℕ) : Type 0 where
   pub auditable : Auditable sh1 h1 h2 m
   pub table : SuccessorIndex h1 st1
   pub imaged : Imaged h1 h2 m images
@@ -26,15 +26,15 @@ unfoldable pub seenInClass : List ℕ → List ℕ → List ℕ → ℕ → ℕ 
 seenInClass h1 m seen r i = visited seen (from h1 i) && eqb (mapped m (from h1 i)) r
 
 -- .. and it is the hop at place j of graph 2
-unfoldable pub ticks : List ℕ → List ℕ → List ℕ → List ℕ → ℕ → ℕ → ℕ → Bool
-ticks h1 h2 m seen r j i = seenInClass h1 m seen r i && is h2 r (label h1 i) (mapped m (to h1 i)) j
+unfoldable pub stampsHop : List ℕ → List ℕ → List ℕ → List ℕ → ℕ → ℕ → ℕ → Bool
+stampsHop h1 h2 m seen r j i = seenInClass h1 m seen r i && is h2 r (label h1 i) (mapped m (to h1 i)) j
 
 -- after the first n hops of graph 1 the stamp k stands at the places that they tick, and every other stamp is as it was
-unfoldable pub TickedBy : List ℕ → List ℕ → List ℕ → List ℕ → ℕ → ℕ → ℕ → List ℕ → List ℕ → Type 0
-TickedBy h1 h2 m seen r k n before after =
-    (j : ℕ) → j < count h2 → getD after j 0 ≡ cond (any n (ticks h1 h2 m seen r j)) k (getD before j 0)
+unfoldable pub StampedUpTo : List ℕ → List ℕ → List ℕ → List ℕ → ℕ → ℕ → ℕ → List ℕ → List ℕ → Type 0
+StampedUpTo h1 h2 m seen r k n before after =
+    (j : ℕ) → j < count h2 → getD after j 0 ≡ cond (any n (stampsHop h1 h2 m seen r j)) k (getD before j 0)
 
 -- what the hops of graph 1 from place lo up to hi do: stamps that those before lo have ticked are then those that all before hi have
-unfoldable pub TickedOn : List ℕ → List ℕ → List ℕ → List ℕ → ℕ → ℕ → ℕ → ℕ → List ℕ → List ℕ → Type 0
-TickedOn h1 h2 m seen r k lo hi before after =
-    (first : List ℕ) → TickedBy h1 h2 m seen r k lo first before → TickedBy h1 h2 m seen r k hi first after
+unfoldable pub StampedFrom : List ℕ → List ℕ → List ℕ → List ℕ → ℕ → ℕ → ℕ → ℕ → List ℕ → List ℕ → Type 0
+StampedFrom h1 h2 m seen r k lo hi before after =
+    (first : List ℕ) → StampedUpTo h1 h2 m seen r k lo first before → StampedUpTo h1 h2 m seen r k hi first after

@@ -1,4 +1,4 @@
--- `audit_unmatched::all_made_up` meets its contract: the tables are made, the working space is long enough, and its stamps are 0.
+-- `audit_unmatched::all_unmatched` meets its contract: the tables are made, the working space is long enough, and its stamps are 0.
 -- Assumes nothing.
 use borrow.Author.Needs.{needs}
 use Prim.Native.Nat.{ℕ}
@@ -6,9 +6,9 @@ use native.Mathlib.Omega.{arith}
 use lib.ListN.{length-replicate}
 use Rattle.graph.specs.Answers.{most-states, most-hops}
 use Rattle.graph_successors.proofs.Firsts.{admitted-indexable}
-use Rattle.audit_unmatched.proofs.Backing.{fresh-start}
-use Rattle.audit_unmatched.proofs.all_made_up.Statement.{statement}
-use Rattle.audit_unmatched.proofs.all_made_up.Tie as tie
+use Rattle.audit_unmatched.proofs.Unmatched.{fresh-start}
+use Rattle.audit_unmatched.proofs.all_unmatched.Statement.{statement}
+use Rattle.audit_unmatched.proofs.all_unmatched.Tie as tie
 
 starts-of-requires : tie.Need-starts-of-requires
 starts-of-requires c κs = admitted-indexable (c .before .before .before .pre .0 .admitted)
@@ -16,31 +16,31 @@ starts-of-requires c κs = admitted-indexable (c .before .before .before .pre .0
 silent-bytes-requires : tie.Need-silent-bytes-requires
 silent-bytes-requires c κs = c .before .before .before .before .pre .0 .admitted .hops-most
 
-slice-aggregate-made-up-faults : tie.Need-slice-aggregate-made-up-faults
-slice-aggregate-made-up-faults c = search needs
+slice-aggregate-unmatched-faults : tie.Need-slice-aggregate-unmatched-faults
+slice-aggregate-unmatched-faults c = search needs
 
-slice-aggregate-made-up-faults-2 : tie.Need-slice-aggregate-made-up-faults-2
-slice-aggregate-made-up-faults-2 c = search needs
+slice-aggregate-unmatched-faults-2 : tie.Need-slice-aggregate-unmatched-faults-2
+slice-aggregate-unmatched-faults-2 c = search needs
 
-slice-aggregate-made-up-faults-3 : tie.Need-slice-aggregate-made-up-faults-3
-slice-aggregate-made-up-faults-3 c = search needs
+slice-aggregate-unmatched-faults-3 : tie.Need-slice-aggregate-unmatched-faults-3
+slice-aggregate-unmatched-faults-3 c = search needs
 
-slice-aggregate-made-up-faults-4 : tie.Need-slice-aggregate-made-up-faults-4
-slice-aggregate-made-up-faults-4 c = search needs
+slice-aggregate-unmatched-faults-4 : tie.Need-slice-aggregate-unmatched-faults-4
+slice-aggregate-unmatched-faults-4 c = search needs
 
-made-up-faults-requires : tie.Need-made-up-faults-requires
-made-up-faults-requires c κs =
+unmatched-faults-requires : tie.Need-unmatched-faults-requires
+unmatched-faults-requires c κs =
     let s = c .before .before .before .before .before .before .before .before .before .before in
     let a = s .pre .0 in
     let table = c .before .before .before .before .before .before .starts-of .ensures in
     let most = a .admitted .states-most in
     let few = a .ready .hops-most in (
       record {
-        tickable = record { auditable = a; table = table; imaged = s .pre .1 .1 };
+        stamping = record { auditable = a; table = table; imaged = s .pre .1 .1 };
         silent = record {
           chosen = record {
             tabled = record { admitted = a .admitted; table = table };
-            byte-a-hop = omega (arith, slice-aggregate-made-up-faults (c .before .before .before), a .admitted .hops-most);
+            byte-a-hop = omega (arith, slice-aggregate-unmatched-faults (c .before .before .before), a .admitted .hops-most);
           };
           silent = c .before .before .before .before .before .silent-bytes .ensures;
         };
@@ -61,15 +61,15 @@ made-up-faults-requires c κs =
 returns : tie.Need-returns
 returns c = search needs
 
-pub all-made-up-spec : {M : Type 1} → statement M
-all-made-up-spec =
+pub all-unmatched-spec : {M : Type 1} → statement M
+all-unmatched-spec =
     tie.close
     (tie.spec
     starts-of-requires
     silent-bytes-requires
-    slice-aggregate-made-up-faults
-    slice-aggregate-made-up-faults-2
-    slice-aggregate-made-up-faults-3
-    slice-aggregate-made-up-faults-4
-    made-up-faults-requires
+    slice-aggregate-unmatched-faults
+    slice-aggregate-unmatched-faults-2
+    slice-aggregate-unmatched-faults-3
+    slice-aggregate-unmatched-faults-4
+    unmatched-faults-requires
     returns)

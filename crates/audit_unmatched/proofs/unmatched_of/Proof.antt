@@ -1,10 +1,10 @@
--- `audit_unmatched::made_up_of` meets its contract: what the search from s noted ticks what s backs. Assumes nothing.
+-- `audit_unmatched::unmatched_of` meets its contract: what the search from s noted ticks what s backs. Assumes nothing.
 use borrow.Author.Needs.{needs}
 use native.Mathlib.Omega.{arith}
 use lib.ListN.{drop}
-use Rattle.audit_unmatched.proofs.Backing.{counted-made-up, first-made-up, fresh-next}
-use Rattle.audit_unmatched.proofs.made_up_of.Statement.{statement}
-use Rattle.audit_unmatched.proofs.made_up_of.Tie as tie
+use Rattle.audit_unmatched.proofs.Unmatched.{counted-unmatched, first-unmatched, fresh-next}
+use Rattle.audit_unmatched.proofs.unmatched_of.Statement.{statement}
+use Rattle.audit_unmatched.proofs.unmatched_of.Tie as tie
 
 map-at-requires : tie.Need-map-at-requires
 map-at-requires c κs = search needs
@@ -15,26 +15,26 @@ add-k c = search needs
 reach-requires : tie.Need-reach-requires
 reach-requires c κs = let s = c .before .before .before .before .before .before .before .before .before .before .before in (s .pre .0 .silent .chosen, (s .pre .1 .0, s .pre .1 .1 .0 .search))
 
-tick-all-requires : tie.Need-tick-all-requires
-tick-all-requires c κs =
-    let s = c .before .before .before .before .before .before .before .before .before .before .before .before .before .before .before .before .before .before in (s .pre .0 .tickable, (omega (arith, s .pre .1 .1 .0 .search .seen-capacity), s .pre .1 .1 .0 .stamp-a-hop))
+stamp-all-requires : tie.Need-stamp-all-requires
+stamp-all-requires c κs =
+    let s = c .before .before .before .before .before .before .before .before .before .before .before .before .before .before .before .before .before .before in (s .pre .0 .stamping, (omega (arith, s .pre .1 .1 .0 .search .seen-capacity), s .pre .1 .1 .0 .stamp-a-hop))
 
-first-unticked-requires : tie.Need-first-unticked-requires
-first-unticked-requires c κs =
+first-unstamped-requires : tie.Need-first-unstamped-requires
+first-unstamped-requires c κs =
     let s = c .before .before .before .before .before .before .before .before .before .before .before .before .before .before .before .before .before .before .before .before .before .before in
-    let a = s .pre .0 .tickable .auditable in
+    let a = s .pre .0 .stamping .auditable in
     (a .ready, (s .pre .0 .table, (omega (arith, s .pre .1 .1 .0 .stamp-a-hop), omega (arith, c .before .before .before .before .before .before .before .before .before .before .before .before .before .before .map-at .ensures, a .entries-in (s .args .s .0) (s .pre .1 .0)))))
 
-unticked-from-requires : tie.Need-unticked-from-requires
-unticked-from-requires c κs =
+unstamped-from-requires : tie.Need-unstamped-from-requires
+unstamped-from-requires c κs =
     let s = c .before .before .before .before .before .before .before .before .before .before .before .before .before .before .before .before .before .before .before .before .before .before .before .before in
-    let a = s .pre .0 .tickable .auditable in (
+    let a = s .pre .0 .stamping .auditable in (
       a .ready,
       (
         s .pre .0 .table,
         (
           omega (arith, s .pre .1 .1 .0 .stamp-a-hop),
-          (omega (arith, c .before .before .before .before .before .before .before .before .before .before .before .before .before .before .before .before .map-at .ensures, a .entries-in (s .args .s .0) (s .pre .1 .0)), c .before .first-unticked .ensures),
+          (omega (arith, c .before .before .before .before .before .before .before .before .before .before .before .before .before .before .before .before .map-at .ensures, a .entries-in (s .args .s .0) (s .pre .1 .0)), c .before .first-unstamped .ensures),
         ),
       ),
     )
@@ -54,30 +54,30 @@ returns c =
     let s = c .before .before .before .before .before .before .before .before .before .before .before .before .before .before .before .before .before .before .before .before .before .before .before .before .before in
     let r = c .before .before .before .before .before .before .before .before .before .before .before .before .before .before .before .before .before .map-at .ensures in
     let e = c .before .before .before .before .before .before .before .before .before .before .before .before .before .reach .ensures in
-    let t = c .before .before .before .before .before .before .tick-all .ensures in
+    let t = c .before .before .before .before .before .before .stamp-all .ensures in
     let p = s .pre .0 in
     let h = s .args in
     let past = drop (h .shape1 .states) (h .seen .now) in (
-      counted-made-up (h .shape1) (h .hops1 .now) (h .hops2 .now) (h .map .now) (p .tickable .auditable .admitted .range) (h .silent .now) (p .silent .silent) (h .s .0)
-          past r e (h .stamps .now) _ t (s .pre .1 .1 .1) (c .unticked-from .ensures),
+      counted-unmatched (h .shape1) (h .hops1 .now) (h .hops2 .now) (h .map .now) (p .stamping .auditable .admitted .range) (h .silent .now) (p .silent .silent) (h .s .0)
+          past r e (h .stamps .now) _ t (s .pre .1 .1 .1) (c .unstamped-from .ensures),
       (
-        first-made-up (h .shape1) (h .hops1 .now) (h .hops2 .now) (h .map .now) (p .tickable .auditable .admitted .range) (h .silent .now) (p .silent .silent) (h .s .0)
-            past r e (h .stamps .now) _ t (s .pre .1 .1 .1) (c .before .before .first-unticked .ensures),
-        fresh-next (h .shape1) (h .hops1 .now) (h .hops2 .now) (h .map .now) (p .tickable .auditable .admitted .range) (h .silent .now) (p .silent .silent) (h .s .0)
+        first-unmatched (h .shape1) (h .hops1 .now) (h .hops2 .now) (h .map .now) (p .stamping .auditable .admitted .range) (h .silent .now) (p .silent .silent) (h .s .0)
+            past r e (h .stamps .now) _ t (s .pre .1 .1 .1) (c .before .before .first-unstamped .ensures),
+        fresh-next (h .shape1) (h .hops1 .now) (h .hops2 .now) (h .map .now) (p .stamping .auditable .admitted .range) (h .silent .now) (p .silent .silent) (h .s .0)
             past r e (h .stamps .now) _ t (s .pre .1 .1 .1),
       ),
     )
 
-pub made-up-of-spec : {M : Type 1} → statement M
-made-up-of-spec =
+pub unmatched-of-spec : {M : Type 1} → statement M
+unmatched-of-spec =
     tie.close
     (tie.spec
     map-at-requires
     add-k
     reach-requires
-    tick-all-requires
-    first-unticked-requires
-    unticked-from-requires
+    stamp-all-requires
+    first-unstamped-requires
+    unstamped-from-requires
     same-length
     same-length-2
     same-length-3

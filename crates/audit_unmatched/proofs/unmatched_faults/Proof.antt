@@ -1,4 +1,4 @@
--- `audit_unmatched::made_up_faults` meets its contract: the count is that of the states passed so far, the smallest place of theirs is kept, and the next stamp is
+-- `audit_unmatched::unmatched_faults` meets its contract: the count is that of the states passed so far, the smallest place of theirs is kept, and the next stamp is
 -- fresh. Assumes nothing.
 use borrow.Author.Needs.{needs}
 use Prim.Native.Nat.{_+_, _≤_, _-_}
@@ -10,16 +10,16 @@ use Rattle.base_bounded.specs.Quantifiers.{total}
 use Rattle.base_bounded.proofs.Quantifiers.{total-none, total-more, total-done}
 use Rattle.graph.specs.Hops.{count}
 use Rattle.graph.specs.Answers.{most-states}
-use Rattle.audit_unmatched.specs.States.{Fresh, madeUpOf}
-use Rattle.audit_unmatched.proofs.Backing.{by-states, partial-most}
-use Rattle.audit_unmatched.proofs.Keeping.{Kept, kept-none, kept-sooner, kept-later, kept-first}
-use Rattle.audit_unmatched.proofs.made_up_faults.Statement.{statement}
-use Rattle.audit_unmatched.proofs.made_up_faults.Tie as tie
+use Rattle.audit_unmatched.specs.States.{Fresh, unmatchedOf}
+use Rattle.audit_unmatched.proofs.Unmatched.{by-states, partial-most}
+use Rattle.audit_unmatched.proofs.Keeping.{Kept, kept-none, kept-before, kept-later, kept-first}
+use Rattle.audit_unmatched.proofs.unmatched_faults.Statement.{statement}
+use Rattle.audit_unmatched.proofs.unmatched_faults.Tie as tie
 
 abbrev Inv-loop : tie.InvT-loop
 Inv-loop shape1 hops1 starts1 silent hops2 starts2 map images seen₀ queue₀ stamps₀ n none faults₀ place₀ state₀ s₀ seen queue stamps faults place state s =
     (n ≡ shape1 .states) × (s ≤ n) × (length seen ≡ length seen₀) × (length queue ≡ length queue₀) × (length stamps ≡ length stamps₀) ×
-    Fresh hops2 stamps (s + 1) × (faults ≡ total s (madeUpOf shape1 hops1 hops2 map)) × (none ≡ count hops2) × Kept shape1 hops1 hops2 map s place state
+    Fresh hops2 stamps (s + 1) × (faults ≡ total s (unmatchedOf shape1 hops1 hops2 map)) × (none ≡ count hops2) × Kept shape1 hops1 hops2 map s place state
 
 abbrev μ-loop : tie.MeasureT-loop
 μ-loop shape1 hops1 starts1 silent hops2 starts2 map images seen₀ queue₀ stamps₀ n none faults₀ place₀ state₀ s₀ seen queue stamps faults place state s = n - s
@@ -47,8 +47,8 @@ loop-holds c =
 cast-t20 : tie.Need-cast-t20 Inv-loop μ-loop
 cast-t20 c = search needs
 
-made-up-of-requires : tie.Need-made-up-of-requires Inv-loop μ-loop
-made-up-of-requires c κs =
+unmatched-of-requires : tie.Need-unmatched-of-requires Inv-loop μ-loop
+unmatched-of-requires c κs =
     let s = c .before .before .before .before .before .before .before .before .before .before .before .before .before .before in
     let v = c .before .before .before .before .loop .inv in
     let p = s .pre .1 .0 in (
@@ -69,18 +69,18 @@ add-faults : tie.Need-add-faults Inv-loop μ-loop
 add-faults c =
     let s = c .before .before .before .before .before .before .before .before .before .before .before .before .before .before .before .before .before .before .before .before .before .before in
     let l = c .before .before .before .before .before .before .before .before .before .before .before .before .loop in
-    let a = s .pre .0 .tickable .auditable in
+    let a = s .pre .0 .stamping .auditable in
     let few : l .s ≤ most-states = omega (arith, a .admitted .states-most, l .inv .0, l .inv .1) in
     omega (
       arith,
       l .inv .6,
-      c .before .before .before .before .before .before .before .made-up-of .ensures .0,
+      c .before .before .before .before .before .before .before .unmatched-of .ensures .0,
       partial-most (s .args .shape1) (s .args .hops1 .now) (s .args .hops2 .now) (s .args .map .now) (l .s) few (a .ready .hops-most),
     )
 
 cast-state : tie.Need-cast-state Inv-loop μ-loop
 cast-state c =
-    let a = c .before .before .before .before .before .before .before .before .before .before .before .before .before .before .before .before .before .before .before .before .before .before .before .before .pre .0 .tickable .auditable in
+    let a = c .before .before .before .before .before .before .before .before .before .before .before .before .before .before .before .before .before .before .before .before .before .before .before .before .pre .0 .stamping .auditable in
     omega (arith, a .admitted .states-most, c .before .before .before .before .before .before .before .before .before .before .before .before .before .before .loop .inv .0, c .before .before .before .before .before .before .before .before .before .before .before .before .before .loop-test .taken)
 
 add-s : tie.Need-add-s Inv-loop μ-loop
@@ -93,7 +93,7 @@ loop-again : tie.Need-loop-again Inv-loop μ-loop
 loop-again c =
     let s = c .before .before .before .before .before .before .before .before .before .before .before .before .before .before .before .before .before .before .before .before .before .before .before .before in
     let l = c .before .before .before .before .before .before .before .before .before .before .before .before .before .before .loop in
-    let m = c .before .before .before .before .before .before .before .before .before .made-up-of in
+    let m = c .before .before .before .before .before .before .before .before .before .unmatched-of in
     let h = s .args in (
       search needs,
       omega (arith, l .inv .0, c .before .before .before .before .before .before .before .before .before .before .before .before .before .loop-test .taken),
@@ -104,7 +104,7 @@ loop-again c =
       total-more _ _ (l .inv .6) (m .ensures .0),
       l .inv .7,
       ⊎-elim
-          (λ w. kept-sooner (h .shape1) (h .hops1 .now) (h .hops2 .now) (h .map .now) (l .s) (l .inv .8) (m .ensures .1 .0) (w .0 .taken) (w .1) (w .2))
+          (λ w. kept-before (h .shape1) (h .hops1 .now) (h .hops2 .now) (h .map .now) (l .s) (l .inv .8) (m .ensures .1 .0) (w .0 .taken) (w .1) (w .2))
           (λ w. kept-later (h .shape1) (h .hops1 .now) (h .hops2 .now) (h .map .now) (l .s) (l .inv .8) (m .ensures .1 .0) (w .0 .left) (w .1) (w .2))
           (c .if1 .came),
     )
@@ -129,8 +129,8 @@ returns c =
       kept-first (h .shape1) (h .hops1 .now) (h .hops2 .now) (h .map .now) (v .8) (omega arith) (v .7) (c .share-of .ensures .1),
     )
 
-pub made-up-faults-spec : {M : Type 1} → statement M
-made-up-faults-spec =
+pub unmatched-faults-spec : {M : Type 1} → statement M
+unmatched-faults-spec =
     tie.close
     (tie.spec
     Inv-loop
@@ -139,7 +139,7 @@ made-up-faults-spec =
     hop-count-requires
     loop-holds
     cast-t20
-    made-up-of-requires
+    unmatched-of-requires
     add-faults
     cast-state
     add-s

@@ -23,8 +23,8 @@ use Rattle.graph.proofs.Lookup.{at-place, gap-has}
 use Rattle.graph_successors.specs.SuccessorIndex.{Indexable}
 use Rattle.walk_reach.specs.Frontier.{visited}
 use Rattle.graph.specs.Map.{mapped}
-use Rattle.audit_faults.specs.Images.{mappedHop, nowhere, placeOf, imageOf}
-use Rattle.audit_matched.specs.Ticks.{seenInClass, ticks, TickedBy}
+use Rattle.audit_faults.specs.Images.{mappedHop, noPlace, placeOf, imageOf}
+use Rattle.audit_matched.specs.Stamps.{seenInClass, stampsHop, StampedUpTo}
 
 -- a stamp for a hop is seen at its place and nowhere else
 module _ (h2 : List ℕ) (ready : Indexable h2) (h : Hop) (k : ℕ) (stamps : List ℕ) (capacity : count h2 ≤ length stamps) (j : ℕ) (l : j < count h2) where
@@ -42,16 +42,16 @@ module _ (h2 : List ℕ) (ready : Indexable h2) (h : Hop) (k : ℕ) (stamps : Li
         rw (no-test (is-h j) (λ f. q (ascending-place h2 (ready .ascending) l w (alike-then (is-alike h2 h j f) (alike-back (is-alike h2 h p d))))))
         (getD-set-other stamps p j k 0 q)
   stamp-found (Gap p) e =
-      rw (any-never is-h (count h2) (gap-has h2 h (ready .ascending) e) l) (getD-set-other stamps nowhere j k 0 (λ q. omega (arith, ready .hops-most)))
+      rw (any-never is-h (count h2) (gap-has h2 h (ready .ascending) e) l) (getD-set-other stamps noPlace j k 0 (λ q. omega (arith, ready .hops-most)))
 
   pub stamp-at : getD (set stamps (placeOf (placed h2 h)) k) j 0 ≡ cond (is-h j) k (getD stamps j 0)
   stamp-at = stamp-found (placed h2 h) refl
 
 module _ (h1 h2 m seen : List ℕ) (r k : ℕ) where
   -- where the ticking begins
-  pub ticked-none : (stamps : List ℕ) → TickedBy h1 h2 m seen r k 0 stamps stamps
-  unfolding TickedBy any
-  ticked-none stamps j l = refl
+  pub stamped-none : (stamps : List ℕ) → StampedUpTo h1 h2 m seen r k 0 stamps stamps
+  unfolding StampedUpTo any
+  stamped-none stamps j l = refl
 
   seen-map : (i : ℕ) → seenInClass h1 m seen r i ≡ true → mapped m (from h1 i) ≡ r
   unfolding seenInClass
@@ -66,12 +66,12 @@ module _ (h1 h2 m seen : List ℕ) (r k : ℕ) where
       ap (λ (x : ℕ). cond (is h2 x (label h1 i) (mapped m (to h1 i)) j) k (getD stamps j 0)) q
 
   -- .. and one place more, whose hop leaves a state that counts
-  pub ticked-more : Indexable h2 → (stamps : List ℕ) → count h2 ≤ length stamps → (i : ℕ) → seenInClass h1 m seen r i ≡ true →
-      (first : List ℕ) → TickedBy h1 h2 m seen r k i first stamps → TickedBy h1 h2 m seen r k (i + 1) first (set stamps (imageOf h1 h2 m i) k)
-  unfolding TickedBy ticks any
-  ticked-more ready stamps capacity i e first t j l =
+  pub stamped-more : Indexable h2 → (stamps : List ℕ) → count h2 ≤ length stamps → (i : ℕ) → seenInClass h1 m seen r i ≡ true →
+      (first : List ℕ) → StampedUpTo h1 h2 m seen r k i first stamps → StampedUpTo h1 h2 m seen r k (i + 1) first (set stamps (imageOf h1 h2 m i) k)
+  unfolding StampedUpTo stampsHop any
+  stamped-more ready stamps capacity i e first t j l =
       image-stamp ready stamps capacity i (seen-map i e) j l ∙
-      rw (add-one i, t j l, e) (go (is h2 r (label h1 i) (mapped m (to h1 i)) j) (any i (ticks h1 h2 m seen r j))) where
+      rw (add-one i, t j l, e) (go (is h2 r (label h1 i) (mapped m (to h1 i)) j) (any i (stampsHop h1 h2 m seen r j))) where
         go : (x y : Bool) → cond x k (cond y k (getD first j 0)) ≡ cond (x || y) k (getD first j 0)
         go true y = refl
         go false y = refl

@@ -1,4 +1,4 @@
--- `audit_matched::tick_state` meets its contract: the stamps are those of the hops passed so far; those of another state tick nothing.
+-- `audit_matched::stamp_state` meets its contract: the stamps are those of the hops passed so far; those of another state tick nothing.
 -- Assumes nothing.
 use borrow.Author.Needs.{needs}
 use Prim.Native.Nat.{_+_, _≤_, _-_}
@@ -14,15 +14,15 @@ use Rattle.base_bounded.proofs.Bools.{and-yes, and-left, and-right}
 use Rattle.graph.proofs.Lookup.{first-within}
 use Rattle.graph_successors.proofs.Firsts.{first-next, start-is}
 use Rattle.graph.specs.Map.{mapped}
-use Rattle.audit_matched.specs.Ticks.{TickedOn}
+use Rattle.audit_matched.specs.Stamps.{StampedFrom}
 use Rattle.audit_matched.proofs.Rows.{on-none, on-done, state-skipped, state-more}
-use Rattle.audit_matched.proofs.tick_state.Statement.{statement}
-use Rattle.audit_matched.proofs.tick_state.Tie as tie
+use Rattle.audit_matched.proofs.stamp_state.Statement.{statement}
+use Rattle.audit_matched.proofs.stamp_state.Tie as tie
 
 abbrev Inv-loop : tie.InvT-loop
 Inv-loop hops1 starts1 hops2 map images seen stamps₀ k at past i₀ stamps i =
     (past ≡ firstOf hops1 (at + 1)) × (past ≤ count hops1) × (firstOf hops1 at ≤ i) × (i ≤ past) × (length stamps ≡ length stamps₀) ×
-    TickedOn hops1 hops2 map seen (mapped map at) k (firstOf hops1 at) i stamps₀ stamps
+    StampedFrom hops1 hops2 map seen (mapped map at) k (firstOf hops1 at) i stamps₀ stamps
 
 abbrev μ-loop : tie.MeasureT-loop
 μ-loop hops1 starts1 hops2 map images seen stamps₀ k at past i₀ stamps i = past - i
@@ -66,8 +66,8 @@ loop-holds c =
       rw f (on-none hs (s .args .hops2 .now) (s .args .map .now) (s .args .seen .now) (mapped (s .args .map .now) at) (s .args .k) (firstOf hs at) (s .args .stamps .now)),
     )
 
-tick-requires : tie.Need-tick-requires Inv-loop μ-loop
-tick-requires c κs =
+stamp-hop-requires : tie.Need-stamp-hop-requires Inv-loop μ-loop
+stamp-hop-requires c κs =
     let s = c .before .before .before .before .before .before .before .before .before .before .before .before .before .before .before .before in
     omega (arith, c .before .before .loop .inv, c .before .loop-test, s .pre .0 .auditable .admitted .hops-most)
 
@@ -91,7 +91,7 @@ loop-again c =
       omega arith,
       state-more (s .args .hops1 .now) (s .args .hops2 .now) (s .args .map .now) (s .args .seen .now) (mapped (s .args .map .now) at) (s .args .k)
           (s .pre .0 .auditable .admitted .ascending) at own (s .pre .0 .auditable .ready) (s .args .images .now) (s .pre .0 .imaged) (and-yes seen-too (eq-eqb _ _ own))
-          (s .args .stamps .now) (c .before .before .before .before .before .loop .stamps) (omega arith) (v .2) (omega arith) (c .before .before .tick .ensures) (v .5),
+          (s .args .stamps .now) (c .before .before .before .before .before .loop .stamps) (omega arith) (v .2) (omega arith) (c .before .before .stamp-hop .ensures) (v .5),
     )
 
 same-length : tie.Need-same-length Inv-loop μ-loop
@@ -112,8 +112,8 @@ returns-2 c =
     state-skipped (s .args .hops1 .now) (s .args .hops2 .now) (s .args .map .now) (s .args .seen .now) (s .args .r .0) (s .args .k) (s .pre .0 .auditable .admitted .ascending) (s .args .u .0)
     (c .before .before .before .before .before .map-at .ensures) (rw (c .before .before .before .before .wide .ensures) at (c .if1 .left)) _
 
-pub tick-state-spec : {M : Type 1} → statement M
-tick-state-spec =
+pub stamp-state-spec : {M : Type 1} → statement M
+stamp-state-spec =
     tie.close
     (tie.spec
     Inv-loop
@@ -125,7 +125,7 @@ tick-state-spec =
     start-of-requires
     start-of-requires-2
     loop-holds
-    tick-requires
+    stamp-hop-requires
     add-i
     loop-less
     loop-again

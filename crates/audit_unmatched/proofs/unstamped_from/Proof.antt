@@ -1,4 +1,4 @@
--- `audit_unmatched::unticked_from` meets its contract: the count is that of the places passed so far, and of those before the first, where there is none. Assumes nothing.
+-- `audit_unmatched::unstamped_from` meets its contract: the count is that of the places passed so far, and of those before the first, where there is none. Assumes nothing.
 use borrow.Author.Needs.{needs}
 use Prim.Native.Nat.{ℕ, _+_, _≤_, _-_}
 use mathlib.Core.Path.{_≡_, sym, ap, _∙_}
@@ -12,14 +12,14 @@ use Rattle.base_bounded.proofs.Quantifiers.{least-within, tally-more, tally-ski
 use Rattle.base_bounded.proofs.Least.{tally-least}
 use Rattle.graph.proofs.Lookup.{first-within}
 use Rattle.graph_successors.proofs.Firsts.{start-is}
-use Rattle.audit_unmatched.specs.States.{unticked}
+use Rattle.audit_unmatched.specs.States.{unstamped}
 use Rattle.audit_unmatched.proofs.Own.{count-ends}
-use Rattle.audit_unmatched.proofs.unticked_from.Statement.{statement}
-use Rattle.audit_unmatched.proofs.unticked_from.Tie as tie
+use Rattle.audit_unmatched.proofs.unstamped_from.Statement.{statement}
+use Rattle.audit_unmatched.proofs.unstamped_from.Tie as tie
 
 abbrev Inv-loop : tie.InvT-loop
 Inv-loop hops2 starts2 stamps r k first past faults₀ j₀ faults j =
-    (past ≡ firstOf hops2 (r .0 + 1)) × (past ≤ count hops2) × (j ≤ count hops2) × (faults ≡ tally j (unticked hops2 stamps (r .0) k))
+    (past ≡ firstOf hops2 (r .0 + 1)) × (past ≤ count hops2) × (j ≤ count hops2) × (faults ≡ tally j (unstamped hops2 stamps (r .0) k))
 
 abbrev μ-loop : tie.MeasureT-loop
 μ-loop hops2 starts2 stamps r k first past faults₀ j₀ faults j = past - j
@@ -37,7 +37,7 @@ loop-holds : tie.Need-loop-holds Inv-loop μ-loop
 loop-holds c =
     let s = c .before .before .before .before in
     let hs = s .args .hops2 .now in
-    let test : ℕ → Bool = unticked hs (s .args .stamps .now) (s .args .r .0) (s .args .k) in
+    let test : ℕ → Bool = unstamped hs (s .args .stamps .now) (s .args .r .0) (s .args .k) in
     let w : c .before .wide .result ≡ s .args .r .0 = omega arith in
     let p : c .start-of .result ≡ firstOf hs (s .args .r .0 + 1) =
     start-is hs (s .args .starts2 .now) (s .pre .1 .0) _ (ap (λ (x : ℕ). x + 1) w) (omega arith) (c .start-of .ensures) in
@@ -54,10 +54,10 @@ module _ (c : tie.At-loop Inv-loop μ-loop) where
   start = c .before .before .before .before .before
 
   abbrev test : ℕ → Bool
-  test = unticked (start .args .hops2 .now) (start .args .stamps .now) (start .args .r .0) (start .args .k)
+  test = unstamped (start .args .hops2 .now) (start .args .stamps .now) (start .args .r .0) (start .args .k)
 
-is-unticked-requires : tie.Need-is-unticked-requires Inv-loop μ-loop
-is-unticked-requires c κs = search needs
+is-unstamped-requires : tie.Need-is-unstamped-requires Inv-loop μ-loop
+is-unstamped-requires c κs = search needs
 
 add-faults : tie.Need-add-faults Inv-loop μ-loop
 add-faults c = let a = c .before .before .before in omega (arith, tally-within (test a) (a .loop .j))
@@ -69,8 +69,8 @@ loop-less : tie.Need-loop-less Inv-loop μ-loop
 loop-less c = search needs
 
 -- the test at the place that was looked at
-told : (c : tie.After-is-unticked Inv-loop μ-loop) {x : Bool} → c .is-unticked .result ≡ x → test (c .before .before) (c .before .before .loop .j) ≡ x
-told c {x} e = rw (c .is-unticked .ensures) at e
+told : (c : tie.After-is-unstamped Inv-loop μ-loop) {x : Bool} → c .is-unstamped .result ≡ x → test (c .before .before) (c .before .before .loop .j) ≡ x
+told c {x} e = rw (c .is-unstamped .ensures) at e
 
 loop-again : tie.Need-loop-again Inv-loop μ-loop
 loop-again c = let a = c .before .before .before in (
@@ -87,8 +87,8 @@ returns c =
     let v = c .before .loop .inv in
     count-ends (s .args .hops2 .now) (s .args .stamps .now) (s .pre .0 .ascending) (s .args .r .0) (s .args .k) (omega (arith, v .0)) (v .2) (v .3)
 
-pub unticked-from-spec : {M : Type 1} → statement M
-unticked-from-spec =
+pub unstamped-from-spec : {M : Type 1} → statement M
+unstamped-from-spec =
     tie.close
     (tie.spec
     Inv-loop
@@ -97,7 +97,7 @@ unticked-from-spec =
     add-start-of
     start-of-requires
     loop-holds
-    is-unticked-requires
+    is-unstamped-requires
     add-faults
     add-j
     loop-less

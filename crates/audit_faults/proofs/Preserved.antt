@@ -15,10 +15,10 @@ use Rattle.graph.specs.declared.Found.the-variants.{At, Gap}
 use Rattle.base_bounded.proofs.Bools.{or-right}
 use Rattle.graph.proofs.Lookup.{at-place, at-has, gap-has}
 use Rattle.graph_successors.specs.SuccessorIndex.{Indexable}
-use Rattle.audit_faults.specs.Faults.{initialFault, kept}
+use Rattle.audit_faults.specs.Faults.{initialFault, preserved}
 use Rattle.audit_faults.specs.First.{fault, noFault, firstInitial, lostPlace, firstLost}
 use Rattle.audit_faults.specs.declared.Fault.{Fault}
-use Rattle.audit_faults.specs.Images.{mappedHop, nowhere, placeOf, imageOf}
+use Rattle.audit_faults.specs.Images.{mappedHop, noPlace, placeOf, imageOf}
 
 module _ (sh1 sh2 : Shape) (m : List ℕ) {r : ℕ} (e : r ≡ mapped m (sh1 .initial)) where
   pub initial-joined : r ≡ sh2 .initial → {f : Fault} → f ≡ noFault → (0 ≡ initialFault sh1 sh2 m) × (f ≡ firstInitial sh1 sh2 m)
@@ -34,29 +34,29 @@ module _ (h1 h2 m : List ℕ) (ready : Indexable h2) (i : ℕ) {p : ℕ} (e : p 
   abbrev has-it : Bool
   has-it = has h2 (mapped m (from h1 i)) (label h1 i) (mapped m (to h1 i))
 
-  image-has : (p ≡ nowhere → ⊥) → has-it ≡ true
+  image-has : (p ≡ noPlace → ⊥) → has-it ≡ true
   unfolding imageOf
   image-has f = go (placed h2 (mappedHop h1 m i)) refl where
     go : (x : Found) → placed h2 (mappedHop h1 m i) ≡ x → has-it ≡ true
     go (At q) d = at-has h2 (mappedHop h1 m i) d
     go (Gap q) d = absurd (f (e ∙ ap placeOf d))
 
-  image-none : p ≡ nowhere → has-it ≡ false
+  image-none : p ≡ noPlace → has-it ≡ false
   unfolding imageOf
   image-none f = go (placed h2 (mappedHop h1 m i)) refl where
     go : (x : Found) → placed h2 (mappedHop h1 m i) ≡ x → has-it ≡ false
     go (At q) d =
-        let z : q ≡ nowhere = sym (ap placeOf d) ∙ sym e ∙ f in absurd (omega (arith, at-place h2 (mappedHop h1 m i) d .0, ready .hops-most))
+        let z : q ≡ noPlace = sym (ap placeOf d) ∙ sym e ∙ f in absurd (omega (arith, at-place h2 (mappedHop h1 m i) d .0, ready .hops-most))
     go (Gap q) d = gap-has h2 (mappedHop h1 m i) (ready .ascending) d
 
-  pub kept-image : (p ≡ nowhere → ⊥) → true ≡ kept h1 h2 m i
-  unfolding kept
-  kept-image f = sym (or-right (eqb (label h1 i) 0 && eqb (mapped m (from h1 i)) (mapped m (to h1 i))) (image-has f))
+  pub preserved-image : (p ≡ noPlace → ⊥) → true ≡ preserved h1 h2 m i
+  unfolding preserved
+  preserved-image f = sym (or-right (eqb (label h1 i) 0 && eqb (mapped m (from h1 i)) (mapped m (to h1 i))) (image-has f))
 
-  pub kept-nowhere : p ≡ nowhere → {u r a t q : ℕ} → u ≡ from h1 i → r ≡ mapped m u → a ≡ label h1 i → t ≡ to h1 i → q ≡ mapped m t →
-      (eqb a 0 && eqb r q) ≡ kept h1 h2 m i
-  unfolding kept
-  kept-nowhere f {r = r} {a = a} {q = q} eu er ea et eq = rw (image-none f, ← eu, ← er, ← ea, ← et, ← eq) (or-false (eqb a 0 && eqb r q)) where
+  pub preserved-no-place : p ≡ noPlace → {u r a t q : ℕ} → u ≡ from h1 i → r ≡ mapped m u → a ≡ label h1 i → t ≡ to h1 i → q ≡ mapped m t →
+      (eqb a 0 && eqb r q) ≡ preserved h1 h2 m i
+  unfolding preserved
+  preserved-no-place f {r = r} {a = a} {q = q} eu er ea et eq = rw (image-none f, ← eu, ← er, ← ea, ← et, ← eq) (or-false (eqb a 0 && eqb r q)) where
     or-false : (b : Bool) → b ≡ (b || false)
     or-false true = refl
     or-false false = refl

@@ -1,12 +1,12 @@
--- `audit_matched::tick` meets its contract: a place past the stamps changes nothing. Assumes nothing.
+-- `audit_matched::stamp_hop` meets its contract: a place past the stamps changes nothing. Assumes nothing.
 use borrow.Author.Needs.{needs}
 use Prim.Native.Nat.{ℕ}
 use mathlib.Core.Path.{sym, ap, _∙_}
 use native.Mathlib.Omega.{arith}
 use lib.ListN.{set}
 use lib.Seq.{set-out}
-use Rattle.audit_matched.proofs.tick.Statement.{statement}
-use Rattle.audit_matched.proofs.tick.Tie as tie
+use Rattle.audit_matched.proofs.stamp_hop.Statement.{statement}
+use Rattle.audit_matched.proofs.stamp_hop.Tie as tie
 
 mul-wide : tie.Need-mul-wide
 mul-wide c = search needs
@@ -36,8 +36,8 @@ returns-2 c =
     let s = c .before .before .before .before .args in
     sym (set-out (s .stamps .now) (c .before .wide .result) (s .k) (omega arith)) ∙ ap (λ (p : ℕ). set (s .stamps .now) p (s .k)) (c .before .wide .ensures)
 
-pub tick-spec : {M : Type 1} → statement M
-tick-spec =
+pub stamp-hop-spec : {M : Type 1} → statement M
+stamp-hop-spec =
     tie.close
     (tie.spec
     mul-wide

@@ -23,9 +23,9 @@ use Rattle.walk_silent.proofs.Leads.{visited-leads}
 use Rattle.walk_reach.specs.Reach.{chosenIn, Chooses}
 use Rattle.walk_reach.specs.Frontier.{visited, reachedBytes}
 use Rattle.graph.specs.Map.{mapped}
-use Rattle.audit_faults.specs.Faults.{offers, backed, matched, madeUp, madeUpFaults}
-use Rattle.audit_matched.specs.Ticks.{seenInClass, ticks, TickedBy}
-use Rattle.audit_unmatched.specs.States.{unticked, Fresh, madeUpOf, madeUpPlaceOf}
+use Rattle.audit_faults.specs.Faults.{matchAt, matchedFrom, matched, unmatched, unmatchedFaults}
+use Rattle.audit_matched.specs.Stamps.{seenInClass, stampsHop, StampedUpTo}
+use Rattle.audit_unmatched.specs.States.{unstamped, Fresh, unmatchedOf, unmatchedPlaceOf}
 
 module _ (sh1 : Shape) (h1 h2 m : List ℕ) (ranged : InRange sh1 h1) (bytes : List ℕ) (silent : Chooses h1 (silentAt h1) bytes) (s : ℕ) (rest : List ℕ) (j : ℕ)
     (leaving : mapped m s ≡ from h2 j) where
@@ -36,31 +36,31 @@ module _ (sh1 : Shape) (h1 h2 m : List ℕ) (ranged : InRange sh1 h1) (bytes : L
   offer u i = eqb (from h1 i) u && (eqb (label h1 i) (label h2 j) && eqb (mapped m (to h1 i)) (to h2 j))
 
   -- the hop at place j is ticked exactly when s backs it
-  ticked-backed : any (count h1) (ticks h1 h2 m seen-from (mapped m s) j) ≡ backed sh1 h1 m s (from h2 j) (label h2 j) (to h2 j)
-  unfolding ticks seenInClass backed offers
+  ticked-backed : any (count h1) (stampsHop h1 h2 m seen-from (mapped m s) j) ≡ matchedFrom sh1 h1 m s (from h2 j) (label h2 j) (to h2 j)
+  unfolding stampsHop seenInClass matchedFrom matchAt
   ticked-backed =
-      same-test (any (count h1) (ticks h1 h2 m seen-from (mapped m s) j)) (backed sh1 h1 m s (from h2 j) (label h2 j) (to h2 j)) there back where
-        there : any (count h1) (ticks h1 h2 m seen-from (mapped m s) j) ≡ true → backed sh1 h1 m s (from h2 j) (label h2 j) (to h2 j) ≡ true
+      same-test (any (count h1) (stampsHop h1 h2 m seen-from (mapped m s) j)) (matchedFrom sh1 h1 m s (from h2 j) (label h2 j) (to h2 j)) there back where
+        there : any (count h1) (stampsHop h1 h2 m seen-from (mapped m s) j) ≡ true → matchedFrom sh1 h1 m s (from h2 j) (label h2 j) (to h2 j) ≡ true
         there e =
-            let (i, l, t) = any-at (ticks h1 h2 m seen-from (mapped m s) j) (count h1) e in
+            let (i, l, t) = any-at (stampsHop h1 h2 m seen-from (mapped m s) j) (count h1) e in
             let v = and-left (seenInClass h1 m seen-from (mapped m s) i) _ t in
             let w = and-right (seenInClass h1 m seen-from (mapped m s) i) _ t in
             let below = ranged .from-in i l in
-            any-found (λ (u : ℕ). leads h1 (sh1 .states) s u && offers h1 m (from h2 j) (label h2 j) (to h2 j) u) (sh1 .states) below
+            any-found (λ (u : ℕ). leads h1 (sh1 .states) s u && matchAt h1 m (from h2 j) (label h2 j) (to h2 j) u) (sh1 .states) below
             (and-yes (sym (visited-leads h1 bytes silent (sh1 .states) s rest below) ∙ and-left (visited seen-from (from h1 i)) _ v)
             (and-yes (eq-eqb _ _ (eqb-true _ _ (and-right (visited seen-from (from h1 i)) _ v) ∙ leaving))
             (any-found (offer (from h1 i)) (count h1) l
             (and-yes (eq-eqb (from h1 i) (from h1 i) refl) (and-yes (eq-eqb _ _ (sym (is-label h2 (mapped m s) (label h1 i) (mapped m (to h1 i)) j w)))
             (eq-eqb _ _ (sym (is-to h2 (mapped m s) (label h1 i) (mapped m (to h1 i)) j w))))))))
 
-        back : backed sh1 h1 m s (from h2 j) (label h2 j) (to h2 j) ≡ true → any (count h1) (ticks h1 h2 m seen-from (mapped m s) j) ≡ true
+        back : matchedFrom sh1 h1 m s (from h2 j) (label h2 j) (to h2 j) ≡ true → any (count h1) (stampsHop h1 h2 m seen-from (mapped m s) j) ≡ true
         back e =
-            let (u, b, d) = any-at (λ (u : ℕ). leads h1 (sh1 .states) s u && offers h1 m (from h2 j) (label h2 j) (to h2 j) u) (sh1 .states) e in
+            let (u, b, d) = any-at (λ (u : ℕ). leads h1 (sh1 .states) s u && matchAt h1 m (from h2 j) (label h2 j) (to h2 j) u) (sh1 .states) e in
             let o = and-right (leads h1 (sh1 .states) s u) _ d in
             let (i, l, f) = any-at (offer u) (count h1) (and-right (eqb (mapped m u) (from h2 j)) _ o) in
             let g = and-right (eqb (from h1 i) u) _ f in
             let q : from h1 i ≡ u = eqb-true _ _ (and-left (eqb (from h1 i) u) _ f) in
-            any-found (ticks h1 h2 m seen-from (mapped m s) j) (count h1) l
+            any-found (stampsHop h1 h2 m seen-from (mapped m s) j) (count h1) l
             (and-yes
             (and-yes (ap (visited seen-from) q ∙ visited-leads h1 bytes silent (sh1 .states) s rest b ∙ and-left (leads h1 (sh1 .states) s u) _ d)
             (eq-eqb _ _ (ap (mapped m) q ∙ eqb-true _ _ (and-left (eqb (mapped m u) (from h2 j)) _ o) ∙ sym leaving)))
@@ -68,10 +68,10 @@ module _ (sh1 : Shape) (h1 h2 m : List ℕ) (ranged : InRange sh1 h1) (bytes : L
             (sym (eqb-true _ _ (and-right (eqb (label h1 i) (label h2 j)) _ g)))))
 
 -- the test of a hop that was read
-pub unticked-hop : (h2 stamps : List ℕ) (r k j : ℕ) {f a q : ℕ} → f ≡ from h2 j → a ≡ label h2 j → q ≡ to h2 j →
-    (eqb r f && not ((eqb a 0 && eqb f q) || eqb (getD stamps j 0) k)) ≡ unticked h2 stamps r k j
-unfolding unticked
-unticked-hop h2 stamps r k j d e f = rw (d, e, f)
+pub unstamped-hop : (h2 stamps : List ℕ) (r k j : ℕ) {f a q : ℕ} → f ≡ from h2 j → a ≡ label h2 j → q ≡ to h2 j →
+    (eqb r f && not ((eqb a 0 && eqb f q) || eqb (getD stamps j 0) k)) ≡ unstamped h2 stamps r k j
+unfolding unstamped
+unstamped-hop h2 stamps r k j d e f = rw (d, e, f)
 
 -- a fresh stamp stands where it was set, and nowhere else
 stamp-told : (x : Bool) (k b : ℕ) → b < k → eqb (cond x k b) k ≡ x
@@ -80,37 +80,37 @@ stamp-told false k b l = ne-eqb b k (λ e. omega arith)
 
 -- r is the map of s, and `seen` what the search from s left: then the count of what is not ticked is the count of the faults of s
 module _ (sh1 : Shape) (h1 h2 m : List ℕ) (ranged : InRange sh1 h1) (bytes : List ℕ) (silent : Chooses h1 (silentAt h1) bytes) (s : ℕ) (rest : List ℕ) {r : ℕ}
-    (er : r ≡ mapped m s) {seen : List ℕ} (es : seen ≡ reachedBytes h1 (chosenIn bytes) (sh1 .states) s ++ rest) (before after : List ℕ) (ticked : TickedBy h1 h2 m seen r (s + 1) (count h1) before after)
+    (er : r ≡ mapped m s) {seen : List ℕ} (es : seen ≡ reachedBytes h1 (chosenIn bytes) (sh1 .states) s ++ rest) (before after : List ℕ) (ticked : StampedUpTo h1 h2 m seen r (s + 1) (count h1) before after)
     (fresh : Fresh h2 before (s + 1)) where
   abbrev hits : ℕ → Bool
-  hits j = any (count h1) (ticks h1 h2 m (reachedBytes h1 (chosenIn bytes) (sh1 .states) s ++ rest) (mapped m s) j)
+  hits j = any (count h1) (stampsHop h1 h2 m (reachedBytes h1 (chosenIn bytes) (sh1 .states) s ++ rest) (mapped m s) j)
 
   abbrev loop : ℕ → Bool
   loop j = eqb (label h2 j) 0 && eqb (from h2 j) (to h2 j)
 
   stamped : (j : ℕ) → j < count h2 → getD after j 0 ≡ cond (hits j) (s + 1) (getD before j 0)
-  unfolding TickedBy
+  unfolding StampedUpTo
   stamped j l = rw (er, es) at (ticked j l)
 
-  unticked-made-up : (j : ℕ) → j < count h2 → unticked h2 after r (s + 1) j ≡ madeUp sh1 h1 h2 m j s
-  unfolding unticked madeUp matched Fresh
+  unticked-made-up : (j : ℕ) → j < count h2 → unstamped h2 after r (s + 1) j ≡ unmatched sh1 h1 h2 m j s
+  unfolding unstamped unmatched matched Fresh
   unticked-made-up j l = rw er (go (decided (eqb (mapped m s) (from h2 j)))) where
     go : (eqb (mapped m s) (from h2 j) ≡ true) ⊎ (eqb (mapped m s) (from h2 j) ≡ false) →
         (eqb (mapped m s) (from h2 j) && not (loop j || eqb (getD after j 0) (s + 1))) ≡
-        (eqb (mapped m s) (from h2 j) && not (loop j || backed sh1 h1 m s (from h2 j) (label h2 j) (to h2 j)))
+        (eqb (mapped m s) (from h2 j) && not (loop j || matchedFrom sh1 h1 m s (from h2 j) (label h2 j) (to h2 j)))
     go (inl e) =
         ap (λ (x : Bool). eqb (mapped m s) (from h2 j) && not (loop j || x))
         (ap (λ (b : ℕ). eqb b (s + 1)) (stamped j l) ∙ stamp-told (hits j) (s + 1) (getD before j 0) (fresh j l) ∙
         ticked-backed sh1 h1 h2 m ranged bytes silent s rest j (eqb-true _ _ e))
     go (inr e) = rw e
 
-  pub counted-made-up : {x : ℕ} → x ≡ tally (count h2) (unticked h2 after r (s + 1)) → x ≡ madeUpOf sh1 h1 h2 m s
-  unfolding madeUpOf
-  counted-made-up e = e ∙ tally-same (unticked h2 after r (s + 1)) (λ (j : ℕ). madeUp sh1 h1 h2 m j s) (count h2) unticked-made-up
+  pub counted-unmatched : {x : ℕ} → x ≡ tally (count h2) (unstamped h2 after r (s + 1)) → x ≡ unmatchedOf sh1 h1 h2 m s
+  unfolding unmatchedOf
+  counted-unmatched e = e ∙ tally-same (unstamped h2 after r (s + 1)) (λ (j : ℕ). unmatched sh1 h1 h2 m j s) (count h2) unticked-made-up
 
-  pub first-made-up : {x : ℕ} → x ≡ least (count h2) (unticked h2 after r (s + 1)) → x ≡ madeUpPlaceOf sh1 h1 h2 m s
-  unfolding madeUpPlaceOf
-  first-made-up e = e ∙ least-same (unticked h2 after r (s + 1)) (λ (j : ℕ). madeUp sh1 h1 h2 m j s) (count h2) unticked-made-up
+  pub first-unmatched : {x : ℕ} → x ≡ least (count h2) (unstamped h2 after r (s + 1)) → x ≡ unmatchedPlaceOf sh1 h1 h2 m s
+  unfolding unmatchedPlaceOf
+  first-unmatched e = e ∙ least-same (unstamped h2 after r (s + 1)) (λ (j : ℕ). unmatched sh1 h1 h2 m j s) (count h2) unticked-made-up
 
   -- the next stamp is fresh
   pub fresh-next : Fresh h2 after (s + 1 + 1)
@@ -127,18 +127,18 @@ fresh-start h2 n capacity j l = rw (getD-replicate {A = ℕ} n j 0 0 (omega arit
 
 -- the third sum by states
 module _ (sh1 : Shape) (h1 h2 m : List ℕ) where
-  pub by-states : total (sh1 .states) (madeUpOf sh1 h1 h2 m) ≡ madeUpFaults sh1 h1 h2 m
-  unfolding madeUpFaults madeUpOf
-  by-states = sym (total-exchange (madeUp sh1 h1 h2 m) (count h2) (sh1 .states))
+  pub by-states : total (sh1 .states) (unmatchedOf sh1 h1 h2 m) ≡ unmatchedFaults sh1 h1 h2 m
+  unfolding unmatchedFaults unmatchedOf
+  by-states = sym (total-exchange (unmatched sh1 h1 h2 m) (count h2) (sh1 .states))
 
-  made-up-of-most : (s : ℕ) → madeUpOf sh1 h1 h2 m s ≤ count h2
-  unfolding madeUpOf
-  made-up-of-most s = tally-within (λ (j : ℕ). madeUp sh1 h1 h2 m j s) (count h2)
+  made-up-of-most : (s : ℕ) → unmatchedOf sh1 h1 h2 m s ≤ count h2
+  unfolding unmatchedOf
+  made-up-of-most s = tally-within (λ (j : ℕ). unmatched sh1 h1 h2 m j s) (count h2)
 
   -- a sum over some of the states, and one more, fits
   pub partial-most : (s : ℕ) → s ≤ most-states → count h2 ≤ most-hops →
-      total s (madeUpOf sh1 h1 h2 m) + madeUpOf sh1 h1 h2 m s ≤ most-states * most-hops + most-hops
+      total s (unmatchedOf sh1 h1 h2 m) + unmatchedOf sh1 h1 h2 m s ≤ most-states * most-hops + most-hops
   partial-most s l k =
-      let most : total s (madeUpOf sh1 h1 h2 m) ≤ s * count h2 = total-most (madeUpOf sh1 h1 h2 m) (count h2) s (λ j h. made-up-of-most j) in
+      let most : total s (unmatchedOf sh1 h1 h2 m) ≤ s * count h2 = total-most (unmatchedOf sh1 h1 h2 m) (count h2) s (λ j h. made-up-of-most j) in
       let pairs : s * count h2 ≤ most-states * most-hops = mul-le-mul l k in
       omega (arith, made-up-of-most s)

@@ -1,12 +1,12 @@
--- `audit_faults::lost::is_kept` meets its contract: the table tells whether graph 2 has the hop, and only for one that it has not the classes are asked.
+-- `audit_faults::lost::is_preserved` meets its contract: the table tells whether graph 2 has the hop, and only for one that it has not the classes are asked.
 -- Assumes nothing.
 use borrow.Author.Needs.{needs}
 use mathlib.Core.Path.{_≡_, _∙_}
 use native.Mathlib.Omega.{arith}
 use Rattle.audit_faults.specs.Images.{imageOf, Imaged}
-use Rattle.audit_faults.proofs.Keeping.{kept-image, kept-nowhere}
-use Rattle.audit_faults.proofs.lost.is_kept.Statement.{statement}
-use Rattle.audit_faults.proofs.lost.is_kept.Tie as tie
+use Rattle.audit_faults.proofs.Preserved.{preserved-image, preserved-no-place}
+use Rattle.audit_faults.proofs.lost.is_preserved.Statement.{statement}
+use Rattle.audit_faults.proofs.lost.is_preserved.Tie as tie
 
 mul-wide : tie.Need-mul-wide
 mul-wide c = search needs
@@ -29,7 +29,7 @@ module _ (c : tie.After-wide) where
 returns : tie.Need-returns
 returns c =
     let s = start (c .before) in
-    kept-image (s .args .hops1 .now) (s .args .hops2 .now) (s .args .map .now) (s .pre .0 .ready) (s .args .i) (place-is (c .before)) (c .if1 .taken)
+    preserved-image (s .args .hops1 .now) (s .args .hops2 .now) (s .args .map .now) (s .pre .0 .ready) (s .args .i) (place-is (c .before)) (c .if1 .taken)
 
 from-at-requires : tie.Need-from-at-requires
 from-at-requires c κs = search needs
@@ -54,12 +54,12 @@ returns-2 c =
     let l = c .before .before .before in
     let e = l .before .before .before .before .before in
     let s = start (e .before) in
-    kept-nowhere (s .args .hops1 .now) (s .args .hops2 .now) (s .args .map .now) (s .pre .0 .ready) (s .args .i) (place-is (e .before)) (e .if1 .left)
+    preserved-no-place (s .args .hops1 .now) (s .args .hops2 .now) (s .args .map .now) (s .pre .0 .ready) (s .args .i) (place-is (e .before)) (e .if1 .left)
     (l .before .before .before .before .from-at .ensures) (l .before .before .before .map-at .ensures) (l .label-at .ensures) (l .before .before .to-at .ensures)
     (l .before .map-at2 .ensures)
 
-pub is-kept-spec : {M : Type 1} → statement M
-is-kept-spec =
+pub is-preserved-spec : {M : Type 1} → statement M
+is-preserved-spec =
     tie.close
     (tie.spec
     mul-wide

@@ -7,7 +7,7 @@ use Rattle.graph.specs.Answers.{accepted}
 use Rattle.graph.specs.declared.Shape.{Shape}
 use Rattle.audit_faults.specs.Faults.{faultsOf}
 use Rattle.audit_faults.specs.First.{noFault, firstFault}
-use Rattle.audit_admitted.specs.Fitting.{auditAnswer}
+use Rattle.audit_admitted.specs.Admitted.{auditAnswer}
 use Rattle.audit_entry.specs.declared.Audit.{Audit}
 
 -- the audit's answer, and with 0 the fault count and the first fault

@@ -1,4 +1,4 @@
--- `audit_unmatched::first_unticked` meets its contract: none of the hops passed so far is unticked, nor one before the first or past the last. Assumes nothing.
+-- `audit_unmatched::first_unstamped` meets its contract: none of the hops passed so far is unticked, nor one before the first or past the last. Assumes nothing.
 use borrow.Author.Needs.{needs}
 use Prim.Native.Nat.{ℕ, _+_, _≤_, _-_}
 use mathlib.Core.Path.{_≡_, sym, ap, _∙_}
@@ -10,14 +10,14 @@ use Rattle.graph.specs.Search.{firstOf}
 use Rattle.base_bounded.proofs.Quantifiers.{least-more, least-found}
 use Rattle.graph.proofs.Lookup.{first-within}
 use Rattle.graph_successors.proofs.Firsts.{first-next, start-is}
-use Rattle.audit_unmatched.specs.States.{unticked}
+use Rattle.audit_unmatched.specs.States.{unstamped}
 use Rattle.audit_unmatched.proofs.Own.{first-begins, first-ends}
-use Rattle.audit_unmatched.proofs.first_unticked.Statement.{statement}
-use Rattle.audit_unmatched.proofs.first_unticked.Tie as tie
+use Rattle.audit_unmatched.proofs.first_unstamped.Statement.{statement}
+use Rattle.audit_unmatched.proofs.first_unstamped.Tie as tie
 
 abbrev Inv-loop : tie.InvT-loop
 Inv-loop hops2 starts2 stamps r k at past j₀ j =
-    (past ≡ firstOf hops2 (r .0 + 1)) × (past ≤ count hops2) × (j ≤ past) × (least j (unticked hops2 stamps (r .0) k) ≡ j)
+    (past ≡ firstOf hops2 (r .0 + 1)) × (past ≤ count hops2) × (j ≤ past) × (least j (unstamped hops2 stamps (r .0) k) ≡ j)
 
 abbrev μ-loop : tie.MeasureT-loop
 μ-loop hops2 starts2 stamps r k at past j₀ j = past - j
@@ -55,14 +55,14 @@ module _ (c : tie.At-loop Inv-loop μ-loop) where
   start = c .before .before .before .before .before .before
 
   abbrev test : ℕ → Bool
-  test = unticked (start .args .hops2 .now) (start .args .stamps .now) (start .args .r .0) (start .args .k)
+  test = unstamped (start .args .hops2 .now) (start .args .stamps .now) (start .args .r .0) (start .args .k)
 
-is-unticked-requires : tie.Need-is-unticked-requires Inv-loop μ-loop
-is-unticked-requires c κs = search needs
+is-unstamped-requires : tie.Need-is-unstamped-requires Inv-loop μ-loop
+is-unstamped-requires c κs = search needs
 
 -- the test at the place that was looked at
-told : (c : tie.After-is-unticked Inv-loop μ-loop) {x : Bool} → c .is-unticked .result ≡ x → test (c .before .before) (c .before .before .loop .j) ≡ x
-told c {x} e = rw (c .is-unticked .ensures) at e
+told : (c : tie.After-is-unstamped Inv-loop μ-loop) {x : Bool} → c .is-unstamped .result ≡ x → test (c .before .before) (c .before .before .loop .j) ≡ x
+told c {x} e = rw (c .is-unstamped .ensures) at e
 
 returns : tie.Need-returns Inv-loop μ-loop
 returns c =
@@ -92,8 +92,8 @@ returns-2 c =
     c .hop-count .ensures ∙
     first-ends (s .args .hops2 .now) (s .args .stamps .now) (s .pre .0 .ascending) (s .args .r .0) (s .args .k) (omega (arith, c .before .before .loop .inv .0)) (c .before .before .loop .inv .3)
 
-pub first-unticked-spec : {M : Type 1} → statement M
-first-unticked-spec =
+pub first-unstamped-spec : {M : Type 1} → statement M
+first-unstamped-spec =
     tie.close
     (tie.spec
     Inv-loop
@@ -103,7 +103,7 @@ first-unticked-spec =
     start-of-requires
     start-of-requires-2
     loop-holds
-    is-unticked-requires
+    is-unstamped-requires
     returns
     add-j
     loop-less

@@ -19,7 +19,7 @@ use Rattle.graph_check.specs.Check.{checkOf, Admitted}
 use Rattle.base_bounded.proofs.Bools.{not-yes}
 use Rattle.base_bounded.proofs.Quantifiers.{least-is, least-before}
 use Rattle.graph_check.proofs.Checked.{check-admitted, admitted-check}
-use Rattle.audit_admitted.specs.Fitting.{AdmittedMap, firstHigh, mapFits, auditAnswer}
+use Rattle.audit_admitted.specs.Admitted.{AdmittedMap, firstHigh, mapFits, auditAnswer}
 
 -- row 8
 module _ (sh1 sh2 : Shape) (m : List ℕ) where
