@@ -13,7 +13,7 @@ use shrink_entry::shrink;
 ghost use mathlib.Core.Path.{_≡_};
 ghost use lib.ListN.{length};
 ghost use Rattle.reduce_entry.specs.Reduce.{reduceAnswer};
-ghost use Rattle.shrink_entry.specs.Shrink.{shrinkOf, lastMap, lastHops};
+ghost use Rattle.shrink_entry.specs.Shrink.{shrinkOf, shrinkMapOutput, shrinkHopsOutput};
 ghost use Rattle.c_answer.specs.Numbers.{shapeOf, returned, told, unlessShort};
 ghost use Rattle.c_shrink.specs.Numbers.{shrinkingNumbers};
 
@@ -56,12 +56,12 @@ pub fn tell_shrink(
     ensures mapped { λ r. ⌜ now (map .exit) ≡
         unlessShort 8
         (now (answer .entry))
-        (lastMap (shapeOf states labels initial) (now (hops .entry)) sense (now (map .entry)) (now (short .entry)))
+        (shrinkMapOutput (shapeOf states labels initial) (now (hops .entry)) sense (now (map .entry)) (now (short .entry)))
         (now (map .entry)) ⌝ }
     ensures shortened { λ r. ⌜ now (short .exit) ≡
         unlessShort 8
         (now (answer .entry))
-        (lastHops (shapeOf states labels initial) (now (hops .entry)) sense (now (map .entry)) (now (short .entry)))
+        (shrinkHopsOutput (shapeOf states labels initial) (now (hops .entry)) sense (now (map .entry)) (now (short .entry)))
         (now (short .entry)) ⌝ }
     ensures tells { λ r. ⌜ now (answer .exit) ≡
         told 8

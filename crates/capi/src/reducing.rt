@@ -5,7 +5,7 @@ use c_shrink::tell_shrink;
 ghost use mathlib.Core.Path.{_≡_};
 ghost use lib.ListN.{length};
 ghost use Rattle.reduce_entry.specs.Reduce.{reduceAnswer, reduceOf, mapOutput, shortOutput};
-ghost use Rattle.shrink_entry.specs.Shrink.{shrinkOf, lastMap, lastHops};
+ghost use Rattle.shrink_entry.specs.Shrink.{shrinkOf, shrinkMapOutput, shrinkHopsOutput};
 ghost use Rattle.audit_admitted.specs.Admitted.{auditAnswer};
 ghost use Rattle.audit_entry.specs.Audit.{auditOf};
 ghost use Rattle.c_answer.specs.Numbers.{shapeOf, returned, told, unlessShort};
@@ -66,12 +66,12 @@ pub extern "C" fn zf_shrink(
     ensures mapped { λ r. ⌜ now (map .exit) ≡
         unlessShort 8
         (now (answer .entry))
-        (lastMap (shapeOf states labels initial) (now (hops .entry)) sense (now (map .entry)) (now (short .entry)))
+        (shrinkMapOutput (shapeOf states labels initial) (now (hops .entry)) sense (now (map .entry)) (now (short .entry)))
         (now (map .entry)) ⌝ }
     ensures shortened { λ r. ⌜ now (short .exit) ≡
         unlessShort 8
         (now (answer .entry))
-        (lastHops (shapeOf states labels initial) (now (hops .entry)) sense (now (map .entry)) (now (short .entry)))
+        (shrinkHopsOutput (shapeOf states labels initial) (now (hops .entry)) sense (now (map .entry)) (now (short .entry)))
         (now (short .entry)) ⌝ }
     ensures tells { λ r. ⌜ now (answer .exit) ≡
         told 8

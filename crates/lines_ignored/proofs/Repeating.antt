@@ -11,9 +11,9 @@ use Rattle.graph.specs.Hops.{flat}
 use Rattle.graph.specs.declared.Shape.{Shape}
 use Rattle.mark_senses.specs.Senses.{inSetAt}
 use Rattle.reduce_entry.specs.Reduce.{reducedMap, reducedShape, reducedHops}
-use Rattle.shrink_compose.specs.Chained.{chained}
-use Rattle.shrink_iterate.specs.Repeating.{Stage, firstStage, nextStage, someMarked, marksSome, repeated, lastOf, lastStage}
-use Rattle.shrink_entry.specs.Shrink.{shrinkOf, lastMap}
+use Rattle.shrink_compose.specs.Composed.{composed}
+use Rattle.shrink_iterate.specs.Iterate.{Stage, firstStage, nextStage, someMarked, marksSome, iterated, lastOf, lastStage}
+use Rattle.shrink_entry.specs.Shrink.{shrinkOf, shrinkMapOutput}
 use Rattle.lines_ignored.specs.Unlined.{Unlined}
 use Rattle.lines_ignored.proofs.Checks.{count-same, from-same, label-same, to-same}
 use Rattle.lines_ignored.proofs.Marking.{marked-same}
@@ -38,20 +38,20 @@ module _ (k : ℕ) where
         subst (λ (sh : Shape). Unlined (flat (reducedHops sh (g .hops) k)) (flat (reducedHops (g' .shape) (g' .hops) k))) (sym (b .shapes))
         (marked-hops-unlined (b .unlined) (g' .shape) k);
     maps =
-        ap (λ (m : List ℕ). chained m (reducedMap (g .shape) (g .hops) k)) (b .maps) ∙
-        ap (chained (g' .map)) (ap (λ (sh : Shape). reducedMap sh (g .hops) k) (b .shapes) ∙ marked-map-same (b .unlined) (g' .shape) k);
+        ap (λ (m : List ℕ). composed m (reducedMap (g .shape) (g .hops) k)) (b .maps) ∙
+        ap (composed (g' .map)) (ap (λ (sh : Shape). reducedMap sh (g .hops) k) (b .shapes) ∙ marked-map-same (b .unlined) (g' .shape) k);
     counts = ap suc (b .counts);
   }
 
   some-beside : (g g' : Stage) → Beside g g' → marksSome k g ≡ marksSome k g'
   some-beside g g' b = ap (λ (sh : Shape). someMarked k sh (g .hops)) (b .shapes) ∙ some-same (b .unlined) k (g' .shape)
 
-  repeated-beside : (n : ℕ) (g g' : Stage) → Beside g g' → Beside (repeated k n g) (repeated k n g')
-  unfolding repeated
+  repeated-beside : (n : ℕ) (g g' : Stage) → Beside g g' → Beside (iterated k n g) (iterated k n g')
+  unfolding iterated
   repeated-beside zero g g' b = b
   repeated-beside (suc n) g g' b = rw (some-beside g g' b) (go (marksSome k g') (repeated-beside n (nextStage k g) (nextStage k g') (next-beside g g' b))) where
-    go : (m : Bool) → Beside (repeated k n (nextStage k g)) (repeated k n (nextStage k g')) →
-        Beside (cond m (repeated k n (nextStage k g)) g) (cond m (repeated k n (nextStage k g')) g')
+    go : (m : Bool) → Beside (iterated k n (nextStage k g)) (iterated k n (nextStage k g')) →
+        Beside (cond m (iterated k n (nextStage k g)) g) (cond m (iterated k n (nextStage k g')) g')
     go true c = c
     go false c = b
 
@@ -66,6 +66,6 @@ module _ {hs hs' : List ℕ} (un : Unlined hs hs') (sh : Shape) (k : ℕ) where
   shrink-same map-capacity short-capacity =
       rw (answer-same un sh k map-capacity short-capacity, last-beside .shapes, count-same (last-beside .unlined), last-beside .counts)
 
-  pub last-map-same : (map short : List ℕ) → lastMap sh hs k map short ≡ lastMap sh hs' k map short
-  unfolding lastMap
+  pub last-map-same : (map short : List ℕ) → shrinkMapOutput sh hs k map short ≡ shrinkMapOutput sh hs' k map short
+  unfolding shrinkMapOutput
   last-map-same map short = rw (answer-same un sh k (length map) (length short), last-beside .maps)

@@ -1,2 +1,2 @@
-pub mod Chaining  -- what stands in maps put one after the other
+pub mod ComposedMaps  -- what stands in maps put one after the other
 pub mod Composed  -- maps without faults compose

@@ -1,1 +1,1 @@
-pub mod Chained  -- one map after another, and the map of own numbers
+pub mod Composed  -- one map after another, and the map of own numbers

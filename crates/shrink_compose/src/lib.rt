@@ -10,12 +10,12 @@ ghost use mathlib.Core.Path.{_≡_};
 ghost use Prim.Native.Nat.{_≤_};
 ghost use lib.ListN.{length};
 ghost use Rattle.graph.specs.Answers.{most-states};
-ghost use Rattle.shrink_compose.specs.Chained.{chained, ownMap, Into};
+ghost use Rattle.shrink_compose.specs.Composed.{composed, identityMap, Into};
 
 // The map from a graph to itself.
-pub fn put_own(map: &mut [u16])
+pub fn put_identity(map: &mut [u16])
     requires { ⌜ length (now map) ≤ most-states ⌝ }
-    ensures { λ _. ⌜ now (map .exit) ≡ ownMap (length (now (map .entry))) ⌝ }
+    ensures { λ _. ⌜ now (map .exit) ≡ identityMap (length (now (map .entry))) ⌝ }
 {
     let mut s: usize = 0;
     while s < map.len() {
@@ -25,10 +25,10 @@ pub fn put_own(map: &mut [u16])
 }
 
 // Puts the map `next` behind the map: what was a new state of the one is an old state of the other.
-pub fn put_behind(map: &mut [u16], next: &[u16])
+pub fn put_composed(map: &mut [u16], next: &[u16])
     requires few { ⌜ length (now map) ≤ most-states ⌝ }
     requires into { ⌜ Into (now map) (length (now next)) ⌝ }
-    ensures { λ _. ⌜ now (map .exit) ≡ chained (now (map .entry)) (now (next .entry)) ⌝ }
+    ensures { λ _. ⌜ now (map .exit) ≡ composed (now (map .entry)) (now (next .entry)) ⌝ }
 {
     let mut s: usize = 0;
     while s < map.len() {

@@ -13,11 +13,11 @@ use Rattle.graph.specs.declared.Answer.{Answer}
 use Rattle.graph.proofs.Fronts.{between-count}
 use Rattle.graph_check.specs.Check.{Admitted}
 use Rattle.reduce_representatives.specs.Tables.{Reducible}
-use Rattle.shrink_iterate.specs.Repeating.{Stage, lastStage}
+use Rattle.shrink_iterate.specs.Iterate.{Stage, lastStage}
 use Rattle.shrink_iterate.proofs.Last.{last-staged}
-use Rattle.shrink_step.specs.Reached.{stageOf}
+use Rattle.shrink_step.specs.Progress.{stageOf}
 use Rattle.shrink_entry.specs.Shrink.{shrinking}
-use Rattle.shrink_step.specs.declared.Reached.{Reached}
+use Rattle.shrink_step.specs.declared.Progress.{Progress}
 use Rattle.shrink_entry.specs.declared.Shrinking.{Shrinking}
 
 -- the hops of an admitted graph at the front of a list are the front
@@ -27,7 +27,7 @@ front-hops {hs = hs} adm old {n = n} c e =
 
 -- the loop stands at the last stage: what is returned, and what is written over what the outputs held
 module _
-    (k : ℕ) (sh : Shape) {hs : List ℕ} (r : Reached) (last map : List ℕ)
+    (k : ℕ) (sh : Shape) {hs : List ℕ} (r : Progress) (last map : List ℕ)
     {seen : List ℕ} (s : seen ≡ hs) (e : stageOf r last map ≡ lastStage k sh seen) (l : r .hops ≤ count last)
   where
     is : stageOf r last map ≡ lastStage k sh hs

@@ -12,24 +12,24 @@ use Rattle.graph.specs.declared.Shape.{Shape}
 use Rattle.graph.specs.declared.Answer.{Answer}
 use Rattle.reduce_entry.specs.Reduce.{reduceAnswer}
 use Rattle.reduce_entry.proofs.Answering.{reduce-accepted}
-use Rattle.shrink_iterate.specs.Repeating.{lastStage}
-use Rattle.shrink_entry.specs.Shrink.{refusal, shrinking, shrinkOf, lastMap, lastHops}
+use Rattle.shrink_iterate.specs.Iterate.{lastStage}
+use Rattle.shrink_entry.specs.Shrink.{refusedShrinking, shrinking, shrinkOf, shrinkMapOutput, shrinkHopsOutput}
 
 module _ (sh : Shape) (hs : List ℕ) (k : ℕ) (map short : List ℕ) {a : Answer} (e : a ≡ reduceAnswer sh hs k (length map) (length short)) where
   module _ (n : a .number ≡ 0 → ⊥) where
     refuses : eqb (reduceAnswer sh hs k (length map) (length short) .number) 0 ≡ false
     refuses = ne-eqb _ 0 (rw e at n)
 
-    pub refused-returns : refusal a ≡ shrinkOf sh hs k (length map) (length short)
+    pub refused-returns : refusedShrinking a ≡ shrinkOf sh hs k (length map) (length short)
     unfolding shrinkOf
-    refused-returns = rw refuses (ap refusal e)
+    refused-returns = rw refuses (ap refusedShrinking e)
 
-    pub refused-map : map ≡ lastMap sh hs k map short
-    unfolding lastMap
+    pub refused-map : map ≡ shrinkMapOutput sh hs k map short
+    unfolding shrinkMapOutput
     refused-map = rw refuses
 
-    pub refused-short : short ≡ lastHops sh hs k map short
-    unfolding lastHops
+    pub refused-short : short ≡ shrinkHopsOutput sh hs k map short
+    unfolding shrinkHopsOutput
     refused-short = rw refuses
 
   module _ (z : a .number ≡ 0) where
@@ -43,10 +43,10 @@ module _ (sh : Shape) (hs : List ℕ) (k : ℕ) (map short : List ℕ) {a : Answ
     unfolding shrinkOf
     accepted-returns = ap (shrinking sh hs k) is
 
-    pub accepted-map : {x : List ℕ} → x ≡ onFront (lastStage k sh hs .map) map → x ≡ lastMap sh hs k map short
-    unfolding lastMap
+    pub accepted-map : {x : List ℕ} → x ≡ onFront (lastStage k sh hs .map) map → x ≡ shrinkMapOutput sh hs k map short
+    unfolding shrinkMapOutput
     accepted-map f = f ∙ ap (λ (x : Answer). written (x .number) (lastStage k sh hs .map) map) is
 
-    pub accepted-short : {x : List ℕ} → x ≡ onFront (lastStage k sh hs .hops) short → x ≡ lastHops sh hs k map short
-    unfolding lastHops
+    pub accepted-short : {x : List ℕ} → x ≡ onFront (lastStage k sh hs .hops) short → x ≡ shrinkHopsOutput sh hs k map short
+    unfolding shrinkHopsOutput
     accepted-short f = f ∙ ap (λ (x : Answer). written (x .number) (lastStage k sh hs .hops) short) is

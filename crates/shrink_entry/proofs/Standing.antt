@@ -15,31 +15,31 @@ use Rattle.graph.specs.declared.Shape.{Shape}
 use Rattle.reduce_representatives.specs.Tables.{Reducible}
 use Rattle.audit_admitted.proofs.Admitted.{Audited}
 use Rattle.audit_entry.proofs.Answering.{faultless-iff}
-use Rattle.shrink_compose.specs.Chained.{ownMap, Into}
-use Rattle.shrink_iterate.specs.Repeating.{Stage, nextStage, marksSome, lastOf, lastStage}
+use Rattle.shrink_compose.specs.Composed.{identityMap, Into}
+use Rattle.shrink_iterate.specs.Iterate.{Stage, nextStage, marksSome, lastOf, lastStage}
 use Rattle.shrink_iterate.proofs.Stages.{fewer-states, Staged, first-staged, next-staged}
 use Rattle.shrink_iterate.proofs.Last.{last-again, last-still}
 use Rattle.shrink_iterate.proofs.Once.{next-still}
-use Rattle.shrink_step.specs.Reached.{stageOf}
-use Rattle.shrink_step.specs.declared.Reached.{Reached}
+use Rattle.shrink_step.specs.Progress.{stageOf}
+use Rattle.shrink_step.specs.declared.Progress.{Progress}
 
 -- the code stands at a stage of the repetition from the graph sh, hs under the sense k
-pub record Standing (k : ℕ) (sh : Shape) (hs : List ℕ) (at : Reached) (hops map : List ℕ) : Type 0 where
+pub record Standing (k : ℕ) (sh : Shape) (hs : List ℕ) (at : Progress) (hops map : List ℕ) : Type 0 where
   pub staged : Staged sh hs (stageOf at hops map)
   pub there : at .hops ≤ count hops
   pub leads : lastOf k (stageOf at hops map) ≡ lastStage k sh hs
   pub done : at .more ≡ false → marksSome k (stageOf at hops map) ≡ false
 
 -- what falls from turn to turn
-abbrev pub left : Reached → ℕ
+abbrev pub left : Progress → ℕ
 left at = at .shape .states + cond (at .more) 1 0
 
 -- before the first turn
-pub first-stands : (k : ℕ) (sh : Shape) (hops map : List ℕ) (n : ℕ) → Reducible sh (between hops 0 n) → n ≤ count hops → map ≡ ownMap (sh .states) →
+pub first-stands : (k : ℕ) (sh : Shape) (hops map : List ℕ) (n : ℕ) → Reducible sh (between hops 0 n) → n ≤ count hops → map ≡ identityMap (sh .states) →
     Standing k sh (between hops 0 n) (record { shape = sh; hops = n; reductions = 0; more = true }) hops map
 first-stands k sh hops map n red l e = rw e (record { staged = first-staged red; there = l; leads = refl; done = λ d. clash refl d })
 
-module _ (k : ℕ) {sh : Shape} {hs : List ℕ} {at : Reached} {hops map : List ℕ} (stands : Standing k sh hs at hops map) where
+module _ (k : ℕ) {sh : Shape} {hs : List ℕ} {at : Progress} {hops map : List ℕ} (stands : Standing k sh hs at hops map) where
   abbrev g : Stage
   g = stageOf at hops map
 
@@ -65,7 +65,7 @@ module _ (k : ℕ) {sh : Shape} {hs : List ℕ} {at : Reached} {hops map : List 
 
   -- a turn
   module _
-      {r : Reached} (after then : List ℕ) (m : r .more ≡ (marksSome k g && not (eqb k 8))) (t : stageOf r after then ≡ cond (marksSome k g) (nextStage k g) g) (l : r .hops ≤ count after)
+      {r : Progress} (after then : List ℕ) (m : r .more ≡ (marksSome k g && not (eqb k 8))) (t : stageOf r after then ≡ cond (marksSome k g) (nextStage k g) g) (l : r .hops ≤ count after)
     where
       moves : marksSome k g ≡ true → stageOf r after then ≡ nextStage k g
       moves e = t ∙ ap (λ (b : Bool). cond b (nextStage k g) g) e

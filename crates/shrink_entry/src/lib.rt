@@ -11,9 +11,9 @@ use graph::answers::accept;
 use graph::hops::hop_count;
 use graph::hops::part;
 use reduce_entry::entry::reduce_answer;
-use shrink_compose::put_own;
-use shrink_step::Reached;
-use shrink_step::turn;
+use shrink_compose::put_identity;
+use shrink_step::Progress;
+use shrink_step::step;
 ghost use mathlib.Core.Path.{_≡_};
 ghost use Prim.Native.Nat.{_≤_};
 ghost use lib.ListN.{length};
@@ -21,9 +21,9 @@ ghost use Rattle.base_outputs.specs.Output.{onFront};
 ghost use Rattle.graph.specs.Hops.{count, between};
 ghost use Rattle.graph.specs.Answers.{accepted};
 ghost use Rattle.reduce_representatives.specs.Tables.{Reducible};
-ghost use Rattle.shrink_iterate.specs.Repeating.{lastStage};
-ghost use Rattle.shrink_step.specs.Reached.{stageOf};
-ghost use Rattle.shrink_entry.specs.Shrink.{refusal, shrinking, shrinkOf, lastMap, lastHops};
+ghost use Rattle.shrink_iterate.specs.Iterate.{lastStage};
+ghost use Rattle.shrink_step.specs.Progress.{stageOf};
+ghost use Rattle.shrink_entry.specs.Shrink.{refusedShrinking, shrinking, shrinkOf, shrinkMapOutput, shrinkHopsOutput};
 
 // What `shrink` returns: the answer, the last graph's counts and initial state, and the number of reductions that marked something (all 0 with a refusal).
 pub struct Shrinking {
@@ -34,22 +34,22 @@ pub struct Shrinking {
 }
 
 // Turn after turn until nothing is marked, from a graph at the front of the hops; the map is made anew.
-fn repeat(shape: Shape, hops: &mut [u16], n: usize, sense: u32, map: &mut [u16]) -> Reached
+fn repeat(shape: Shape, hops: &mut [u16], n: usize, sense: u32, map: &mut [u16]) -> Progress
     requires reducible { ⌜ Reducible shape (between (now hops) 0 n) ⌝ }
     requires there { ⌜ n ≤ count (now hops) ⌝ }
     requires sized { ⌜ length (now map) ≡ shape .states ⌝ }
     ensures last { λ r. ⌜ stageOf r (now (hops .exit)) (now (map .exit)) ≡ lastStage sense shape (between (now (hops .entry)) 0 n) ⌝ }
     ensures there { λ r. ⌜ r .hops ≤ count (now (hops .exit)) ⌝ }
 {
-    put_own(map);
-    let mut at = Reached {
+    put_identity(map);
+    let mut at = Progress {
         shape,
         hops: n,
         reductions: 0,
         more: true,
     };
     while at.more {
-        at = turn(at, hops, sense, map);
+        at = step(at, hops, sense, map);
     }
     at
 }
@@ -88,7 +88,7 @@ fn accepted_shrinking(
 
 // A refusal: "with any number but 0 every other figure in the answer is 0".
 fn refused_shrinking(answer: Answer) -> Shrinking
-    ensures { λ r. ⌜ r ≡ refusal answer ⌝ }
+    ensures { λ r. ⌜ r ≡ refusedShrinking answer ⌝ }
 {
     Shrinking {
         answer,
@@ -111,8 +111,8 @@ pub fn shrink(
     short: &mut [u16],
 ) -> Shrinking
     ensures returned { λ r. ⌜ r ≡ shrinkOf shape (now (hops .entry)) sense (length (now (map .entry))) (length (now (short .entry))) ⌝ }
-    ensures mapped { λ r. ⌜ now (map .exit) ≡ lastMap shape (now (hops .entry)) sense (now (map .entry)) (now (short .entry)) ⌝ }
-    ensures shortened { λ r. ⌜ now (short .exit) ≡ lastHops shape (now (hops .entry)) sense (now (map .entry)) (now (short .entry)) ⌝ }
+    ensures mapped { λ r. ⌜ now (map .exit) ≡ shrinkMapOutput shape (now (hops .entry)) sense (now (map .entry)) (now (short .entry)) ⌝ }
+    ensures shortened { λ r. ⌜ now (short .exit) ≡ shrinkHopsOutput shape (now (hops .entry)) sense (now (map .entry)) (now (short .entry)) ⌝ }
 {
     let answer = reduce_answer(shape, hops, sense, map.len(), short.len());
     if answer.number != 0 {

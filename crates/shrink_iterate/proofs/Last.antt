@@ -11,30 +11,30 @@ use Rattle.graph.specs.declared.Shape.{Shape}
 use Rattle.base_fixpoint.specs.Pairs.{In}
 use Rattle.reduce_representatives.specs.Tables.{Reducible}
 use Rattle.audit_entry.specs.Audit.{auditOf, faultless}
-use Rattle.shrink_iterate.specs.Repeating.{Stage, firstStage, nextStage, markedAt, marksSome, repeated, lastOf, lastStage, Ends, still, again}
+use Rattle.shrink_iterate.specs.Iterate.{Stage, firstStage, nextStage, stageMarked, marksSome, iterated, lastOf, lastStage, EndsIn, still, again}
 use Rattle.shrink_iterate.proofs.Stages.{some-marked, none-marked, fewer-states, Staged, first-staged, next-staged}
 
 module _ (k : ℕ) where
   -- the two ways on
-  repeated-still : (n : ℕ) (g : Stage) → marksSome k g ≡ false → repeated k n g ≡ g
-  unfolding repeated
+  repeated-still : (n : ℕ) (g : Stage) → marksSome k g ≡ false → iterated k n g ≡ g
+  unfolding iterated
   repeated-still zero g e = refl
   repeated-still (suc n) g e = rw e
 
-  repeated-again : (n : ℕ) (g : Stage) → marksSome k g ≡ true → repeated k (suc n) g ≡ repeated k n (nextStage k g)
-  unfolding repeated
+  repeated-again : (n : ℕ) (g : Stage) → marksSome k g ≡ true → iterated k (suc n) g ≡ iterated k n (nextStage k g)
+  unfolding iterated
   repeated-again n g e = rw e
 
   module _ {sh : Shape} {hs : List ℕ} where
     -- as many reductions as there are states are enough: more make no difference
-    enough : (n m : ℕ) {g : Stage} → Staged sh hs g → g .shape .states ≤ n → g .shape .states ≤ m → repeated k n g ≡ repeated k m g
+    enough : (n m : ℕ) {g : Stage} → Staged sh hs g → g .shape .states ≤ n → g .shape .states ≤ m → iterated k n g ≡ iterated k m g
     enough zero m st l w = absurd (omega (arith, st .reducible .admitted .states-some))
     enough (suc n) zero st l w = absurd (omega (arith, st .reducible .admitted .states-some))
     enough (suc n) (suc m) {g} st l w = on (decided (marksSome k g)) (λ s x y. enough n m {g = nextStage k g} s x y) where
       on : (marksSome k g ≡ true) ⊎ (marksSome k g ≡ false) →
           (Staged sh hs (nextStage k g) → nextStage k g .shape .states ≤ n → nextStage k g .shape .states ≤ m →
-          repeated k n (nextStage k g) ≡ repeated k m (nextStage k g)) →
-          repeated k (suc n) g ≡ repeated k (suc m) g
+          iterated k n (nextStage k g) ≡ iterated k m (nextStage k g)) →
+          iterated k (suc n) g ≡ iterated k (suc m) g
       on (inl e) ih =
           let f = fewer-states k g (st .reducible) e in
           repeated-again n g e ∙ ih (next-staged k st e) (omega arith) (omega arith) ∙ sym (repeated-again m g e)
@@ -44,19 +44,19 @@ module _ (k : ℕ) where
     pub last-again : {g : Stage} → Staged sh hs g → marksSome k g ≡ true → lastOf k (nextStage k g) ≡ lastOf k g
     unfolding lastOf
     last-again {g} st e = on (g .shape .states) refl where
-      on : (n : ℕ) → g .shape .states ≡ n → repeated k (nextStage k g .shape .states) (nextStage k g) ≡ repeated k n g
+      on : (n : ℕ) → g .shape .states ≡ n → iterated k (nextStage k g .shape .states) (nextStage k g) ≡ iterated k n g
       on zero q = absurd (omega (arith, st .reducible .admitted .states-some))
       on (suc n) q =
           let f = fewer-states k g (st .reducible) e in
           enough (nextStage k g .shape .states) n (next-staged k st e) (omega arith) (omega arith) ∙ sym (repeated-again n g e)
 
-    arrives : (n : ℕ) {g : Stage} → Staged sh hs g → g .shape .states ≤ n → Ends k g (repeated k n g) × Staged sh hs (repeated k n g)
+    arrives : (n : ℕ) {g : Stage} → Staged sh hs g → g .shape .states ≤ n → EndsIn k g (iterated k n g) × Staged sh hs (iterated k n g)
     arrives zero st l = absurd (omega (arith, st .reducible .admitted .states-some))
     arrives (suc n) {g} st l = on (decided (marksSome k g)) (λ s x. arrives n {g = nextStage k g} s x) where
       on : (marksSome k g ≡ true) ⊎ (marksSome k g ≡ false) →
           (Staged sh hs (nextStage k g) → nextStage k g .shape .states ≤ n →
-          Ends k (nextStage k g) (repeated k n (nextStage k g)) × Staged sh hs (repeated k n (nextStage k g))) →
-          Ends k g (repeated k (suc n) g) × Staged sh hs (repeated k (suc n) g)
+          EndsIn k (nextStage k g) (iterated k n (nextStage k g)) × Staged sh hs (iterated k n (nextStage k g))) →
+          EndsIn k g (iterated k (suc n) g) × Staged sh hs (iterated k (suc n) g)
       on (inl e) ih =
           let f = fewer-states k g (st .reducible) e in
           let (s, t, m) = some-marked k g e in
@@ -70,20 +70,20 @@ module _ (k : ℕ) where
   last-still g e = repeated-still (g .shape .states) g e
 
   -- where a repetition ends no hop is marked
-  ends-still : {g h : Stage} → Ends k g h → (s t : ℕ) → In (markedAt k h) s t → ⊥
+  ends-still : {g h : Stage} → EndsIn k g h → (s t : ℕ) → In (stageMarked k h) s t → ⊥
   ends-still (still none) = none
   ends-still (again _ _ _ p) = ends-still p
 
   -- a repetition ends in one stage only
-  pub ends-only : {g h i : Stage} → Ends k g h → Ends k g i → h ≡ i
-  ends-only (still none) (still _) = refl
-  ends-only (still none) (again s t m _) = absurd (none s t m)
-  ends-only (again s t m _) (still none) = absurd (none s t m)
-  ends-only (again _ _ _ p) (again _ _ _ q) = ends-only p q
+  pub ends-in-unique : {g h i : Stage} → EndsIn k g h → EndsIn k g i → h ≡ i
+  ends-in-unique (still none) (still _) = refl
+  ends-in-unique (still none) (again s t m _) = absurd (none s t m)
+  ends-in-unique (again s t m _) (still none) = absurd (none s t m)
+  ends-in-unique (again _ _ _ p) (again _ _ _ q) = ends-in-unique p q
 
 -- of every graph that rows 1 to 5 let pass
 module _ (k : ℕ) {sh : Shape} {hs : List ℕ} (red : Reducible sh hs) where
-  both : Ends k (firstStage sh hs) (lastStage k sh hs) × Staged sh hs (lastStage k sh hs)
+  both : EndsIn k (firstStage sh hs) (lastStage k sh hs) × Staged sh hs (lastStage k sh hs)
   unfolding lastOf
   both = arrives k (sh .states) (first-staged red) (omega arith)
 
@@ -91,17 +91,17 @@ module _ (k : ℕ) {sh : Shape} {hs : List ℕ} (red : Reducible sh hs) where
   last-staged = both .1
 
   -- "until no hop is marked": the repetition ends in the last stage
-  pub last-ends : Ends k (firstStage sh hs) (lastStage k sh hs)
-  last-ends = both .0
+  pub last-ends-in : EndsIn k (firstStage sh hs) (lastStage k sh hs)
+  last-ends-in = both .0
 
   -- what is returned has no marked hop
-  pub last-unmarked : (s t : ℕ) → In (markedAt k (lastStage k sh hs)) s t → ⊥
-  last-unmarked = ends-still k last-ends
+  pub last-unmarked : (s t : ℕ) → In (stageMarked k (lastStage k sh hs)) s t → ⊥
+  last-unmarked = ends-still k last-ends-in
 
   -- "the returned map has none"
-  pub last-right : auditOf sh (lastStage k sh hs .shape) hs (lastStage k sh hs .hops) (lastStage k sh hs .map) ≡ faultless
-  last-right = last-staged .right
+  pub last-audit-zero : auditOf sh (lastStage k sh hs .shape) hs (lastStage k sh hs .hops) (lastStage k sh hs .map) ≡ faultless
+  last-audit-zero = last-staged .right
 
   -- "the number of reductions is below the first state count"
-  pub last-below : lastStage k sh hs .reductions < sh .states
-  last-below = omega (arith, last-staged .few, last-staged .reducible .admitted .states-some)
+  pub last-reductions-lt-states : lastStage k sh hs .reductions < sh .states
+  last-reductions-lt-states = omega (arith, last-staged .few, last-staged .reducible .admitted .states-some)

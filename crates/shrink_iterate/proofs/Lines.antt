@@ -20,7 +20,7 @@ use Rattle.reduce_representatives.specs.Representative.{isNormal, newOf, mapOf}
 use Rattle.reduce_short_graph.specs.Short.{becomes, image, shortHops, comesFrom}
 use Rattle.reduce_short_graph.proofs.Images.{short-ascending, short-has}
 use Rattle.reduce_short_graph.proofs.Lines.{short-line-smallest}
-use Rattle.shrink_iterate.specs.Repeating.{Stage, nextStage, markedAt, marksSome, repeated, comesThrough, firstStage, lastStage, lastOf}
+use Rattle.shrink_iterate.specs.Iterate.{Stage, nextStage, stageMarked, marksSome, iterated, comesThrough, firstStage, lastStage, lastOf}
 
 -- hops that are alike become hops that are alike, and come to the same hops in the end
 module _ (sh : Shape) (hs : List ℕ) (u : Pairs) where
@@ -30,16 +30,16 @@ module _ (sh : Shape) (hs : List ℕ) (u : Pairs) where
 through-alike : (k n : ℕ) (g : Stage) (h : Hop) {x y : Hop} → Alike x y → comesThrough k n g h x ≡ true → comesThrough k n g h y ≡ true
 unfolding comesThrough
 through-alike k zero g h {x} {y} e c = alike-same (alike-then (alike-back e) (same-alike x h c))
-through-alike k (suc n) g h {x} {y} e c = go (marksSome k g) (λ d. through-alike k n (nextStage k g) h (becomes-alike (g .shape) (g .hops) (markedAt k g) e) d) c where
+through-alike k (suc n) g h {x} {y} e c = go (marksSome k g) (λ d. through-alike k n (nextStage k g) h (becomes-alike (g .shape) (g .hops) (stageMarked k g) e) d) c where
   on : Hop → Bool
-  on z = isNormal (g .hops) (markedAt k g) (z .from) && comesThrough k n (nextStage k g) h (becomes (g .shape) (g .hops) (markedAt k g) z)
+  on z = isNormal (g .hops) (stageMarked k g) (z .from) && comesThrough k n (nextStage k g) h (becomes (g .shape) (g .hops) (stageMarked k g) z)
 
   go : (m : Bool) →
-      (comesThrough k n (nextStage k g) h (becomes (g .shape) (g .hops) (markedAt k g) x) ≡ true →
-      comesThrough k n (nextStage k g) h (becomes (g .shape) (g .hops) (markedAt k g) y) ≡ true) → cond m (on x) (same x h) ≡ true → cond m (on y) (same y h) ≡ true
+      (comesThrough k n (nextStage k g) h (becomes (g .shape) (g .hops) (stageMarked k g) x) ≡ true →
+      comesThrough k n (nextStage k g) h (becomes (g .shape) (g .hops) (stageMarked k g) y) ≡ true) → cond m (on x) (same x h) ≡ true → cond m (on y) (same y h) ≡ true
   go true ih d =
-      and-yes (ap (isNormal (g .hops) (markedAt k g)) (sym (e .same-from)) ∙ and-left (isNormal (g .hops) (markedAt k g) (x .from)) _ d)
-      (ih (and-right (isNormal (g .hops) (markedAt k g) (x .from)) _ d))
+      and-yes (ap (isNormal (g .hops) (stageMarked k g)) (sym (e .same-from)) ∙ and-left (isNormal (g .hops) (stageMarked k g) (x .from)) _ d)
+      (ih (and-right (isNormal (g .hops) (stageMarked k g) (x .from)) _ d))
   go false ih d = alike-same (alike-then (alike-back e) (same-alike x h d))
 
 -- a hop that comes from itself alone has its own line
@@ -86,18 +86,18 @@ module _ (k : ℕ) where
   Carried n g z = (p : ℕ) → p < count (z .hops) →
       Smallest (λ (i : ℕ). comesThrough k n g (hopAt (z .hops) p) (hopAt (g .hops) i)) (lineAt (g .hops)) (count (g .hops)) (lineAt (z .hops) p)
 
-  pub repeated-line : (n : ℕ) (g : Stage) → Ascending (g .hops) → Carried n g (repeated k n g)
-  unfolding repeated comesThrough
-  repeated-line zero g up = λ p l. own-line (g .hops) up l
-  repeated-line (suc n) g up = go (marksSome k g) (λ p l. repeated-line n (nextStage k g) (short-ascending (g .shape) (g .hops) (markedAt k g)) p l) where
-    go : (m : Bool) → Carried n (nextStage k g) (repeated k n (nextStage k g)) → (p : ℕ) → p < count ((cond m (repeated k n (nextStage k g)) g) .hops) →
+  pub iterated-line : (n : ℕ) (g : Stage) → Ascending (g .hops) → Carried n g (iterated k n g)
+  unfolding iterated comesThrough
+  iterated-line zero g up = λ p l. own-line (g .hops) up l
+  iterated-line (suc n) g up = go (marksSome k g) (λ p l. iterated-line n (nextStage k g) (short-ascending (g .shape) (g .hops) (stageMarked k g)) p l) where
+    go : (m : Bool) → Carried n (nextStage k g) (iterated k n (nextStage k g)) → (p : ℕ) → p < count ((cond m (iterated k n (nextStage k g)) g) .hops) →
         Smallest (λ (i : ℕ). cond m
-        (isNormal (g .hops) (markedAt k g) (from (g .hops) i) &&
-        comesThrough k n (nextStage k g) (hopAt ((cond m (repeated k n (nextStage k g)) g) .hops) p) (image (g .shape) (g .hops) (markedAt k g) i))
-        (same (hopAt (g .hops) i) (hopAt ((cond m (repeated k n (nextStage k g)) g) .hops) p))) (lineAt (g .hops)) (count (g .hops))
-        (lineAt ((cond m (repeated k n (nextStage k g)) g) .hops) p)
+        (isNormal (g .hops) (stageMarked k g) (from (g .hops) i) &&
+        comesThrough k n (nextStage k g) (hopAt ((cond m (iterated k n (nextStage k g)) g) .hops) p) (image (g .shape) (g .hops) (stageMarked k g) i))
+        (same (hopAt (g .hops) i) (hopAt ((cond m (iterated k n (nextStage k g)) g) .hops) p))) (lineAt (g .hops)) (count (g .hops))
+        (lineAt ((cond m (iterated k n (nextStage k g)) g) .hops) p)
     go true ih p l =
-        back-one (g .shape) (g .hops) (markedAt k g) (comesThrough k n (nextStage k g) (hopAt (repeated k n (nextStage k g) .hops) p))
+        back-one (g .shape) (g .hops) (stageMarked k g) (comesThrough k n (nextStage k g) (hopAt (iterated k n (nextStage k g) .hops) p))
         (λ x y e c. through-alike k n (nextStage k g) _ e c) (ih p l)
     go false ih p l = own-line (g .hops) up l
 
@@ -106,9 +106,9 @@ module _ (k : ℕ) (sh : Shape) (hs : List ℕ) (up : Ascending hs) {p : ℕ} (l
   abbrev pub firstFor : ℕ → Bool
   firstFor i = comesThrough k (sh .states) (firstStage sh hs) (hopAt (lastStage k sh hs .hops) p) (hopAt hs i)
 
-  pub last-line-means : Smallest firstFor (lineAt hs) (count hs) (lineAt (lastStage k sh hs .hops) p)
+  pub last-line-smallest : Smallest firstFor (lineAt hs) (count hs) (lineAt (lastStage k sh hs .hops) p)
   unfolding lastOf
-  last-line-means = repeated-line k (sh .states) (firstStage sh hs) up p l
+  last-line-smallest = iterated-line k (sh .states) (firstStage sh hs) up p l
 
   pub last-line : lineAt (lastStage k sh hs .hops) p ≡ smallestLine firstFor (lineAt hs) (count hs)
-  last-line = smallest-only last-line-means (smallest-is firstFor (lineAt hs) (count hs))
+  last-line = smallest-only last-line-smallest (smallest-is firstFor (lineAt hs) (count hs))

@@ -22,7 +22,7 @@ use Rattle.reduce_short_graph.specs.Short.{shortHops, shortShape}
 use Rattle.reduce_short_graph.proofs.Images.{short-only}
 use Rattle.reduce_short_graph.proofs.Reduces.{short-renumbered}
 use Rattle.reduce_entry.proofs.Marked.{marked-terminating}
-use Rattle.shrink_iterate.specs.Repeating.{Stage, firstStage, nextStage, marksSome, lastStage}
+use Rattle.shrink_iterate.specs.Iterate.{Stage, firstStage, nextStage, marksSome, lastStage}
 use Rattle.shrink_iterate.proofs.Stages.{some-marked, first-staged}
 use Rattle.shrink_iterate.proofs.Last.{last-again, last-still}
 
@@ -46,8 +46,8 @@ unfolding senseOf
 next-still g red = no-test _ (λ e. let (n, m, w) = some-marked 8 (nextStage 8 g) e in left-unmarked red n m w)
 
 -- under R8 the number of reductions is 0 or 1
-pub once-most : {sh : Shape} {hs : List ℕ} → Reducible sh hs → lastStage 8 sh hs .reductions ≤ 1
-once-most {sh} {hs} red = ⊎-elim moved (λ e. omega (arith, counted (last-still 8 first e))) (decided (marksSome 8 first)) where
+pub r8-reductions-le-one : {sh : Shape} {hs : List ℕ} → Reducible sh hs → lastStage 8 sh hs .reductions ≤ 1
+r8-reductions-le-one {sh} {hs} red = ⊎-elim moved (λ e. omega (arith, counted (last-still 8 first e))) (decided (marksSome 8 first)) where
   first : Stage
   first = firstStage sh hs
 

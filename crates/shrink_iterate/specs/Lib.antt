@@ -1,1 +1,1 @@
-pub mod Repeating  -- reducing again and again until no hop is marked
+pub mod Iterate  -- reducing again and again until no hop is marked

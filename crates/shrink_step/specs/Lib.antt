@@ -1,1 +1,1 @@
-pub mod Reached  -- the stage that the code holds
+pub mod Progress  -- the stage that the code holds

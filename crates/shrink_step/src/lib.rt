@@ -14,7 +14,7 @@ use graph::hops::part;
 use graph_successors::starts_of;
 use reduce_by_marks::reduce_marked;
 use reduce_entry::entry::mark_in;
-use shrink_compose::put_behind;
+use shrink_compose::put_composed;
 ghost use mathlib.Core.Path.{_≡_};
 ghost use mathlib.Core.Bool.{cond, not, _&&_};
 ghost use Prim.Native.Nat.{_<_, _≤_};
@@ -27,12 +27,12 @@ ghost use Rattle.graph.specs.Answers.{most-states};
 ghost use Rattle.mark_confluence.specs.MarkSet.{isMarked, marksOf};
 ghost use Rattle.mark_senses.specs.Senses.{markedBy};
 ghost use Rattle.reduce_representatives.specs.Tables.{Reducible};
-ghost use Rattle.shrink_compose.specs.Chained.{Into};
-ghost use Rattle.shrink_iterate.specs.Repeating.{someMarked, marksSome, nextStage};
-ghost use Rattle.shrink_step.specs.Reached.{stageOf};
+ghost use Rattle.shrink_compose.specs.Composed.{Into};
+ghost use Rattle.shrink_iterate.specs.Iterate.{someMarked, marksSome, nextStage};
+ghost use Rattle.shrink_step.specs.Progress.{stageOf};
 
 // How far the repetition has come, besides the hops and the map; and whether there may be more to do.
-pub struct Reached {
+pub struct Progress {
     pub shape: Shape,
     pub hops: usize,
     pub reductions: usize,
@@ -55,7 +55,7 @@ fn is_any(marks: &[u8], n: usize) -> bool
 }
 
 // A look at a graph that every row lets pass: it is marked, and whether some hop is marked is told.
-fn look(shape: Shape, hops: &[u16], sense: u32, marks: &mut [u8]) -> bool
+fn mark_stage(shape: Shape, hops: &[u16], sense: u32, marks: &mut [u8]) -> bool
     requires reducible { ⌜ Reducible shape (now hops) ⌝ }
     requires capacity { ⌜ count (now hops) ≤ length (now marks) ⌝ }
     ensures some { λ r. ⌜ r ≡ someMarked sense shape (now (hops .entry)) ⌝ }
@@ -69,7 +69,7 @@ fn look(shape: Shape, hops: &[u16], sense: u32, marks: &mut [u8]) -> bool
 
 // One turn, of the graph at the front of the hops. Where nothing is marked all stays as it was, and there is no more to do; nor is there behind a reduction
 // under R8, which leaves nothing that R8 marks (repeating: next-still).
-pub fn turn(at: Reached, hops: &mut [u16], sense: u32, map: &mut [u16]) -> Reached
+pub fn step(at: Progress, hops: &mut [u16], sense: u32, map: &mut [u16]) -> Progress
     requires reducible { ⌜ Reducible (at .shape) (between (now hops) 0 (at .hops)) ⌝ }
     requires there { ⌜ at .hops ≤ count (now hops) ⌝ }
     requires few { ⌜ length (now map) ≤ most-states ⌝ }
@@ -86,8 +86,8 @@ pub fn turn(at: Reached, hops: &mut [u16], sense: u32, map: &mut [u16]) -> Reach
     let n = at.hops;
     let seen = part(hops, 0, n);
     let mut marks = [0u8; MOST_HOPS];
-    if !look(shape, seen, sense, &mut marks) {
-        return Reached {
+    if !mark_stage(shape, seen, sense, &mut marks) {
+        return Progress {
             shape,
             hops: n,
             reductions: at.reductions,
@@ -98,11 +98,11 @@ pub fn turn(at: Reached, hops: &mut [u16], sense: u32, map: &mut [u16]) -> Reach
     let mut short = [0u16; MOST_NUMBERS];
     let made = reduce_marked(shape, seen, &marks, &mut next, &mut short);
     let states = shape.states as usize;
-    put_behind(map, &next[..states]);
+    put_composed(map, &next[..states]);
     let left = made.shape;
     let m = made.hops;
     put_numbers(hops, part(&short, 0, m));
-    Reached {
+    Progress {
         shape: left,
         hops: m,
         reductions: at.reductions + 1,

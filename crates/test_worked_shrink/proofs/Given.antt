@@ -23,9 +23,9 @@ use Rattle.reduce_representatives.specs.Representative.{markedFrom, isNormal, n
 use Rattle.reduce_insertion.specs.Insertion.{insert, collected}
 use Rattle.reduce_short_graph.specs.Short.{shortUpTo, shortHops, shortShape, mapList}
 use Rattle.reduce_entry.specs.Reduce.{reduceAnswer}
-use Rattle.shrink_compose.specs.Chained.{chained, ownMap}
-use Rattle.shrink_iterate.specs.Repeating.{Stage, firstStage, nextStage, markedAt, someMarked, marksSome, repeated, lastOf, lastStage}
-use Rattle.shrink_entry.specs.Shrink.{shrinkOf, lastMap, lastHops}
+use Rattle.shrink_compose.specs.Composed.{composed, identityMap}
+use Rattle.shrink_iterate.specs.Iterate.{Stage, firstStage, nextStage, stageMarked, someMarked, marksSome, iterated, lastOf, lastStage}
+use Rattle.shrink_entry.specs.Shrink.{shrinkOf, shrinkMapOutput, shrinkHopsOutput}
 use Rattle.base_outputs.specs.Output.{onFront}
 use Rattle.graph.specs.Answers.{accepted}
 use Rattle.shrink_entry.specs.declared.Shrinking.{Shrinking}
@@ -37,7 +37,7 @@ data Marks (k : ℕ) (g : Stage) (ms : List ℕ) : Type 0 where
   marks : all (count (g .hops)) (closesAt (senseOf k) (g .shape) (g .hops) ms) ≡ true →
       all (count (g .hops)) (leftAt (senseOf k) (g .shape) (g .hops) ms) ≡ true → Marks k g ms
 
-marks-are : {k : ℕ} {g : Stage} {ms : List ℕ} → Marks k g ms → markedAt k g ≡ markSet (g .hops) ms
+marks-are : {k : ℕ} {g : Stage} {ms : List ℕ} → Marks k g ms → stageMarked k g ≡ markSet (g .hops) ms
 marks-are {k} {g} {ms} (marks c l) = sym (settled (senseOf k) (g .shape) (g .hops) ms c l)
 
 -- a stage's test and its next stage, along any set
@@ -48,7 +48,7 @@ abbrev next : Stage → Pairs → Stage
 next g u = record {
   shape = shortShape (g .shape) (g .hops) u;
   hops = flat (shortHops (g .shape) (g .hops) u);
-  map = chained (g .map) (mapList (g .shape) (g .hops) u);
+  map = composed (g .map) (mapList (g .shape) (g .hops) u);
   reductions = suc (g .reductions);
 }
 
@@ -71,12 +71,12 @@ module _ {k : ℕ} {g : Stage} {ms : List ℕ} (m : Marks k g ms) where
   next-is : {h : Stage} → next g (markSet (g .hops) ms) ≡ h → nextStage k g ≡ h
   next-is e = ap (next g) (marks-are m) ∙ e
 
-  marks-is : marksOf (g .hops) (markSet (g .hops) ms) ≡ ms → marksOf (g .hops) (markedAt k g) ≡ ms
+  marks-is : marksOf (g .hops) (markSet (g .hops) ms) ≡ ms → marksOf (g .hops) (stageMarked k g) ≡ ms
   marks-is e = ap (marksOf (g .hops)) (marks-are m) ∙ e
 
 -- so the repetition ends in the last of them
-steps-end : (k n : ℕ) (g : Stage) (ts : List Turn) → length ts ≤ n → Steps k g ts → repeated k n g ≡ end g ts
-unfolding repeated end
+steps-end : (k n : ℕ) (g : Stage) (ts : List Turn) → length ts ≤ n → Steps k g ts → iterated k n g ≡ end g ts
+unfolding iterated end
 steps-end k zero g [] l e = refl
 steps-end k (suc n) g [] l (still m e) = rw (some-is m e)
 steps-end k zero g (t ∷ ts) l e = absurd (omega arith)
@@ -104,7 +104,7 @@ record Row (m : Shrunk) : Type 0 where
   shorts : onFront (last m .hops) (m .short) ≡ m .short-after
 
 row-given : {m : Shrunk} → Row m → shrunkOf m ≡ m
-unfolding lastOf shrinkOf lastMap lastHops
+unfolding lastOf shrinkOf shrinkMapOutput shrinkHopsOutput
 row-given {m} r = λ d. record {
   graph = m .graph;
   hops = m .hops;
@@ -123,10 +123,10 @@ row-given {m} r = λ d. record {
     returned : shrinkOf (m .graph) (flat (m .hops)) (m .sense) (length (m .map)) (length (m .short)) ≡ m .returned
     returned = rw (r .answers) (ap figures is ∙ r .returns)
 
-    mapped : lastMap (m .graph) (flat (m .hops)) (m .sense) (m .map) (m .short) ≡ m .map-after
+    mapped : shrinkMapOutput (m .graph) (flat (m .hops)) (m .sense) (m .map) (m .short) ≡ m .map-after
     mapped = rw (r .answers) (ap (λ (g : Stage). onFront (g .map) (m .map)) is ∙ r .maps)
 
-    shortened : lastHops (m .graph) (flat (m .hops)) (m .sense) (m .map) (m .short) ≡ m .short-after
+    shortened : shrinkHopsOutput (m .graph) (flat (m .hops)) (m .sense) (m .map) (m .short) ≡ m .short-after
     shortened = rw (r .answers) (ap (λ (g : Stage). onFront (g .hops) (m .short)) is ∙ r .shorts)
 
 data Rows : List Shrunk → Type 0 where
@@ -142,7 +142,7 @@ unfolding
     all any least tabulate tally flat is labelled has before checkOf countsFit inside firstOutside ascendsAt firstNotAscending leadsBy onRing lowestOnRing ringAnswer approximant tried
     inSetAt reachesBy hopOrStay joinsAt answersTo answersFrom answeredIn closesIn markedIn isSense senseOf senseAnswer markedFrom isNormal nextState afterSteps repOf newOf mapOf
     insert collected shortUpTo shortHops shortShape mapList reduceAnswer
-    chained ownMap isMarked markSetAt markSet marksOf markOf closesAt leftAt end
+    composed identityMap isMarked markSetAt markSet marksOf markOf closesAt leftAt end
 rows = row chain-r1-row (row chain-r2-row (row chain-r3-row (row chain-r8-row (row p1-r1-row (row p2-r1-row (row twice-r2-row none)))))) where
   chain-r1-row : Row chain-r1
   chain-r1-row = record { answers = refl; few = refl; steps = step (marks refl refl) refl refl refl (step (marks refl refl) refl refl refl (still (marks refl refl) refl)); returns = refl; maps = refl; shorts = refl }

@@ -10,8 +10,8 @@ use Rattle.graph.specs.declared.Hop.{Hop}
 use Rattle.graph.specs.declared.Shape.{Shape}
 use Rattle.graph.specs.declared.Answer.{Answer}
 use Rattle.mark_confluence.specs.MarkSet.{marksOf}
-use Rattle.shrink_iterate.specs.Repeating.{Stage, firstStage, nextStage, markedAt}
-use Rattle.shrink_entry.specs.Shrink.{shrinkOf, lastMap, lastHops}
+use Rattle.shrink_iterate.specs.Iterate.{Stage, firstStage, nextStage, stageMarked}
+use Rattle.shrink_entry.specs.Shrink.{shrinkOf, shrinkMapOutput, shrinkHopsOutput}
 use Rattle.shrink_entry.specs.declared.Shrinking.{Shrinking}
 
 -- a hop as document 01 writes it; a state count and a label count, with initial state 0
@@ -59,7 +59,7 @@ pub record Table : Type 0 where
 -- the definitions' own account: the reductions one after the other, as many as are said
 unfoldable pub turnsOf : ℕ → Stage → List Turn → List Turn
 turnsOf k g [] = []
-turnsOf k g (_ ∷ ts) = record { marks = marksOf (g .hops) (markedAt k g); stage = nextStage k g } ∷ turnsOf k (nextStage k g) ts
+turnsOf k g (_ ∷ ts) = record { marks = marksOf (g .hops) (stageMarked k g); stage = nextStage k g } ∷ turnsOf k (nextStage k g) ts
 
 abbrev pub shrunkOf : Shrunk → Shrunk
 shrunkOf m = record {
@@ -70,8 +70,8 @@ shrunkOf m = record {
   short = m .short;
   turns = turnsOf (m .sense) (firstStage (m .graph) (flat (m .hops))) (m .turns);
   returned = shrinkOf (m .graph) (flat (m .hops)) (m .sense) (length (m .map)) (length (m .short));
-  map-after = lastMap (m .graph) (flat (m .hops)) (m .sense) (m .map) (m .short);
-  short-after = lastHops (m .graph) (flat (m .hops)) (m .sense) (m .map) (m .short);
+  map-after = shrinkMapOutput (m .graph) (flat (m .hops)) (m .sense) (m .map) (m .short);
+  short-after = shrinkHopsOutput (m .graph) (flat (m .hops)) (m .sense) (m .map) (m .short);
 }
 
 abbrev pub refusedOf : Refused → Refused

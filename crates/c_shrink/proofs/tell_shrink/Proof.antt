@@ -5,7 +5,7 @@ use Rattle.shrink_entry.specs.declared.Shrinking.{Shrinking}
 use Rattle.c_shrink.specs.Numbers.{shrinkingNumbers}
 use lib.ListN.{length}
 use Rattle.reduce_entry.specs.Reduce.{reduceAnswer}
-use Rattle.shrink_entry.specs.Shrink.{shrinkOf, lastMap, lastHops}
+use Rattle.shrink_entry.specs.Shrink.{shrinkOf, shrinkMapOutput, shrinkHopsOutput}
 use Rattle.c_answer.specs.Numbers.{shapeOf}
 use Rattle.c_answer.proofs.Answers.{returned-of}
 use Rattle.c_answer.proofs.Told.{told-of, short-told, short-kept, left-long}
@@ -57,8 +57,8 @@ returns-2 c =
     let old = s .answer .now in (
       returned-of 8 (length old) (ap (λ (x : Shrinking). x .answer) {y = r} (w .0) ∙ shrunk-answer sh hs k (length m) (length n)) (t .0),
       (
-        left-long 8 old (lastMap sh hs k m n) m l (w .1 .0),
-        (left-long 8 old (lastHops sh hs k m n) n l (w .1 .1), told-of shrinkingNumbers 8 old {y = r} (w .0) (t .1)),
+        left-long 8 old (shrinkMapOutput sh hs k m n) m l (w .1 .0),
+        (left-long 8 old (shrinkHopsOutput sh hs k m n) n l (w .1 .1), told-of shrinkingNumbers 8 old {y = r} (w .0) (t .1)),
       ),
     )
 

@@ -3,7 +3,7 @@ use mathlib.Core.Path.{_≡_, refl, ap, _∙_}
 use native.Mathlib.Omega.{arith}
 use lib.ListN.{length}
 use Rattle.graph.specs.Hops.{between}
-use Rattle.shrink_compose.specs.Chained.{ownMap}
+use Rattle.shrink_compose.specs.Composed.{identityMap}
 use Rattle.shrink_entry.proofs.Standing.{Standing, left, first-stands, map-few, map-into, counted, stands-last, next-stands, left-falls}
 use Rattle.shrink_entry.proofs.repeat.Statement.{statement}
 use Rattle.shrink_entry.proofs.repeat.Tie as tie
@@ -15,19 +15,19 @@ Inv-loop hops₀ n sense map₀ at₀ hops map at =
 abbrev μ-loop : tie.MeasureT-loop
 μ-loop hops₀ n sense map₀ at₀ hops map at = left at
 
-put-own-requires : tie.Need-put-own-requires Inv-loop μ-loop
-put-own-requires c κs =
+put-identity-requires : tie.Need-put-identity-requires Inv-loop μ-loop
+put-identity-requires c κs =
     let st = c .before .before .before in
     omega (arith, st .pre .1 .1, st .pre .0 .admitted .states-most)
 
 loop-holds : tie.Need-loop-holds Inv-loop μ-loop
 loop-holds c =
     let st = c .before .before .before .before .before .before in
-    let own = c .before .before .put-own .ensures ∙ ap ownMap (st .pre .1 .1) in
+    let own = c .before .before .put-identity .ensures ∙ ap identityMap (st .pre .1 .1) in
     (first-stands (st .args .sense) (st .args .shape) (st .args .hops .now) _ (st .args .n) (st .pre .0) (st .pre .1 .0) own, refl, refl)
 
-turn-requires : tie.Need-turn-requires Inv-loop μ-loop
-turn-requires c κs =
+step-requires : tie.Need-step-requires Inv-loop μ-loop
+step-requires c κs =
     let k = c .before .before .before .before .before .before .before .before .before .before .args .sense in
     let v = c .before .before .before .loop .inv .0 in
     (v .staged .reducible, (v .there, (map-few k v, (map-into k v, counted k v))))
@@ -36,21 +36,21 @@ loop-less : tie.Need-loop-less Inv-loop μ-loop
 loop-less c =
     let k = c .before .before .before .before .before .before .before .before .before .before .before .before .before .before .before .args .sense in
     let v = c .before .before .before .before .before .before .before .before .loop .inv in
-    let t = c .before .before .before .before .turn in
+    let t = c .before .before .before .before .step in
     left-falls k (v .0) _ _ (t .ensures .0) (t .ensures .1 .0) (t .ensures .1 .1) (c .before .before .before .before .before .before .before .loop-test .taken)
 
 loop-again : tie.Need-loop-again Inv-loop μ-loop
 loop-again c =
     let k = c .before .before .before .before .before .before .before .before .before .before .before .before .before .before .before .args .sense in
     let v = c .before .before .before .before .before .before .before .before .loop .inv in
-    let t = c .before .before .before .before .turn in
+    let t = c .before .before .before .before .step in
     (next-stands k (v .0) _ _ (t .ensures .0) (t .ensures .1 .0) (t .ensures .1 .1), t .kept .1 .0 ∙ v .1, t .kept .1 .1 .1 .0 ∙ v .2)
 
 same-length : tie.Need-same-length Inv-loop μ-loop
 same-length c = c .before .loop .inv .1
 
 same-length-2 : tie.Need-same-length-2 Inv-loop μ-loop
-same-length-2 c = c .before .loop .inv .2 ∙ c .before .before .before .before .put-own .kept .0
+same-length-2 c = c .before .loop .inv .2 ∙ c .before .before .before .before .put-identity .kept .0
 
 returns : tie.Need-returns Inv-loop μ-loop
 returns c =
@@ -64,9 +64,9 @@ repeat-spec =
     (tie.spec
     Inv-loop
     μ-loop
-    put-own-requires
+    put-identity-requires
     loop-holds
-    turn-requires
+    step-requires
     loop-less
     loop-again
     same-length

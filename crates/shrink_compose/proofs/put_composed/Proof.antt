@@ -1,4 +1,4 @@
--- `shrink_compose::put_behind` meets its contract: after s turns the first s entries lead on, the others are as they were. Assumes nothing.
+-- `shrink_compose::put_composed` meets its contract: after s turns the first s entries lead on, the others are as they were. Assumes nothing.
 use Prim.Native.Nat.{ℕ, _-_, _≤_}
 use mathlib.Core.Path.{_≡_, refl, ap, _∙_}
 use mathlib.Core.List.{List}
@@ -11,9 +11,9 @@ use Rattle.graph.specs.Answers.{most-states}
 use Rattle.graph.specs.Map.{mapped}
 use Rattle.base_outputs.specs.Output.{onFront}
 use Rattle.base_outputs.proofs.Front.{front-past, front-all, tabulate-none, tabulate-more, tabulate-done}
-use Rattle.shrink_compose.specs.Chained.{chained, Into}
-use Rattle.shrink_compose.proofs.put_behind.Statement.{statement}
-use Rattle.shrink_compose.proofs.put_behind.Tie as tie
+use Rattle.shrink_compose.specs.Composed.{composed, Into}
+use Rattle.shrink_compose.proofs.put_composed.Statement.{statement}
+use Rattle.shrink_compose.proofs.put_composed.Tie as tie
 
 -- where the two maps lead
 abbrev on : List ℕ → List ℕ → ℕ → ℕ
@@ -72,14 +72,14 @@ same-length : tie.Need-same-length Inv-loop μ-loop
 same-length c = omega arith
 
 returns : tie.Need-returns Inv-loop μ-loop
-unfolding chained
+unfolding composed
 returns c =
     let s = c .before .before .before .before .args in
     let f = on (s .map .now) (s .next .now) in
     tabulate-done f (s .map .now) (c .before .loop .inv .0) (omega arith) (omega arith) ∙ front-all (tabulate (length (s .map .now)) f) (s .map .now) (length-tabulate f (length (s .map .now)))
 
-pub put-behind-spec : {M : Type 1} → statement M
-put-behind-spec =
+pub put-composed-spec : {M : Type 1} → statement M
+put-composed-spec =
     tie.close
     (tie.spec
     Inv-loop

@@ -22,14 +22,14 @@ use Rattle.reduce_by_marks.specs.ByMarks.{shortGraph, mapAfter, shortAfter}
 use Rattle.reduce_by_marks.specs.declared.ShortGraph.{ShortGraph}
 use Rattle.reduce_entry.specs.Reduce.{reducedState, reducedMap, reducedHops, reducedShape}
 use Rattle.reduce_entry.proofs.Marked.{marked-within, after-shape, after-hops, after-map, after-short}
-use Rattle.shrink_compose.specs.Chained.{chained}
-use Rattle.shrink_iterate.specs.Repeating.{Stage, nextStage}
-use Rattle.shrink_step.specs.Reached.{stageOf}
-use Rattle.shrink_step.specs.declared.Reached.{Reached}
+use Rattle.shrink_compose.specs.Composed.{composed}
+use Rattle.shrink_iterate.specs.Iterate.{Stage, nextStage}
+use Rattle.shrink_step.specs.Progress.{stageOf}
+use Rattle.shrink_step.specs.declared.Progress.{Progress}
 
 -- where the code stands, the part of the hops that it has marked and reduced, and what that returned
 module _
-    (k : ℕ) (at : Reached) (hops map : List ℕ) {seen : List ℕ} (p : seen ≡ between hops 0 (at .hops)) (ms out : List ℕ)
+    (k : ℕ) (at : Progress) (hops map : List ℕ) {seen : List ℕ} (p : seen ≡ between hops 0 (at .hops)) (ms out : List ℕ)
     (e : ms ≡ onFront (marksOf seen (markedBy k (at .shape) seen)) out) {made : ShortGraph} (made-is : made ≡ shortGraph (at .shape) seen (markSet seen ms))
   where
     abbrev g : Stage
@@ -64,17 +64,17 @@ module _
       pub short-capacity : {part : List ℕ} → part ≡ between short 0 (made .hops) → at .hops ≤ count hops → length part ≤ length hops
       short-capacity q l = omega (arith, ap length (q ∙ short-hops), length-flat (reducedHops (g .shape) (g .hops) k), hops-are, hops-fewer l)
 
-      pub turned : (was : List ℕ) {next then part after : List ℕ} → next ≡ mapAfter (at .shape) seen ms was → part ≡ between short 0 (made .hops) →
-          after ≡ onFront part hops → then ≡ chained map (take (at .shape .states) next) →
+      pub stepped : (was : List ℕ) {next then part after : List ℕ} → next ≡ mapAfter (at .shape) seen ms was → part ≡ between short 0 (made .hops) →
+          after ≡ onFront part hops → then ≡ composed map (take (at .shape .states) next) →
           stageOf (record { shape = made .shape; hops = made .hops; reductions = at .reductions + 1; more = true }) after then ≡ nextStage k g
       unfolding mapList
-      turned was {then = then} {after = after} f q r t = λ d. record { shape = shape-is d; hops = last d; map = on d; reductions = add-one (at .reductions) d } where
+      stepped was {then = then} {after = after} f q r t = λ d. record { shape = shape-is d; hops = last d; map = on d; reductions = add-one (at .reductions) d } where
         last : between after 0 (made .hops) ≡ flat (reducedHops (g .shape) (g .hops) k)
         last =
             ap (λ (x : List ℕ). between x 0 (made .hops)) (r ∙ ap (λ (x : List ℕ). onFront x hops) (q ∙ short-hops)) ∙
             flat-front (reducedHops (g .shape) (g .hops) k) _ hops-are
 
-        on : then ≡ chained map (reducedMap (g .shape) (g .hops) k)
+        on : then ≡ composed map (reducedMap (g .shape) (g .hops) k)
         on =
-            t ∙ ap (chained map) (ap (take (at .shape .states)) (rw p at (after-map (at .shape) seen u ms out e silent was f)) ∙
+            t ∙ ap (composed map) (ap (take (at .shape .states)) (rw p at (after-map (at .shape) seen u ms out e silent was f)) ∙
             take-at (reducedMap (g .shape) (g .hops) k) _ (at .shape .states) (length-tabulate (reducedState (g .shape) (g .hops) k) (at .shape .states)))

@@ -12,9 +12,9 @@ use Rattle.reduce_entry.specs.Reduce.{reduceAnswer}
 use Rattle.reduce_entry.proofs.Answering.{reduce-reducible}
 use Rattle.audit_entry.specs.Audit.{auditOf, faultless}
 use Rattle.audit_entry.proofs.Answering.{faultless-iff}
-use Rattle.shrink_iterate.specs.Repeating.{Stage, lastStage}
-use Rattle.shrink_iterate.proofs.Last.{last-staged, last-right, last-below}
-use Rattle.shrink_entry.specs.Shrink.{shrinkOf, lastMap, lastHops}
+use Rattle.shrink_iterate.specs.Iterate.{Stage, lastStage}
+use Rattle.shrink_iterate.proofs.Last.{last-staged, last-audit-zero, last-reductions-lt-states}
+use Rattle.shrink_entry.specs.Shrink.{shrinkOf, shrinkMapOutput, shrinkHopsOutput}
 use Rattle.shrink_entry.specs.declared.Shrinking.{Shrinking}
 use Rattle.shrink_entry.proofs.Accepting.{front-hops}
 use Rattle.shrink_entry.proofs.Answering.{accepted-returns, accepted-map, accepted-short}
@@ -35,18 +35,18 @@ module _ (sh : Shape) (hs : List ℕ) (k : ℕ) (map short : List ℕ) (z : redu
   hops-are : returned .hops ≡ count (last .hops)
   hops-are = ap (λ (r : Shrinking). r .hops) (sym (accepted-returns sh hs k map short refl z))
 
-  front-map : take (sh .states) (lastMap sh hs k map short) ≡ last .map
+  front-map : take (sh .states) (shrinkMapOutput sh hs k map short) ≡ last .map
   front-map =
       ap (take (sh .states)) (sym (accepted-map sh hs k map short refl z refl)) ∙
-      take-at (last .map) _ (sh .states) (faultless-iff sh (last .shape) hs (last .hops) (last .map) .0 (last-right k red) .0 .map .one-a-state)
+      take-at (last .map) _ (sh .states) (faultless-iff sh (last .shape) hs (last .hops) (last .map) .0 (last-audit-zero k red) .0 .map .one-a-state)
 
-  front-short : between (lastHops sh hs k map short) 0 (returned .hops) ≡ last .hops
+  front-short : between (shrinkHopsOutput sh hs k map short) 0 (returned .hops) ≡ last .hops
   front-short = front-hops (last-staged k red .reducible .admitted) short hops-are (sym (accepted-short sh hs k map short refl z refl))
 
   -- "Hence the returned map has none": the audit accepts, and finds no fault
-  pub shrunk-right : auditOf sh (returned .shape) hs (between (lastHops sh hs k map short) 0 (returned .hops)) (take (sh .states) (lastMap sh hs k map short)) ≡ faultless
-  shrunk-right = rw (shape-is, front-short, front-map) (last-right k red)
+  pub shrink-audit-zero : auditOf sh (returned .shape) hs (between (shrinkHopsOutput sh hs k map short) 0 (returned .hops)) (take (sh .states) (shrinkMapOutput sh hs k map short)) ≡ faultless
+  shrink-audit-zero = rw (shape-is, front-short, front-map) (last-audit-zero k red)
 
   -- "and the number of reductions is below the first state count"
-  pub shrunk-below : returned .reductions < sh .states
-  shrunk-below = rw (ap (λ (r : Shrinking). r .reductions) (sym (accepted-returns sh hs k map short refl z))) (last-below k red)
+  pub reductions-lt-states : returned .reductions < sh .states
+  reductions-lt-states = rw (ap (λ (r : Shrinking). r .reductions) (sym (accepted-returns sh hs k map short refl z))) (last-reductions-lt-states k red)

@@ -1,9 +1,9 @@
--- `shrink_step::look` meets its contract: a mark stands exactly where a hop of the marked set does. Assumes nothing.
+-- `shrink_step::mark_stage` meets its contract: a mark stands exactly where a hop of the marked set does. Assumes nothing.
 use Rattle.graph_successors.proofs.Firsts.{admitted-indexable}
-use Rattle.shrink_step.proofs.Looking.{some-told}
+use Rattle.shrink_step.proofs.Marking.{some-result}
 use borrow.Author.Needs.{needs}
-use Rattle.shrink_step.proofs.look.Statement.{statement}
-use Rattle.shrink_step.proofs.look.Tie as tie
+use Rattle.shrink_step.proofs.mark_stage.Statement.{statement}
+use Rattle.shrink_step.proofs.mark_stage.Tie as tie
 
 starts-of-requires : tie.Need-starts-of-requires
 starts-of-requires c κs = admitted-indexable (c .before .before .pre .0 .admitted)
@@ -24,10 +24,10 @@ returns : tie.Need-returns
 returns c =
     let st = c .before .before .before .before .before .before .before .before .before .before .before .args in
     let marked = c .before .before .before .before .before .mark-in .ensures in
-    (some-told (st .sense) (st .shape) (st .hops .now) _ (st .marks .now) marked (c .before .hop-count .ensures) (c .is-any .ensures), marked)
+    (some-result (st .sense) (st .shape) (st .hops .now) _ (st .marks .now) marked (c .before .hop-count .ensures) (c .is-any .ensures), marked)
 
-pub look-spec : {M : Type 1} → statement M
-look-spec =
+pub mark-stage-spec : {M : Type 1} → statement M
+mark-stage-spec =
     tie.close
     (tie.spec
     starts-of-requires

@@ -14,7 +14,7 @@ use Rattle.mark_confluence.specs.MarkSet.{isMarked, markOf, marksOf}
 use Rattle.mark_confluence.proofs.Marks.{marks-at}
 use Rattle.mark_senses.specs.Senses.{inSetAt, markedBy}
 use Rattle.reduce_representatives.specs.Tables.{Reducible}
-use Rattle.shrink_iterate.specs.Repeating.{someMarked}
+use Rattle.shrink_iterate.specs.Iterate.{someMarked}
 
 module _ (hs : List ℕ) (u : Pairs) (ms out : List ℕ) (e : ms ≡ onFront (marksOf hs u) out) where
   told : (b : Bool) → eqb (cond b 1 0) 1 ≡ b
@@ -28,10 +28,10 @@ module _ (hs : List ℕ) (u : Pairs) (ms out : List ℕ) (e : ms ≡ onFront (ma
   any-told : any (count hs) (isMarked ms) ≡ any (count hs) (inSetAt hs u)
   any-told = any-same (isMarked ms) (inSetAt hs u) (count hs) mark-told
 
-pub some-told : (k : ℕ) (sh : Shape) (hs ms out : List ℕ) → ms ≡ onFront (marksOf hs (markedBy k sh hs)) out → {n : ℕ} {r : Bool} → n ≡ count hs →
+pub some-result : (k : ℕ) (sh : Shape) (hs ms out : List ℕ) → ms ≡ onFront (marksOf hs (markedBy k sh hs)) out → {n : ℕ} {r : Bool} → n ≡ count hs →
     r ≡ any n (isMarked ms) → r ≡ someMarked k sh hs
 unfolding someMarked
-some-told k sh hs ms out e c d = d ∙ ap (λ (n : ℕ). any n (isMarked ms)) c ∙ any-told hs (markedBy k sh hs) ms out e
+some-result k sh hs ms out e c d = d ∙ ap (λ (n : ℕ). any n (isMarked ms)) c ∙ any-told hs (markedBy k sh hs) ms out e
 
 -- a part of the hops that is a graph's list can be reduced as it can, and what is told of the one is told of the other
 pub seen-reducible : {sh : Shape} {seen hs : List ℕ} → seen ≡ hs → Reducible sh hs → Reducible sh seen

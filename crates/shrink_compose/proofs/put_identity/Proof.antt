@@ -1,4 +1,4 @@
--- `shrink_compose::put_own` meets its contract: after s turns the first s numbers stand at the front. Assumes nothing.
+-- `shrink_compose::put_identity` meets its contract: after s turns the first s numbers stand at the front. Assumes nothing.
 use Prim.Native.Nat.{ℕ, _-_, _≤_}
 use mathlib.Core.Path.{_≡_, refl, _∙_}
 use native.Mathlib.Omega.{arith}
@@ -9,9 +9,9 @@ use Rattle.base_bounded.proofs.Quantifiers.{length-tabulate}
 use Rattle.graph.specs.Answers.{most-states}
 use Rattle.base_outputs.specs.Output.{onFront}
 use Rattle.base_outputs.proofs.Front.{front-all, tabulate-none, tabulate-more, tabulate-done}
-use Rattle.shrink_compose.specs.Chained.{ownMap}
-use Rattle.shrink_compose.proofs.put_own.Statement.{statement}
-use Rattle.shrink_compose.proofs.put_own.Tie as tie
+use Rattle.shrink_compose.specs.Composed.{identityMap}
+use Rattle.shrink_compose.proofs.put_identity.Statement.{statement}
+use Rattle.shrink_compose.proofs.put_identity.Tie as tie
 
 abbrev own : ℕ → ℕ
 own s = s
@@ -49,13 +49,13 @@ same-length : tie.Need-same-length Inv-loop μ-loop
 same-length c = omega arith
 
 returns : tie.Need-returns Inv-loop μ-loop
-unfolding ownMap
+unfolding identityMap
 returns c =
     let old = c .before .before .args .map .now in
     tabulate-done own old (c .before .loop .inv .0) (omega arith) (omega arith) ∙ front-all (tabulate (length old) own) old (length-tabulate own (length old))
 
-pub put-own-spec : {M : Type 1} → statement M
-put-own-spec =
+pub put-identity-spec : {M : Type 1} → statement M
+put-identity-spec =
     tie.close
     (tie.spec
     Inv-loop

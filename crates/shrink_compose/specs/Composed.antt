@@ -7,12 +7,12 @@ use Rattle.base_bounded.specs.Quantifiers.{tabulate}
 use Rattle.graph.specs.Map.{mapped}
 
 -- "one after the other": m leads from graph 1 to graph 2, n from graph 2 to graph 3, and this from graph 1 to graph 3
-unfoldable pub chained : List ℕ → List ℕ → List ℕ
-chained m n = tabulate (length m) (λ (s : ℕ). mapped n (mapped m s))
+unfoldable pub composed : List ℕ → List ℕ → List ℕ
+composed m n = tabulate (length m) (λ (s : ℕ). mapped n (mapped m s))
 
 -- each state's own number: the map from a graph to itself
-unfoldable pub ownMap : ℕ → List ℕ
-ownMap n = tabulate n (λ (s : ℕ). s)
+unfoldable pub identityMap : ℕ → List ℕ
+identityMap n = tabulate n (λ (s : ℕ). s)
 
 -- each entry of m is below n
 abbrev pub Into : List ℕ → ℕ → Type 0

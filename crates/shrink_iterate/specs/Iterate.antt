@@ -13,7 +13,7 @@ use Rattle.mark_senses.specs.Senses.{inSetAt, markedBy}
 use Rattle.reduce_representatives.specs.Representative.{isNormal}
 use Rattle.reduce_short_graph.specs.Short.{becomes}
 use Rattle.reduce_entry.specs.Reduce.{reducedMap, reducedHops, reducedShape}
-use Rattle.shrink_compose.specs.Chained.{chained, ownMap}
+use Rattle.shrink_compose.specs.Composed.{composed, identityMap}
 
 -- how far a repetition has come: a graph, the map to it from the first states, and how many reductions marked something on the way
 pub record Stage : Type 0 where
@@ -24,11 +24,11 @@ pub record Stage : Type 0 where
 
 -- before any reduction: the graph itself, and each state's own number
 abbrev pub firstStage : Shape → List ℕ → Stage
-firstStage sh hs = record { shape = sh; hops = hs; map = ownMap (sh .states); reductions = 0 }
+firstStage sh hs = record { shape = sh; hops = hs; map = identityMap (sh .states); reductions = 0 }
 
 -- the marked set of the stage's graph
-abbrev pub markedAt : ℕ → Stage → Pairs
-markedAt k g = markedBy k (g .shape) (g .hops)
+abbrev pub stageMarked : ℕ → Stage → Pairs
+stageMarked k g = markedBy k (g .shape) (g .hops)
 
 -- some hop of the graph is marked
 unfoldable pub someMarked : ℕ → Shape → List ℕ → Bool
@@ -42,18 +42,18 @@ abbrev pub nextStage : ℕ → Stage → Stage
 nextStage k g = record {
   shape = reducedShape (g .shape) (g .hops) k;
   hops = flat (reducedHops (g .shape) (g .hops) k);
-  map = chained (g .map) (reducedMap (g .shape) (g .hops) k);
+  map = composed (g .map) (reducedMap (g .shape) (g .hops) k);
   reductions = suc (g .reductions);
 }
 
 -- "until no hop is marked", by at most n reductions
-unfoldable pub repeated : ℕ → ℕ → Stage → Stage
-repeated k zero g = g
-repeated k (suc n) g = cond (marksSome k g) (repeated k n (nextStage k g)) g
+unfoldable pub iterated : ℕ → ℕ → Stage → Stage
+iterated k zero g = g
+iterated k (suc n) g = cond (marksSome k g) (iterated k n (nextStage k g)) g
 
 -- the last stage that a stage leads to: each reduction that marks something leaves fewer states, so that as many as there are states are enough
 unfoldable pub lastOf : ℕ → Stage → Stage
-lastOf k g = repeated k (g .shape .states) g
+lastOf k g = iterated k (g .shape .states) g
 
 -- the last stage of a graph
 abbrev pub lastStage : ℕ → Shape → List ℕ → Stage
@@ -64,10 +64,10 @@ lastStage k sh hs = lastOf k (firstStage sh hs)
 unfoldable pub comesThrough : ℕ → ℕ → Stage → Hop → Hop → Bool
 comesThrough k zero g h x = same x h
 comesThrough k (suc n) g h x =
-    cond (marksSome k g) (isNormal (g .hops) (markedAt k g) (x .from) && comesThrough k n (nextStage k g) h (becomes (g .shape) (g .hops) (markedAt k g) x))
+    cond (marksSome k g) (isNormal (g .hops) (stageMarked k g) (x .from) && comesThrough k n (nextStage k g) h (becomes (g .shape) (g .hops) (stageMarked k g) x))
     (same x h)
 
 -- what "until no hop is marked" means, with no bound: h is where the repetition from g ends
-pub data Ends (k : ℕ) : Stage → Stage → Type 0 where
-  still : {g : Stage} → ((s t : ℕ) → In (markedAt k g) s t → ⊥) → Ends k g g
-  again : {g h : Stage} (s t : ℕ) → In (markedAt k g) s t → Ends k (nextStage k g) h → Ends k g h
+pub data EndsIn (k : ℕ) : Stage → Stage → Type 0 where
+  still : {g : Stage} → ((s t : ℕ) → In (stageMarked k g) s t → ⊥) → EndsIn k g g
+  again : {g h : Stage} (s t : ℕ) → In (stageMarked k g) s t → EndsIn k (nextStage k g) h → EndsIn k g h
