@@ -11,73 +11,73 @@ use Rattle.audit_faults.specs.Faults.{preserved, lostFaults, matchAt, matchedFr
 use Rattle.audit_faults.specs.First.{lostPlace, firstLost, unmatchedPlace, unmatchedState, firstUnmatched, firstFault}
 use Rattle.audit_admitted.specs.Admitted.{auditAnswer}
 use Rattle.audit_entry.specs.Audit.{auditOf}
-use Rattle.lines_ignored.specs.Unlined.{Unlined}
-use Rattle.lines_ignored.proofs.Checks.{count-same, from-same, label-same, to-same, has-same, check-same}
-use Rattle.lines_ignored.proofs.Walks.{leads-same}
+use Rattle.lines_ignored.specs.DifferInLines.{DifferInLines}
+use Rattle.lines_ignored.proofs.Checks.{count-ignores-lines, from-ignores-lines, label-ignores-lines, to-ignores-lines, has-ignores-lines, check-ignores-lines}
+use Rattle.lines_ignored.proofs.Walks.{leads-ignores-lines}
 
-module _ {h1 h1' h2 h2' : List ℕ} (un1 : Unlined h1 h1') (un2 : Unlined h2 h2') (m : List ℕ) where
+module _ {h1 h1' h2 h2' : List ℕ} (un1 : DifferInLines h1 h1') (un2 : DifferInLines h2 h2') (m : List ℕ) where
   -- the hops that are lost
   kept-same : preserved h1 h2 m ≡ preserved h1' h2' m
   unfolding preserved
   kept-same = λ d. λ (i : ℕ).
-      (eqb (label-same un1 i d) 0 && eqb (mapped m (from-same un1 i d)) (mapped m (to-same un1 i d))) ||
-      has-same un2 d (mapped m (from-same un1 i d)) (label-same un1 i d) (mapped m (to-same un1 i d))
+      (eqb (label-ignores-lines un1 i d) 0 && eqb (mapped m (from-ignores-lines un1 i d)) (mapped m (to-ignores-lines un1 i d))) ||
+      has-ignores-lines un2 d (mapped m (from-ignores-lines un1 i d)) (label-ignores-lines un1 i d) (mapped m (to-ignores-lines un1 i d))
 
   lost-same : lostFaults h1 h2 m ≡ lostFaults h1' h2' m
   unfolding lostFaults
-  lost-same = λ d. tally (count-same un1 d) (λ (i : ℕ). not (kept-same d i))
+  lost-same = λ d. tally (count-ignores-lines un1 d) (λ (i : ℕ). not (kept-same d i))
 
   place-same : lostPlace h1 h2 m ≡ lostPlace h1' h2' m
   unfolding lostPlace
-  place-same = λ d. least (count-same un1 d) (λ (i : ℕ). not (kept-same d i))
+  place-same = λ d. least (count-ignores-lines un1 d) (λ (i : ℕ). not (kept-same d i))
 
   first-lost-same : firstLost h1 h2 m ≡ firstLost h1' h2' m
   unfolding firstLost
-  first-lost-same = rw (place-same, count-same un1)
+  first-lost-same = rw (place-same, count-ignores-lines un1)
 
   -- the hops that are made up
   offers-same : matchAt h1 m ≡ matchAt h1' m
   unfolding matchAt
-  offers-same = λ d. λ (r a q u : ℕ). eqb (mapped m u) r && any (count-same un1 d)
-      (λ (i : ℕ). eqb (from-same un1 i d) u && (eqb (label-same un1 i d) a && eqb (mapped m (to-same un1 i d)) q))
+  offers-same = λ d. λ (r a q u : ℕ). eqb (mapped m u) r && any (count-ignores-lines un1 d)
+      (λ (i : ℕ). eqb (from-ignores-lines un1 i d) u && (eqb (label-ignores-lines un1 i d) a && eqb (mapped m (to-ignores-lines un1 i d)) q))
 
   module _ (sh1 : Shape) where
     backed-same : matchedFrom sh1 h1 m ≡ matchedFrom sh1 h1' m
     unfolding matchedFrom
-    backed-same = λ d. λ (s r a q : ℕ). any (sh1 .states) (λ (u : ℕ). leads-same un1 (sh1 .states) s u d && offers-same d r a q u)
+    backed-same = λ d. λ (s r a q : ℕ). any (sh1 .states) (λ (u : ℕ). leads-ignores-lines un1 (sh1 .states) s u d && offers-same d r a q u)
 
     made-up-same : unmatched sh1 h1 h2 m ≡ unmatched sh1 h1' h2' m
     unfolding unmatched matched
-    made-up-same = λ d. λ (j s : ℕ). eqb (mapped m s) (from-same un2 j d) &&
-        not ((eqb (label-same un2 j d) 0 && eqb (from-same un2 j d) (to-same un2 j d)) ||
-        backed-same d s (from-same un2 j d) (label-same un2 j d) (to-same un2 j d))
+    made-up-same = λ d. λ (j s : ℕ). eqb (mapped m s) (from-ignores-lines un2 j d) &&
+        not ((eqb (label-ignores-lines un2 j d) 0 && eqb (from-ignores-lines un2 j d) (to-ignores-lines un2 j d)) ||
+        backed-same d s (from-ignores-lines un2 j d) (label-ignores-lines un2 j d) (to-ignores-lines un2 j d))
 
     made-up-faults-same : unmatchedFaults sh1 h1 h2 m ≡ unmatchedFaults sh1 h1' h2' m
     unfolding unmatchedFaults
-    made-up-faults-same = λ d. total (count-same un2 d) (λ (j : ℕ). tally (sh1 .states) (made-up-same d j))
+    made-up-faults-same = λ d. total (count-ignores-lines un2 d) (λ (j : ℕ). tally (sh1 .states) (made-up-same d j))
 
     made-up-place-same : unmatchedPlace sh1 h1 h2 m ≡ unmatchedPlace sh1 h1' h2' m
     unfolding unmatchedPlace
-    made-up-place-same = λ d. least (count-same un2 d) (λ (j : ℕ). any (sh1 .states) (made-up-same d j))
+    made-up-place-same = λ d. least (count-ignores-lines un2 d) (λ (j : ℕ). any (sh1 .states) (made-up-same d j))
 
     first-made-up-same : firstUnmatched sh1 h1 h2 m ≡ firstUnmatched sh1 h1' h2' m
     unfolding firstUnmatched unmatchedState
-    first-made-up-same = rw (made-up-place-same, made-up-same, count-same un2)
+    first-made-up-same = rw (made-up-place-same, made-up-same, count-ignores-lines un2)
 
     module _ (sh2 : Shape) where
-      pub faults-same : faultsOf sh1 sh2 h1 h2 m ≡ faultsOf sh1 sh2 h1' h2' m
+      pub faults-ignores-lines : faultsOf sh1 sh2 h1 h2 m ≡ faultsOf sh1 sh2 h1' h2' m
       unfolding faultsOf
-      faults-same = rw (lost-same, made-up-faults-same)
+      faults-ignores-lines = rw (lost-same, made-up-faults-same)
 
-      pub first-fault-same : firstFault sh1 sh2 h1 h2 m ≡ firstFault sh1 sh2 h1' h2' m
+      pub first-fault-ignores-lines : firstFault sh1 sh2 h1 h2 m ≡ firstFault sh1 sh2 h1' h2' m
       unfolding firstFault
-      first-fault-same = rw (first-lost-same, first-made-up-same)
+      first-fault-ignores-lines = rw (first-lost-same, first-made-up-same)
 
       audit-answer-same : auditAnswer sh1 sh2 h1 h2 m ≡ auditAnswer sh1 sh2 h1' h2' m
       unfolding auditAnswer
-      audit-answer-same = rw (check-same un1 sh1, check-same un2 sh2)
+      audit-answer-same = rw (check-ignores-lines un1 sh1, check-ignores-lines un2 sh2)
 
       -- all that the audit returns
-      pub audit-same : auditOf sh1 sh2 h1 h2 m ≡ auditOf sh1 sh2 h1' h2' m
+      pub audit-ignores-lines : auditOf sh1 sh2 h1 h2 m ≡ auditOf sh1 sh2 h1' h2' m
       unfolding auditOf
-      audit-same = rw (audit-answer-same, faults-same, first-fault-same)
+      audit-ignores-lines = rw (audit-answer-same, faults-ignores-lines, first-fault-ignores-lines)

@@ -10,37 +10,37 @@ use Rattle.graph.specs.Hops.{numbers-a-hop, count, from, label, to, hopOf, same
 use Rattle.graph.specs.declared.Shape.{Shape}
 use Rattle.graph.proofs.Ordered.{before-alike}
 use Rattle.graph_check.specs.Check.{countsFit, inside, firstOutside, ascendsAt, firstNotAscending, checkOf}
-use Rattle.lines_ignored.specs.Unlined.{Unlined}
+use Rattle.lines_ignored.specs.DifferInLines.{DifferInLines}
 
-module _ {hs hs' : List ℕ} (un : Unlined hs hs') where
-  pub count-same : count hs ≡ count hs'
-  count-same = λ d. un .as-long d / numbers-a-hop
+module _ {hs hs' : List ℕ} (un : DifferInLines hs hs') where
+  pub count-ignores-lines : count hs ≡ count hs'
+  count-ignores-lines = λ d. un .as-long d / numbers-a-hop
 
-  pub from-same : (i : ℕ) → from hs i ≡ from hs' i
-  from-same i = un .alike i .same-from
+  pub from-ignores-lines : (i : ℕ) → from hs i ≡ from hs' i
+  from-ignores-lines i = un .alike i .same-from
 
-  pub label-same : (i : ℕ) → label hs i ≡ label hs' i
-  label-same i = un .alike i .same-label
+  pub label-ignores-lines : (i : ℕ) → label hs i ≡ label hs' i
+  label-ignores-lines i = un .alike i .same-label
 
-  pub to-same : (i : ℕ) → to hs i ≡ to hs' i
-  to-same i = un .alike i .same-to
+  pub to-ignores-lines : (i : ℕ) → to hs i ≡ to hs' i
+  to-ignores-lines i = un .alike i .same-to
 
   is-same : (s a t i : ℕ) → is hs s a t i ≡ is hs' s a t i
   unfolding is
-  is-same s a t i = λ d. same (hopOf (from-same i d) (label-same i d) (to-same i d)) (hopOf s a t)
+  is-same s a t i = λ d. same (hopOf (from-ignores-lines i d) (label-ignores-lines i d) (to-ignores-lines i d)) (hopOf s a t)
 
-  pub labelled-same : (s a i : ℕ) → labelled hs s a i ≡ labelled hs' s a i
+  pub labelled-ignores-lines : (s a i : ℕ) → labelled hs s a i ≡ labelled hs' s a i
   unfolding labelled
-  labelled-same s a i = λ d. eqb (from-same i d) s && eqb (label-same i d) a
+  labelled-ignores-lines s a i = λ d. eqb (from-ignores-lines i d) s && eqb (label-ignores-lines i d) a
 
   -- the same hops
-  pub has-same : has hs ≡ has hs'
+  pub has-ignores-lines : has hs ≡ has hs'
   unfolding has
-  has-same = λ d. λ (s a t : ℕ). any (count-same d) (λ (i : ℕ). is-same s a t i d)
+  has-ignores-lines = λ d. λ (s a t : ℕ). any (count-ignores-lines d) (λ (i : ℕ). is-same s a t i d)
 
   falling-same : firstNotAscending hs ≡ firstNotAscending hs'
   unfolding firstNotAscending ascendsAt
-  falling-same = λ d. least (count-same d) (λ (i : ℕ). not (eqb i 0 || before-alike (un .alike (i - 1)) (un .alike i) d))
+  falling-same = λ d. least (count-ignores-lines d) (λ (i : ℕ). not (eqb i 0 || before-alike (un .alike (i - 1)) (un .alike i) d))
 
   module _ (sh : Shape) where
     counts-same : countsFit sh hs ≡ countsFit sh hs'
@@ -49,10 +49,10 @@ module _ {hs hs' : List ℕ} (un : Unlined hs hs') where
 
     outside-same : firstOutside sh hs ≡ firstOutside sh hs'
     unfolding firstOutside inside
-    outside-same = λ d. least (count-same d)
-        (λ (i : ℕ). not (ltb (from-same i d) (sh .states) && ltb (label-same i d) (sh .labels) && ltb (to-same i d) (sh .states)))
+    outside-same = λ d. least (count-ignores-lines d)
+        (λ (i : ℕ). not (ltb (from-ignores-lines i d) (sh .states) && ltb (label-ignores-lines i d) (sh .labels) && ltb (to-ignores-lines i d) (sh .states)))
 
     -- rows 1 to 4
-    pub check-same : checkOf sh hs ≡ checkOf sh hs'
+    pub check-ignores-lines : checkOf sh hs ≡ checkOf sh hs'
     unfolding checkOf
-    check-same = rw (counts-same, outside-same, falling-same, count-same)
+    check-ignores-lines = rw (counts-same, outside-same, falling-same, count-ignores-lines)

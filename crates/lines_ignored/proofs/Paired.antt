@@ -12,7 +12,7 @@ use Rattle.graph.proofs.Places.{length-flat, flat-at}
 use Rattle.graph.proofs.Ordered.{alike-itself, before-alike}
 use Rattle.reduce_smallest_line.specs.Lines.{mergedHop}
 use Rattle.reduce_insertion.specs.Insertion.{insert, collected}
-use Rattle.lines_ignored.specs.Unlined.{Unlined}
+use Rattle.lines_ignored.specs.DifferInLines.{DifferInLines}
 
 unfoldable pub Paired : List Hop → List Hop → Type 0
 Paired [] [] = Unit {0}
@@ -35,7 +35,7 @@ paired-at (x ∷ xs) [] p i = absurd p
 paired-at (x ∷ xs) (y ∷ ys) (a, p) zero = a
 paired-at (x ∷ xs) (y ∷ ys) (a, p) (suc i) = paired-at xs ys p i
 
-pub paired-flat : (xs ys : List Hop) → Paired xs ys → Unlined (flat xs) (flat ys)
+pub paired-flat : (xs ys : List Hop) → Paired xs ys → DifferInLines (flat xs) (flat ys)
 paired-flat xs ys p = record {
   as-long = length-flat xs ∙ ap numberPlace (paired-length xs ys p) ∙ sym (length-flat ys);
   alike = λ i. rw (flat-at xs i, flat-at ys i) (paired-at xs ys p i);

@@ -13,25 +13,25 @@ use Rattle.base_fixpoint.specs.Pairs.{Pairs}
 use Rattle.reduce_representatives.specs.Representative.{markedFrom, isNormal, nextState, afterSteps, repOf, newOf, mapOf}
 use Rattle.reduce_short_graph.specs.Short.{image, shortUpTo, shortHops, shortShape, mapList}
 use Rattle.reduce_entry.specs.Reduce.{reducedMap, reducedHops, reducedShape, reduceAnswer, reduceOf, mapOutput}
-use Rattle.lines_ignored.specs.Unlined.{Unlined}
-use Rattle.lines_ignored.proofs.Checks.{count-same, from-same, label-same, to-same, check-same}
-use Rattle.lines_ignored.proofs.Walks.{ringless-same}
-use Rattle.lines_ignored.proofs.Marking.{marked-same}
+use Rattle.lines_ignored.specs.DifferInLines.{DifferInLines}
+use Rattle.lines_ignored.proofs.Checks.{count-ignores-lines, from-ignores-lines, label-ignores-lines, to-ignores-lines, check-ignores-lines}
+use Rattle.lines_ignored.proofs.Walks.{ringless-ignores-lines}
+use Rattle.lines_ignored.proofs.Marking.{marked-ignores-lines}
 use Rattle.lines_ignored.proofs.Paired.{Paired, paired-length, paired-flat, paired-collected}
 
 -- the representatives along one set of hops, and their new numbers
-module _ {hs hs' : List ℕ} (un : Unlined hs hs') {u u' : Pairs} (e : u ≡ u') where
+module _ {hs hs' : List ℕ} (un : DifferInLines hs hs') {u u' : Pairs} (e : u ≡ u') where
   leaving-same : markedFrom hs u ≡ markedFrom hs' u'
   unfolding markedFrom
-  leaving-same = λ d. λ (s i : ℕ). eqb (from-same un i d) s && (eqb (label-same un i d) 0 && e d (from-same un i d) (to-same un i d))
+  leaving-same = λ d. λ (s i : ℕ). eqb (from-ignores-lines un i d) s && (eqb (label-ignores-lines un i d) 0 && e d (from-ignores-lines un i d) (to-ignores-lines un i d))
 
   resting-same : isNormal hs u ≡ isNormal hs' u'
   unfolding isNormal
-  resting-same = λ d. λ (s : ℕ). not (any (count-same un d) (leaving-same d s))
+  resting-same = λ d. λ (s : ℕ). not (any (count-ignores-lines un d) (leaving-same d s))
 
   onward-same : (s : ℕ) → nextState hs u s ≡ nextState hs' u' s
   unfolding nextState
-  onward-same s = λ d. cond (resting-same d s) s (to-same un (least (count-same un d) (leaving-same d s)) d)
+  onward-same s = λ d. cond (resting-same d s) s (to-ignores-lines un (least (count-ignores-lines un d) (leaving-same d s)) d)
 
   followed-same : (k s : ℕ) → afterSteps hs u k s ≡ afterSteps hs' u' k s
   unfolding afterSteps
@@ -57,37 +57,37 @@ module _ {hs hs' : List ℕ} (un : Unlined hs hs') {u u' : Pairs} (e : u ≡ u')
   -- what the hop at a place becomes is alike
   image-alike : (sh : Shape) (i : ℕ) → Alike (image sh hs u i) (image sh hs' u' i)
   image-alike sh i = record {
-    same-from = λ d. new-same d (from-same un i d);
-    same-label = label-same un i;
-    same-to = λ d. map-same sh d (to-same un i d);
+    same-from = λ d. new-same d (from-ignores-lines un i d);
+    same-label = label-ignores-lines un i;
+    same-to = λ d. map-same sh d (to-ignores-lines un i d);
   }
 
-module _ {hs hs' : List ℕ} (un : Unlined hs hs') (sh : Shape) where
+module _ {hs hs' : List ℕ} (un : DifferInLines hs hs') (sh : Shape) where
   paired-short : {u u' : Pairs} → u ≡ u' → Paired (shortHops sh hs u) (shortHops sh hs' u')
   unfolding shortHops shortUpTo
-  paired-short {u} {u'} e = rw (← count-same un) (paired-collected (λ i. λ d. resting-same un e d (from-same un i d)) (image-alike un e sh) (count hs))
+  paired-short {u} {u'} e = rw (← count-ignores-lines un) (paired-collected (λ i. λ d. resting-same un e d (from-ignores-lines un i d)) (image-alike un e sh) (count hs))
 
   module _ (k : ℕ) where
-    pub marked-map-same : reducedMap sh hs k ≡ reducedMap sh hs' k
-    marked-map-same = list-same un (marked-same un sh k) sh
+    pub reduced-map-ignores-lines : reducedMap sh hs k ≡ reducedMap sh hs' k
+    reduced-map-ignores-lines = list-same un (marked-ignores-lines un sh k) sh
 
-    pub marked-shape-same : reducedShape sh hs k ≡ reducedShape sh hs' k
-    marked-shape-same = shape-same un (marked-same un sh k) sh
+    pub reduced-shape-ignores-lines : reducedShape sh hs k ≡ reducedShape sh hs' k
+    reduced-shape-ignores-lines = shape-same un (marked-ignores-lines un sh k) sh
 
     -- the short hops differ in lines alone
-    pub marked-hops-unlined : Unlined (flat (reducedHops sh hs k)) (flat (reducedHops sh hs' k))
-    marked-hops-unlined = paired-flat _ _ (paired-short (marked-same un sh k))
+    pub reduced-hops-differ-in-lines : DifferInLines (flat (reducedHops sh hs k)) (flat (reducedHops sh hs' k))
+    reduced-hops-differ-in-lines = paired-flat _ _ (paired-short (marked-ignores-lines un sh k))
 
     -- what the entry answers, returns and leaves as the map
     module _ (map-capacity short-capacity : ℕ) where
-      pub answer-same : reduceAnswer sh hs k map-capacity short-capacity ≡ reduceAnswer sh hs' k map-capacity short-capacity
+      pub answer-ignores-lines : reduceAnswer sh hs k map-capacity short-capacity ≡ reduceAnswer sh hs' k map-capacity short-capacity
       unfolding reduceAnswer
-      answer-same = rw (check-same un sh, ringless-same un sh, un .as-long)
+      answer-ignores-lines = rw (check-ignores-lines un sh, ringless-ignores-lines un sh, un .as-long)
 
-      pub reduce-same : reduceOf sh hs k map-capacity short-capacity ≡ reduceOf sh hs' k map-capacity short-capacity
+      pub reduce-ignores-lines : reduceOf sh hs k map-capacity short-capacity ≡ reduceOf sh hs' k map-capacity short-capacity
       unfolding reduceOf
-      reduce-same = rw (answer-same, marked-shape-same, paired-length _ _ (paired-short (marked-same un sh k)))
+      reduce-ignores-lines = rw (answer-ignores-lines, reduced-shape-ignores-lines, paired-length _ _ (paired-short (marked-ignores-lines un sh k)))
 
-    pub map-output-same : (map short : List ℕ) → mapOutput sh hs k map short ≡ mapOutput sh hs' k map short
+    pub map-output-ignores-lines : (map short : List ℕ) → mapOutput sh hs k map short ≡ mapOutput sh hs' k map short
     unfolding mapOutput
-    map-output-same map short = rw (answer-same (length map) (length short), marked-map-same)
+    map-output-ignores-lines map short = rw (answer-ignores-lines (length map) (length short), reduced-map-ignores-lines)

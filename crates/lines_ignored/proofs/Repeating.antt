@@ -14,37 +14,37 @@ use Rattle.reduce_entry.specs.Reduce.{reducedMap, reducedShape, reducedHops}
 use Rattle.shrink_compose.specs.Composed.{composed}
 use Rattle.shrink_iterate.specs.Iterate.{Stage, firstStage, nextStage, someMarked, marksSome, iterated, lastOf, lastStage}
 use Rattle.shrink_entry.specs.Shrink.{shrinkOf, shrinkMapOutput}
-use Rattle.lines_ignored.specs.Unlined.{Unlined}
-use Rattle.lines_ignored.proofs.Checks.{count-same, from-same, label-same, to-same}
-use Rattle.lines_ignored.proofs.Marking.{marked-same}
-use Rattle.lines_ignored.proofs.Reducing.{marked-map-same, marked-shape-same, marked-hops-unlined, answer-same}
+use Rattle.lines_ignored.specs.DifferInLines.{DifferInLines}
+use Rattle.lines_ignored.proofs.Checks.{count-ignores-lines, from-ignores-lines, label-ignores-lines, to-ignores-lines}
+use Rattle.lines_ignored.proofs.Marking.{marked-ignores-lines}
+use Rattle.lines_ignored.proofs.Reducing.{reduced-map-ignores-lines, reduced-shape-ignores-lines, reduced-hops-differ-in-lines, answer-ignores-lines}
 
-some-same : {hs hs' : List ℕ} → Unlined hs hs' → (k : ℕ) (sh : Shape) → someMarked k sh hs ≡ someMarked k sh hs'
+some-ignores-lines : {hs hs' : List ℕ} → DifferInLines hs hs' → (k : ℕ) (sh : Shape) → someMarked k sh hs ≡ someMarked k sh hs'
 unfolding someMarked inSetAt
-some-same un k sh = λ d. any (count-same un d) (λ (i : ℕ). eqb (label-same un i d) 0 && marked-same un sh k d (from-same un i d) (to-same un i d))
+some-ignores-lines un k sh = λ d. any (count-ignores-lines un d) (λ (i : ℕ). eqb (label-ignores-lines un i d) 0 && marked-ignores-lines un sh k d (from-ignores-lines un i d) (to-ignores-lines un i d))
 
 -- two stages that differ in lines alone
 pub record Beside (g g' : Stage) : Type 0 where
   pub shapes : g .shape ≡ g' .shape
-  pub unlined : Unlined (g .hops) (g' .hops)
+  pub unlined : DifferInLines (g .hops) (g' .hops)
   pub maps : g .map ≡ g' .map
   pub counts : g .reductions ≡ g' .reductions
 
 module _ (k : ℕ) where
   next-beside : (g g' : Stage) → Beside g g' → Beside (nextStage k g) (nextStage k g')
   next-beside g g' b = record {
-    shapes = ap (λ (sh : Shape). reducedShape sh (g .hops) k) (b .shapes) ∙ marked-shape-same (b .unlined) (g' .shape) k;
+    shapes = ap (λ (sh : Shape). reducedShape sh (g .hops) k) (b .shapes) ∙ reduced-shape-ignores-lines (b .unlined) (g' .shape) k;
     unlined =
-        subst (λ (sh : Shape). Unlined (flat (reducedHops sh (g .hops) k)) (flat (reducedHops (g' .shape) (g' .hops) k))) (sym (b .shapes))
-        (marked-hops-unlined (b .unlined) (g' .shape) k);
+        subst (λ (sh : Shape). DifferInLines (flat (reducedHops sh (g .hops) k)) (flat (reducedHops (g' .shape) (g' .hops) k))) (sym (b .shapes))
+        (reduced-hops-differ-in-lines (b .unlined) (g' .shape) k);
     maps =
         ap (λ (m : List ℕ). composed m (reducedMap (g .shape) (g .hops) k)) (b .maps) ∙
-        ap (composed (g' .map)) (ap (λ (sh : Shape). reducedMap sh (g .hops) k) (b .shapes) ∙ marked-map-same (b .unlined) (g' .shape) k);
+        ap (composed (g' .map)) (ap (λ (sh : Shape). reducedMap sh (g .hops) k) (b .shapes) ∙ reduced-map-ignores-lines (b .unlined) (g' .shape) k);
     counts = ap suc (b .counts);
   }
 
   some-beside : (g g' : Stage) → Beside g g' → marksSome k g ≡ marksSome k g'
-  some-beside g g' b = ap (λ (sh : Shape). someMarked k sh (g .hops)) (b .shapes) ∙ some-same (b .unlined) k (g' .shape)
+  some-beside g g' b = ap (λ (sh : Shape). someMarked k sh (g .hops)) (b .shapes) ∙ some-ignores-lines (b .unlined) k (g' .shape)
 
   repeated-beside : (n : ℕ) (g g' : Stage) → Beside g g' → Beside (iterated k n g) (iterated k n g')
   unfolding iterated
@@ -56,16 +56,16 @@ module _ (k : ℕ) where
     go false c = b
 
 -- the last stage, and what the entry returns and leaves as the map
-module _ {hs hs' : List ℕ} (un : Unlined hs hs') (sh : Shape) (k : ℕ) where
+module _ {hs hs' : List ℕ} (un : DifferInLines hs hs') (sh : Shape) (k : ℕ) where
   pub last-beside : Beside (lastStage k sh hs) (lastStage k sh hs')
   unfolding lastOf
   last-beside = repeated-beside k (sh .states) (firstStage sh hs) (firstStage sh hs') (record { shapes = refl; unlined = un; maps = refl; counts = refl })
 
-  pub shrink-same : (map-capacity short-capacity : ℕ) → shrinkOf sh hs k map-capacity short-capacity ≡ shrinkOf sh hs' k map-capacity short-capacity
+  pub shrink-ignores-lines : (map-capacity short-capacity : ℕ) → shrinkOf sh hs k map-capacity short-capacity ≡ shrinkOf sh hs' k map-capacity short-capacity
   unfolding shrinkOf
-  shrink-same map-capacity short-capacity =
-      rw (answer-same un sh k map-capacity short-capacity, last-beside .shapes, count-same (last-beside .unlined), last-beside .counts)
+  shrink-ignores-lines map-capacity short-capacity =
+      rw (answer-ignores-lines un sh k map-capacity short-capacity, last-beside .shapes, count-ignores-lines (last-beside .unlined), last-beside .counts)
 
-  pub last-map-same : (map short : List ℕ) → shrinkMapOutput sh hs k map short ≡ shrinkMapOutput sh hs' k map short
+  pub last-map-ignores-lines : (map short : List ℕ) → shrinkMapOutput sh hs k map short ≡ shrinkMapOutput sh hs' k map short
   unfolding shrinkMapOutput
-  last-map-same map short = rw (answer-same un sh k (length map) (length short), last-beside .maps)
+  last-map-ignores-lines map short = rw (answer-ignores-lines un sh k (length map) (length short), last-beside .maps)

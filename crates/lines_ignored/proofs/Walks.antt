@@ -8,22 +8,22 @@ use Rattle.base_bounded.specs.Quantifiers.{any, least}
 use Rattle.graph.specs.declared.Shape.{Shape}
 use Rattle.walk_reach.specs.Reach.{leadsBy}
 use Rattle.walk_silent.specs.Silent.{leads, onRing, lowestOnRing, ringAnswer}
-use Rattle.lines_ignored.specs.Unlined.{Unlined}
-use Rattle.lines_ignored.proofs.Checks.{count-same, from-same, label-same, to-same, labelled-same}
+use Rattle.lines_ignored.specs.DifferInLines.{DifferInLines}
+use Rattle.lines_ignored.proofs.Checks.{count-ignores-lines, from-ignores-lines, label-ignores-lines, to-ignores-lines, labelled-ignores-lines}
 
-module _ {hs hs' : List ℕ} (un : Unlined hs hs') where
-  pub leads-by-same : {c c' : ℕ → Bool} → c ≡ c' → (k s t : ℕ) → leadsBy hs c k s t ≡ leadsBy hs' c' k s t
+module _ {hs hs' : List ℕ} (un : DifferInLines hs hs') where
+  pub leads-by-ignores-lines : {c c' : ℕ → Bool} → c ≡ c' → (k s t : ℕ) → leadsBy hs c k s t ≡ leadsBy hs' c' k s t
   unfolding leadsBy
-  leads-by-same e zero s t = refl
-  leads-by-same e (suc k) s t = λ d. eqb s t ||
-      any (count-same un d) (λ (i : ℕ). (eqb (from-same un i d) s && e d i) && leads-by-same e k (to-same un i d) t d)
+  leads-by-ignores-lines e zero s t = refl
+  leads-by-ignores-lines e (suc k) s t = λ d. eqb s t ||
+      any (count-ignores-lines un d) (λ (i : ℕ). (eqb (from-ignores-lines un i d) s && e d i) && leads-by-ignores-lines e k (to-ignores-lines un i d) t d)
 
-  pub leads-same : (k s t : ℕ) → leads hs k s t ≡ leads hs' k s t
-  leads-same = leads-by-same (λ d. λ (i : ℕ). eqb (label-same un i d) 0)
+  pub leads-ignores-lines : (k s t : ℕ) → leads hs k s t ≡ leads hs' k s t
+  leads-ignores-lines = leads-by-ignores-lines (λ d. λ (i : ℕ). eqb (label-ignores-lines un i d) 0)
 
   ring-same : (n s : ℕ) → onRing hs n s ≡ onRing hs' n s
   unfolding onRing
-  ring-same n s = λ d. any (count-same un d) (λ (i : ℕ). labelled-same un s 0 i d && leads-same n (to-same un i d) s d)
+  ring-same n s = λ d. any (count-ignores-lines un d) (λ (i : ℕ). labelled-ignores-lines un s 0 i d && leads-ignores-lines n (to-ignores-lines un i d) s d)
 
   module _ (sh : Shape) where
     lowest-same : lowestOnRing sh hs ≡ lowestOnRing sh hs'
@@ -31,6 +31,6 @@ module _ {hs hs' : List ℕ} (un : Unlined hs hs') where
     lowest-same = λ d. least (sh .states) (λ (s : ℕ). ring-same (sh .states) s d)
 
     -- row 5
-    pub ringless-same : ringAnswer sh hs ≡ ringAnswer sh hs'
+    pub ringless-ignores-lines : ringAnswer sh hs ≡ ringAnswer sh hs'
     unfolding ringAnswer
-    ringless-same = rw lowest-same
+    ringless-ignores-lines = rw lowest-same

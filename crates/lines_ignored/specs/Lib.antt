@@ -1,1 +1,1 @@
-pub mod Unlined  -- hop lists that differ in lines alone
+pub mod DifferInLines  -- hop lists that differ in lines alone

@@ -7,6 +7,6 @@ use lib.ListN.{length}
 use Rattle.graph.specs.Hops.{hopAt, Alike}
 
 -- lists as long as one another, in which each place has hops of one from, label and to
-pub record Unlined (hs hs' : List ℕ) : Type 0 where
+pub record DifferInLines (hs hs' : List ℕ) : Type 0 where
   pub as-long : length hs ≡ length hs'
   pub alike : (i : ℕ) → Alike (hopAt hs i) (hopAt hs' i)
