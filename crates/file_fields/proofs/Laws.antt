@@ -17,7 +17,7 @@ use Rattle.file_hops.specs.Field.{fieldLength}
 use Rattle.file_hops.proofs.Field.{length-in-field, count-in-field}
 use Rattle.graph.specs.Hops.{numberPlace, count}
 use Rattle.file_fields.specs.Format.{hopListIn, initial-place, hasInitial, hasHops, hasNames, hasLines, labelsIn, initialIn, hopsPlace, hopsIn, namesPlace, namesIn, restOf, linesPlace}
-use Rattle.file_fields.specs.Format.{lineBytesIn, linesIn, need, blockPlace, blockLength}
+use Rattle.file_fields.specs.Format.{lineBytesIn, linesIn, neededLength, blockPlace, blockLength}
 
 module _ (b : List ℕ) where
   pub hops-place-most : hopsPlace b ≤ initial-place + 2
@@ -85,8 +85,8 @@ module _ (b : List ℕ) where
     go false = omega arith
 
   -- where there is a list of lines, it lies before the file's end
-  pub lines-lie : need b ≤ length b → {ls : Lines} {n : ℕ} → ls ≡ linesIn b → n ≡ hopsIn b → LinesLie b ls n
-  unfolding need linesIn
+  pub lines-lie : neededLength b ≤ length b → {ls : Lines} {n : ℕ} → ls ≡ linesIn b → n ≡ hopsIn b → LinesLie b ls n
+  unfolding neededLength linesIn
   lines-lie l {ls} {n} e d = rw (e, d) (λ t. omega (arith, lines-on t))
 
   -- the hop list is as long as the hop count says
@@ -102,8 +102,8 @@ module _ (b : List ℕ) where
   unfolding linesPlace
   names-before-lines = omega arith
 
-  pub names-before-end : namesPlace b ≤ need b
-  unfolding need linesPlace
+  pub names-before-end : namesPlace b ≤ neededLength b
+  unfolding neededLength linesPlace
   names-before-end = omega arith
 
   pub hops-before-names : hopsPlace b ≤ namesPlace b

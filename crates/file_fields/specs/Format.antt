@@ -77,8 +77,8 @@ unfoldable pub linesIn : List ℕ → Lines
 linesIn b = record { stand = hasLines b; at = linesPlace b }
 
 -- the length that the file's own numbers ask
-unfoldable pub need : List ℕ → ℕ
-need b = linesPlace b + lineBytesIn b
+unfoldable pub neededLength : List ℕ → ℕ
+neededLength b = linesPlace b + lineBytesIn b
 
 -- "Reading gives the graph and the place and length of the name block (0 and 0 without names)"
 unfoldable pub shapeIn : List ℕ → Shape
@@ -98,7 +98,7 @@ unfoldable pub blockIn : List ℕ → List ℕ
 blockIn b = take (blockLength b) (drop (blockPlace b) b)
 
 -- row 12: "a bit over a field that holds what absence means (0, no hops, or names with label count at most 1)", and "bit 3 .. over lines all 0"
-unfoldable pub idleBit : List ℕ → Bool
-idleBit b =
+unfoldable pub redundantBit : List ℕ → Bool
+redundantBit b =
     (hasInitial b && eqb (initialIn b) 0) ||
     ((hasHops b && eqb (hopsIn b) 0) || ((hasNames b && leb (labelsIn b) 1) || (hasLines b && zeroLines b (linesPlace b) (hopsIn b))))

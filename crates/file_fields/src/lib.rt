@@ -18,7 +18,7 @@ ghost use Prim.Native.Nat.{_≤_};
 ghost use lib.ListN.{length};
 ghost use Rattle.file_lines.specs.LineField.{zeroLines};
 ghost use Rattle.file_fields.specs.Format.{hasInitial, hasHops, hasNames, hasLines, initialIn, hopsPlace, hopsIn, namesPlace, namesIn};
-ghost use Rattle.file_fields.specs.Format.{linesPlace, lineBytesIn, linesIn, need, shapeIn, blockPlace, blockLength, idleBit};
+ghost use Rattle.file_fields.specs.Format.{linesPlace, lineBytesIn, linesIn, neededLength, shapeIn, blockPlace, blockLength, redundantBit};
 
 // Where the numbers stand that are always there, and where the initial state would.
 pub const STATES_PLACE: usize = 1;
@@ -165,9 +165,9 @@ pub fn block_length(file: &[u8]) -> usize
 }
 
 // Whether bit 3 stands over lines that are all 0, where the lines begin at `lines`.
-fn idle_lines(file: &[u8], lines: usize) -> bool
+fn redundant_lines(file: &[u8], lines: usize) -> bool
     requires place { ⌜ lines ≡ linesPlace (now file) ⌝ }
-    requires within { ⌜ need (now file) ≤ length (now file) ⌝ }
+    requires within { ⌜ neededLength (now file) ≤ length (now file) ⌝ }
     ensures { λ r. ⌜ r ≡ (hasLines (now (file .entry)) && zeroLines (now (file .entry)) lines (hopsIn (now (file .entry)))) ⌝ }
 {
     if has_lines(file) {
@@ -177,10 +177,10 @@ fn idle_lines(file: &[u8], lines: usize) -> bool
 }
 
 // Row 12: a bit over a field that holds what absence means. The lines begin at `lines`.
-pub fn idle_bit(file: &[u8], lines: usize) -> bool
+pub fn redundant_bit(file: &[u8], lines: usize) -> bool
     requires place { ⌜ lines ≡ linesPlace (now file) ⌝ }
-    requires within { ⌜ need (now file) ≤ length (now file) ⌝ }
-    ensures { λ r. ⌜ r ≡ idleBit (now (file .entry)) ⌝ }
+    requires within { ⌜ neededLength (now file) ≤ length (now file) ⌝ }
+    ensures { λ r. ⌜ r ≡ redundantBit (now (file .entry)) ⌝ }
 {
     let initial = initial_in(file);
     let hops = hops_in(file);
@@ -188,7 +188,7 @@ pub fn idle_bit(file: &[u8], lines: usize) -> bool
     let initial_bit = has_initial(file);
     let hops_bit = has_hops(file);
     let names_bit = has_names(file);
-    let lines_idle = idle_lines(file, lines);
+    let lines_idle = redundant_lines(file, lines);
     (initial_bit & (initial == 0))
         | ((hops_bit & (hops == 0)) | ((names_bit & (labels <= 1)) | lines_idle))
 }

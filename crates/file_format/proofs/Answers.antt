@@ -10,7 +10,7 @@ use lib.ListN.{length, length-drop}
 use Rattle.graph.specs.Answers.{accepted, refused}
 use Rattle.file_names.specs.Block.{most-place, least-name-bytes, nameAt, firstBad, Searchable}
 use Rattle.file_names.proofs.Blocks.{name-less, name-least}
-use Rattle.file_fields.specs.Format.{bitMap, namesPlace, namesIn, restOf, linesPlace, lineBytesIn, need, idleBit}
+use Rattle.file_fields.specs.Format.{bitMap, namesPlace, namesIn, restOf, linesPlace, lineBytesIn, neededLength, redundantBit}
 use Rattle.file_format.specs.Rows.{most-bytes, namesAnswer, RestAt, formatAnswer}
 use Rattle.file_fields.proofs.Laws.{names-before-end}
 
@@ -29,22 +29,22 @@ module _ (b : List ℕ) where
     high-bits h = rw (le-ltb _ _ s, le-leb _ _ h)
 
     module _ (h : bitMap b < 16) where
-      pub ends-early : length b < need b → refused 11 (length b) ≡ formatAnswer b
+      pub ends-early : length b < neededLength b → refused 11 (length b) ≡ formatAnswer b
       unfolding formatAnswer
       ends-early l = rw (le-ltb _ _ s, lt-leb _ _ h, lt-ltb _ _ l)
 
       pub place-early : {p : ℕ} → p ≡ namesPlace b → length b < p → refused 11 (length b) ≡ formatAnswer b
       place-early e l = ends-early (omega (arith, names-before-end b))
 
-      module _ (n : need b ≤ length b) where
-        pub left-over : need b < length b → refused 13 (need b) ≡ formatAnswer b
+      module _ (n : neededLength b ≤ length b) where
+        pub left-over : neededLength b < length b → refused 13 (neededLength b) ≡ formatAnswer b
         unfolding formatAnswer
         left-over l = rw (le-ltb _ _ s, lt-leb _ _ h, le-ltb _ _ n, lt-ltb _ _ l)
 
-        module _ (m : length b ≤ need b) {f : Bool} (e : f ≡ idleBit b) where
-          pub idle : f ≡ true → refused 12 0 ≡ formatAnswer b
+        module _ (m : length b ≤ neededLength b) {f : Bool} (e : f ≡ redundantBit b) where
+          pub redundant : f ≡ true → refused 12 0 ≡ formatAnswer b
           unfolding formatAnswer
-          idle d = rw (le-ltb _ _ s, lt-leb _ _ h, le-ltb _ _ n, le-ltb _ _ m, ← e, d)
+          redundant d = rw (le-ltb _ _ s, lt-leb _ _ h, le-ltb _ _ n, le-ltb _ _ m, ← e, d)
 
           module _ (d : f ≡ false) where
             pub bad-name : firstBad (restOf b) (namesIn b) < namesIn b → refused 14 (namesPlace b + nameAt (restOf b) (firstBad (restOf b) (namesIn b))) ≡ formatAnswer b
@@ -61,8 +61,8 @@ module _ {b rest : List ℕ} {place : ℕ} (k : RestAt b rest place) {n end line
   unfolding linesPlace
   end-is = rw (e, m, k .begins, k .follows)
 
-  pub need-is : place + (end + lines) ≡ need b
-  unfolding need
+  pub need-is : place + (end + lines) ≡ neededLength b
+  unfolding neededLength
   need-is = omega (arith, end-is)
 
   pub rest-length : length rest + place ≡ length b
@@ -76,15 +76,15 @@ module _ {b rest : List ℕ} {place : ℕ} (k : RestAt b rest place) {n end line
   rest-left l = rw need-is (left-over b (k .short) (k .low) (omega (arith, need-is, rest-length)) (omega (arith, need-is, rest-length)))
 
   module _ (l : end + lines ≤ length rest) where
-    pub rest-within : need b ≤ length b
+    pub rest-within : neededLength b ≤ length b
     rest-within = omega (arith, need-is, rest-length)
 
     pub rest-searchable : {places : ℕ} → most-place < least-name-bytes * places → Searchable rest n places
     rest-searchable g = record { whole = rw (← e) (omega arith); capacity = inr g }
 
-    module _ (g : length rest ≤ end + lines) {f : Bool} (d : f ≡ idleBit b) where
-      pub rest-idle : f ≡ true → refused 12 0 ≡ formatAnswer b
-      rest-idle = idle b (k .short) (k .low) rest-within (omega (arith, need-is, rest-length)) d
+    module _ (g : length rest ≤ end + lines) {f : Bool} (d : f ≡ redundantBit b) where
+      pub rest-redundant : f ≡ true → refused 12 0 ≡ formatAnswer b
+      rest-redundant = redundant b (k .short) (k .low) rest-within (omega (arith, need-is, rest-length)) d
 
       module _ (t : f ≡ false) {bad : ℕ} (a : bad ≡ nameAt rest (firstBad rest n)) where
         pub rest-bad : bad < end → refused 14 (place + bad) ≡ formatAnswer b

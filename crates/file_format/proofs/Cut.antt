@@ -13,7 +13,7 @@ use Rattle.file_names.specs.Block.{nameAt}
 use Rattle.file_names.proofs.Fronts.{name-same}
 use Rattle.file_numbers.specs.Numbers.{numberAt}
 use Rattle.file_fields.specs.Format.{labels-place, bitMap, hasInitial, hasHops, hasNames, hasLines, hopsPlace, hopsIn, namesPlace, namesIn, restOf, linesPlace}
-use Rattle.file_fields.specs.Format.{lineBytesIn, need}
+use Rattle.file_fields.specs.Format.{lineBytesIn, neededLength}
 use Rattle.file_format.specs.Rows.{formatAnswer}
 use Rattle.file_format.proofs.Answers.{ends-early}
 use Rattle.file_fields.proofs.Laws.{names-place-least, names-before-end, hops-on, hops-off}
@@ -33,7 +33,7 @@ module _ (b : List ℕ) (k : ℕ) (shorter : k < length b) where
   number-same i l = rw (same-at i (omega arith), same-at (i + 1) l)
 
   -- where the front holds all that its own numbers ask, it asks as much as the whole file
-  module _ (enough : need front ≤ k) where
+  module _ (enough : neededLength front ≤ k) where
     names-in-front : namesPlace front ≤ k
     names-in-front = omega (arith, enough, names-before-end front)
 
@@ -70,16 +70,16 @@ module _ (b : List ℕ) (k : ℕ) (shorter : k < length b) where
         getD-drop (namesPlace front) front i 0 ∙ same-at (namesPlace front + i) l ∙ ap (λ (n : ℕ). getD b (n + i) 0) names-same ∙ sym (getD-drop (namesPlace b) b i 0)
 
     walk-same : nameAt (restOf front) (namesIn front) ≡ nameAt (restOf b) (namesIn front)
-    unfolding need linesPlace
+    unfolding neededLength linesPlace
     walk-same = name-same (restOf front) (restOf b) {m = k - namesPlace front} (λ i l. byte-same i (omega arith)) (namesIn front) (omega (arith, enough))
 
-    need-same : need b ≡ need front
-    unfolding need linesPlace lineBytesIn hasLines
+    need-same : neededLength b ≡ neededLength front
+    unfolding neededLength linesPlace lineBytesIn hasLines
     need-same = rw (← names-same, ← count-same, ← walk-same, ← bits-same, ← hops-same)
 
   module _ (s : Sound b) where
-    early : k < need front
-    early = ⊎-elim (λ l. l) (λ l. absurd (omega (arith, need-same l, s .exact))) (lt-or-le k (need front))
+    early : k < neededLength front
+    early = ⊎-elim (λ l. l) (λ l. absurd (omega (arith, need-same l, s .exact))) (lt-or-le k (neededLength front))
 
     low-front : bitMap front < 16
     low-front = ⊎-elim (λ l. omega (arith, same-at 0 l, s .low)) (λ l. omega (arith, List·getD-eq-default front 0 {n = 0} (omega (arith, front-long)))) (lt-or-le 0 k)

@@ -12,7 +12,7 @@ use Rattle.graph.specs.declared.Answer.{Answer}
 use Rattle.base_bounded.proofs.Bools.{clash}
 use Rattle.file_names.specs.Block.{firstBad}
 use Rattle.file_lines.specs.LineField.{zeroLines}
-use Rattle.file_fields.specs.Format.{bitMap, hasInitial, hasHops, hasNames, hasLines, labelsIn, initialIn, hopsIn, namesPlace, namesIn, restOf, linesPlace, need, idleBit}
+use Rattle.file_fields.specs.Format.{bitMap, hasInitial, hasHops, hasNames, hasLines, labelsIn, initialIn, hopsIn, namesPlace, namesIn, restOf, linesPlace, neededLength, redundantBit}
 use Rattle.file_fields.proofs.Laws.{names-before-end}
 use Rattle.file_format.specs.Rows.{most-bytes, namesAnswer, formatAnswer}
 
@@ -24,8 +24,8 @@ past false r x n e = (refl, e)
 pub record Sound (b : List ℕ) : Type 0 where
   pub short : length b ≤ most-bytes
   pub low : bitMap b < 16
-  pub exact : need b ≡ length b
-  pub busy : idleBit b ≡ false
+  pub exact : neededLength b ≡ length b
+  pub busy : redundantBit b ≡ false
   pub clean : namesIn b ≤ firstBad (restOf b) (namesIn b)
 
 module _ (b : List ℕ) where
@@ -34,14 +34,14 @@ module _ (b : List ℕ) where
   format-sound e =
       let (p, e1) = past (ltb most-bytes (length b)) _ _ (λ z. absurd (omega arith)) e in
       let (q, e2) = past (leb 16 (bitMap b)) _ _ (λ z. absurd (omega arith)) e1 in
-      let (r, e3) = past (ltb (length b) (need b)) _ _ (λ z. absurd (omega arith)) e2 in
-      let (s, e4) = past (ltb (need b) (length b)) _ _ (λ z. absurd (omega arith)) e3 in
-      let (t, e5) = past (idleBit b) _ _ (λ z. absurd (omega arith)) e4 in
+      let (r, e3) = past (ltb (length b) (neededLength b)) _ _ (λ z. absurd (omega arith)) e2 in
+      let (s, e4) = past (ltb (neededLength b) (length b)) _ _ (λ z. absurd (omega arith)) e3 in
+      let (t, e5) = past (redundantBit b) _ _ (λ z. absurd (omega arith)) e4 in
       let (u, e6) = past (ltb (firstBad (restOf b) (namesIn b)) (namesIn b)) _ _ (λ z. absurd (omega arith)) e5 in
       record {
         short = ltb-false _ _ p;
         low = leb-false _ _ q;
-        exact = omega (arith, ltb-false (length b) (need b) r, ltb-false (need b) (length b) s);
+        exact = omega (arith, ltb-false (length b) (neededLength b) r, ltb-false (neededLength b) (length b) s);
         busy = t;
         clean = ltb-false _ _ u;
       }
@@ -51,7 +51,7 @@ module _ (b : List ℕ) where
   names-within s = omega (arith, s .exact, names-before-end b)
 
   -- each bit stands over something
-  module _ (s : idleBit b ≡ false) where
+  module _ (s : redundantBit b ≡ false) where
     apart : (x y z w : Bool) → (x || (y || (z || w))) ≡ false → (x ≡ false) × (y ≡ false) × (z ≡ false) × (w ≡ false)
     apart true y z w e = clash refl e
     apart false true z w e = clash refl e
@@ -65,7 +65,7 @@ module _ (b : List ℕ) where
     bits :
         ((hasInitial b && eqb (initialIn b) 0) ≡ false) × ((hasHops b && eqb (hopsIn b) 0) ≡ false) × ((hasNames b && leb (labelsIn b) 1) ≡ false) ×
         ((hasLines b && zeroLines b (linesPlace b) (hopsIn b)) ≡ false)
-    unfolding idleBit
+    unfolding redundantBit
     bits = apart (hasInitial b && eqb (initialIn b) 0) (hasHops b && eqb (hopsIn b) 0) (hasNames b && leb (labelsIn b) 1) (hasLines b && zeroLines b (linesPlace b) (hopsIn b)) s
 
     pub initial-there : hasInitial b ≡ true → initialIn b ≡ 0 → ⊥

@@ -11,7 +11,7 @@ use Rattle.graph.specs.declared.Answer.{Answer}
 use Rattle.file_lines.specs.LineField.{linesLength}
 use Rattle.file_hops.specs.Field.{fieldLength}
 use Rattle.file_names.specs.Block.{most-name-bytes, nameAt, firstBad}
-use Rattle.file_fields.specs.Format.{initial-place, bitMap, namesPlace, namesIn, restOf, need, idleBit}
+use Rattle.file_fields.specs.Format.{initial-place, bitMap, namesPlace, namesIn, restOf, neededLength, redundantBit}
 
 -- "for labels 1 upward"
 abbrev pub most-names : ℕ
@@ -31,9 +31,9 @@ unfoldable pub formatAnswer : List ℕ → Answer
 formatAnswer b =
     cond (ltb most-bytes (length b)) (refused 13 most-bytes)
     (cond (leb 16 (bitMap b)) (refused 12 0)
-    (cond (ltb (length b) (need b)) (refused 11 (length b))
-    (cond (ltb (need b) (length b)) (refused 13 (need b))
-    (cond (idleBit b) (refused 12 0)
+    (cond (ltb (length b) (neededLength b)) (refused 11 (length b))
+    (cond (ltb (neededLength b) (length b)) (refused 13 (neededLength b))
+    (cond (redundantBit b) (refused 12 0)
     (namesAnswer b)))))
 
 -- what is known where the first two have passed and the hops end within the file: `rest` is what follows them

@@ -4,10 +4,10 @@
 // (a bit over a field that holds what absence means), 14 (a bad name). `file_read` asks this first.
 // Uses `file_fields` for the layout and `file_names` for the search for a bad name.
 use file_fields::INITIAL_PLACE;
-use file_fields::idle_bit;
 use file_fields::line_bytes_in;
 use file_fields::names_in;
 use file_fields::names_place;
+use file_fields::redundant_bit;
 use file_hops::hops::MOST_FIELD_BYTES;
 use file_lines::MOST_LINE_BYTES;
 use file_names::LEAST_NAME_BYTES;
@@ -47,7 +47,7 @@ fn rest_answer(file: &[u8], rest: &[u8], place: usize) -> Answer
     if end < rest.len() {
         return refuse(13, place + end);
     }
-    if idle_bit(file, place + names_end) {
+    if redundant_bit(file, place + names_end) {
         return refuse(12, 0);
     }
     let mut places = [0u16; PLACES];

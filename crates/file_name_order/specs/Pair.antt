@@ -32,7 +32,7 @@ abbrev pub fourAt : List ℕ → ℕ → ℕ
 fourAt ns p = numberAt ns p + 65536 * numberAt ns (p + 2)
 
 -- the name at p is before the one at q: the first byte that differs is less. The length byte is the first of all, so a shorter name is before a longer one.
-pub record Ahead (ns : List ℕ) (p q : ℕ) : Type 0 where
+pub record NameBefore (ns : List ℕ) (p q : ℕ) : Type 0 where
   pub first : ℕ
   pub inside : first ≤ getD ns p 0
   pub agree : Agree ns p q first
@@ -40,6 +40,6 @@ pub record Ahead (ns : List ℕ) (p q : ℕ) : Type 0 where
 
 -- what a comparison of the names at p and q tells
 abbrev pub Compared : List ℕ → ℕ → ℕ → Order → Type 0
-Compared ns p q Before = Ahead ns p q
+Compared ns p q Before = NameBefore ns p q
 Compared ns p q Same = sameName ns p q ≡ true
-Compared ns p q After = Ahead ns q p
+Compared ns p q After = NameBefore ns q p

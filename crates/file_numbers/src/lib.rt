@@ -19,7 +19,7 @@ pub fn byte_at(bytes: &[u8], i: usize) -> u8
     0
 }
 
-fn joined(low: u8, high: u8) -> u16
+fn from_bytes(low: u8, high: u8) -> u16
     ensures { λ r. ⌜ r ≡ low + 256 * high ⌝ }
 {
     (low as u16) + 256 * (high as u16)
@@ -32,7 +32,7 @@ pub fn number_at(bytes: &[u8], i: usize) -> u16
 {
     let low = byte_at(bytes, i);
     let high = byte_at(bytes, i + 1);
-    joined(low, high)
+    from_bytes(low, high)
 }
 
 // The number at a place, of which both bytes are there.
@@ -40,7 +40,7 @@ pub fn number_in(bytes: &[u8], i: usize) -> u16
     requires { ⌜ i + 2 ≤ length (now bytes) ⌝ }
     ensures { λ r. ⌜ r ≡ numberAt (now (bytes .entry)) i ⌝ }
 {
-    joined(bytes[i], bytes[i + 1])
+    from_bytes(bytes[i], bytes[i + 1])
 }
 
 // A number at a place of the output.

@@ -25,7 +25,7 @@ use Rattle.file_format.specs.Rows.{formatAnswer}
 use Rattle.file_format.proofs.Sound.{Sound, format-sound}
 use Rattle.file_format.proofs.Cut.{front-refused}
 use Rattle.base_outputs.specs.Output.{onFront}
-use Rattle.file_read.specs.Read.{readAnswer, readOf, readHops, nothing, contentsOf}
+use Rattle.file_read.specs.Read.{readAnswer, readOf, readHops, refusedContents, contentsOf}
 
 -- a graph with too many hops is refused whatever they are
 unfit : (sh : Shape) (hs : List ℕ) → most-hops < count hs → countsFit sh hs ≡ false
@@ -113,7 +113,7 @@ module _ (b : List ℕ) where
 
   -- what a refusal and an acceptance give and write
   module _ (old : List ℕ) where
-    pub refused-gives : {a : Answer} → a ≡ readAnswer b (length old) → (a .number ≡ 0 → ⊥) → (nothing a ≡ readOf b (length old)) × (old ≡ readHops b old)
+    pub refused-gives : {a : Answer} → a ≡ readAnswer b (length old) → (a .number ≡ 0 → ⊥) → (refusedContents a ≡ readOf b (length old)) × (old ≡ readHops b old)
     unfolding readOf readHops
     refused-gives e n = (rw (← e, ne-eqb _ _ n), rw (← e, ne-eqb _ _ n))
 

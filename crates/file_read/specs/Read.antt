@@ -18,14 +18,14 @@ unfoldable pub readAnswer : List ℕ → ℕ → Answer
 readAnswer b capacity = andThen (formatAnswer b) (andThen (checkOf (shapeIn b) (hopListIn b)) (capacityAnswer (numberPlace (hopsIn b)) capacity))
 
 -- "with any number but 0 every other figure in the answer is 0"
-abbrev pub nothing : Answer → Contents
-nothing a = record { answer = a; shape = record { states = 0; labels = 0; initial = 0 }; hops = 0; «names_place» = 0; «names_len» = 0 }
+abbrev pub refusedContents : Answer → Contents
+refusedContents a = record { answer = a; shape = record { states = 0; labels = 0; initial = 0 }; hops = 0; «names_place» = 0; «names_len» = 0 }
 
 abbrev pub contentsOf : List ℕ → Contents
 contentsOf b = record { answer = accepted; shape = shapeIn b; hops = hopsIn b; «names_place» = blockPlace b; «names_len» = blockLength b }
 
 unfoldable pub readOf : List ℕ → ℕ → Contents
-readOf b capacity = cond (eqb (readAnswer b capacity .number) 0) (contentsOf b) (nothing (readAnswer b capacity))
+readOf b capacity = cond (eqb (readAnswer b capacity .number) 0) (contentsOf b) (refusedContents (readAnswer b capacity))
 
 -- "A refusal leaves all lent elements untouched"; "Acceptance writes the named elements and none past them"
 unfoldable pub readHops : List ℕ → List ℕ → List ℕ

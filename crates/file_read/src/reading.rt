@@ -20,12 +20,12 @@ ghost use mathlib.Core.Path.{_≡_};
 ghost use Prim.Native.Nat.{_≤_};
 ghost use lib.ListN.{length};
 ghost use Rattle.graph_check.specs.Check.{checkOf};
-ghost use Rattle.file_fields.specs.Format.{namesPlace, need, shapeIn, hopListIn};
-ghost use Rattle.file_read.specs.Read.{readAnswer, readOf, readHops, nothing, contentsOf};
+ghost use Rattle.file_fields.specs.Format.{namesPlace, neededLength, shapeIn, hopListIn};
+ghost use Rattle.file_read.specs.Read.{readAnswer, readOf, readHops, refusedContents, contentsOf};
 
 // 1 to 4, asked of a copy of the hops: a refusal must not have written any.
 fn hops_answer(file: &[u8]) -> Answer
-    requires { ⌜ need (now file) ≤ length (now file) ⌝ }
+    requires { ⌜ neededLength (now file) ≤ length (now file) ⌝ }
     ensures { λ r. ⌜ r ≡ checkOf (shapeIn (now (file .entry))) (hopListIn (now (file .entry))) ⌝ }
 {
     let count = hops_in(file) as usize;
@@ -58,7 +58,7 @@ pub fn read_answer(file: &[u8], capacity: usize) -> Answer
 
 // With a refusal every other figure is 0.
 pub fn refusal(answer: Answer) -> Contents
-    ensures { λ r. ⌜ r ≡ nothing answer ⌝ }
+    ensures { λ r. ⌜ r ≡ refusedContents answer ⌝ }
 {
     Contents {
         answer,

@@ -21,7 +21,7 @@ use Rattle.file_lines.proofs.Laws.{LinesStand, lines-again, zero-lines}
 use Rattle.file_hops.specs.Field.{fieldBytes}
 use Rattle.file_hops.proofs.Field.{field-again, lines-in-field, no-lines-in-field}
 use Rattle.file_fields.specs.Format.{states-place, labels-place, initial-place, bitMap, hasInitial, hasHops, hasNames, hasLines, statesIn, labelsIn, initialIn, hopsPlace, hopsIn}
-use Rattle.file_fields.specs.Format.{namesPlace, namesIn, restOf, linesPlace, linesIn, need, shapeIn, hopListIn, blockIn}
+use Rattle.file_fields.specs.Format.{namesPlace, namesIn, restOf, linesPlace, linesIn, neededLength, shapeIn, hopListIn, blockIn}
 use Rattle.file_read.specs.Read.{readAnswer}
 use Rattle.file_encode.specs.Encode.{bitsOf, initialBytes, hopsBytes, linesBytes, headBytes, encode}
 use Rattle.file_encode.proofs.Encoded.{initial-none, initial-some, hops-none, hops-some, lines-none, lines-some}
@@ -88,7 +88,7 @@ module _ (b : List ℕ) (small : Bytes b) where
 
     -- the block ends where its names do
     pub block-ends : nameAt (restOf b) (namesIn b) ≡ length (blockIn b)
-    unfolding restOf linesPlace need
+    unfolding restOf linesPlace neededLength
     block-ends =
         omega (arith, ap length block-again, length-append (blockIn b) (drop (linesPlace b) b), length-drop (namesPlace b) b, length-drop (linesPlace b) b, s .exact)
 
@@ -108,7 +108,7 @@ module _ (b : List ℕ) (small : Bytes b) where
       off e = no-lines-in-field b (hopsPlace b) (linesIn b) (hopsIn b) e ∙ sym e
 
     lines-at-end : drop (linesPlace b) b ≡ linesBytes (hopListIn b)
-    unfolding need
+    unfolding neededLength
     lines-at-end = ⊎-elim on off (decided (hasLines b)) where
       on : hasLines b ≡ true → drop (linesPlace b) b ≡ linesBytes (hopListIn b)
       on e =

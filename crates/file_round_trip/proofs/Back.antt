@@ -27,7 +27,7 @@ use Rattle.file_lines.proofs.Laws.{LinesStand, lines-back, zero-lines, line-bac
 use Rattle.file_hops.specs.Field.{hopsInField, fieldBytes}
 use Rattle.file_hops.proofs.Field.{length-in-field, count-back, field-back}
 use Rattle.file_fields.specs.Format.{initial-place, bitMap, hasInitial, hasHops, hasNames, hasLines, statesIn, labelsIn, initialIn, hopsPlace, hopsIn, namesPlace, namesIn, restOf}
-use Rattle.file_fields.specs.Format.{linesPlace, lineBytesIn, linesIn, need, shapeIn, hopListIn, blockPlace, blockLength, blockIn, idleBit}
+use Rattle.file_fields.specs.Format.{linesPlace, lineBytesIn, linesIn, neededLength, shapeIn, hopListIn, blockPlace, blockLength, blockIn, redundantBit}
 use Rattle.file_format.specs.Rows.{most-names, most-bytes, formatAnswer}
 use Rattle.file_read.specs.Read.{readAnswer, contentsOf}
 use Rattle.file_encode.specs.Encode.{bitsOf, initialBytes, hopsBytes, linesBytes, headBytes, encode}
@@ -221,8 +221,8 @@ module _ (sh : Shape) (hs ns : List ℕ) (whole : length hs % numbers-a-hop ≡ 
           let long : blockLength file ≡ length ns = omega (arith, l, lines-place-back) in
           (rw (p, long, rest-back) (take-append-seam ns (linesBytes hs)), long, p ∙ rw (ne-eqb (length ns) 0 y) (omega (arith, initial-back .1, hops-back .1, length-encode sh hs ns)))
 
-    need-back : need file ≡ length file
-    unfolding need
+    need-back : neededLength file ≡ length file
+    unfolding neededLength
     need-back = omega (arith, lines-place-back, line-bytes-back, initial-back .1, hops-back .1, length-encode sh hs ns)
 
     -- no bit stands over what absence means
@@ -231,8 +231,8 @@ module _ (sh : Shape) (hs ns : List ℕ) (whole : length hs % numbers-a-hop ≡ 
       none : sh .labels < 2 → named sh ns ≡ 0
       none l = rw (ne-eqb _ _ n) (omega arith)
 
-    busy-back : idleBit file ≡ false
-    unfolding idleBit
+    busy-back : redundantBit file ≡ false
+    unfolding redundantBit
     busy-back =
         rw (bits-back .0, initial-back .0, bits-back .1, hops-back .0, bits-back .2, labels-back, bits-back .3)
         (or-no (never (eqb (sh .initial) 0)) (or-no (never (eqb (count hs) 0)) (or-no names-busy lines-busy))) where

@@ -22,10 +22,10 @@ use Rattle.file_names.specs.Block.{nameAt, firstBad}
 use Rattle.file_names.proofs.Blocks.{name-later}
 use Rattle.file_names.proofs.Fronts.{name-same, first-bad-same}
 use Rattle.base_outputs.specs.Output.{onFront}
-use Rattle.file_fields.specs.Format.{hasNames, labelsIn, hopsIn, namesIn, restOf, linesPlace, need, shapeIn, hopListIn, blockPlace, blockLength, blockIn}
-use Rattle.file_read.specs.Read.{readAnswer, nothing, contentsOf, readOf, readHops}
+use Rattle.file_fields.specs.Format.{hasNames, labelsIn, hopsIn, namesIn, restOf, linesPlace, neededLength, shapeIn, hopListIn, blockPlace, blockLength, blockIn}
+use Rattle.file_read.specs.Read.{readAnswer, refusedContents, contentsOf, readOf, readHops}
 use Rattle.file_encode.specs.Encode.{encode}
-use Rattle.file_write.specs.Write.{blockAnswer, namesGiven, givenAnswer, writeAnswer, nothingWritten, writeOf, writeBytes}
+use Rattle.file_write.specs.Write.{blockAnswer, namesGiven, givenAnswer, writeAnswer, refusedWritten, writeOf, writeBytes}
 use Rattle.file_round_trip.specs.RoundTrip.{copyAnswer, copyOf, copyBytes, backAnswer, backOf, backBytes, backHops}
 use Rattle.file_read.specs.declared.Contents.{Contents}
 use Rattle.file_write.specs.declared.Written.{Written}
@@ -51,7 +51,7 @@ module _ (b : List ℕ) (capacity : ℕ) {c : Contents} (e : c ≡ readOf b capa
   found-accepted z = go (eqb (readAnswer b capacity .number) 0) refl where
     go : (t : Bool) → eqb (readAnswer b capacity .number) 0 ≡ t → (readAnswer b capacity .number ≡ 0) × (c ≡ contentsOf b)
     go true d = (eqb-true _ _ d, e ∙ rw d)
-    go false d = let q : c ≡ nothing (readAnswer b capacity) = e ∙ rw d in absurd (eqb-false _ _ d (ap (λ (x : Contents). x .answer .number) (sym q) ∙ z))
+    go false d = let q : c ≡ refusedContents (readAnswer b capacity) = e ∙ rw d in absurd (eqb-false _ _ d (ap (λ (x : Contents). x .answer .number) (sym q) ∙ z))
 
 module _ (sh : Shape) (hs ns : List ℕ) (capacity : ℕ) {w : Written} (e : w ≡ writeOf sh hs ns capacity) where
   pub put-refused : (w .answer .number ≡ 0 → ⊥) → w .answer ≡ writeAnswer sh hs ns capacity
@@ -66,7 +66,7 @@ module _ (sh : Shape) (hs ns : List ℕ) (capacity : ℕ) {w : Written} (e : w �
   put-accepted z = go (eqb (writeAnswer sh hs ns capacity .number) 0) refl where
     go : (t : Bool) → eqb (writeAnswer sh hs ns capacity .number) 0 ≡ t → (writeAnswer sh hs ns capacity .number ≡ 0) × (w .length ≡ length (encode sh hs ns))
     go true d = (eqb-true _ _ d, ap (λ (x : Written). x .length) e ∙ rw d)
-    go false d = let q : w ≡ nothingWritten (writeAnswer sh hs ns capacity) = e ∙ rw d in absurd (eqb-false _ _ d (ap (λ (x : Written). x .answer .number) (sym q) ∙ z))
+    go false d = let q : w ≡ refusedWritten (writeAnswer sh hs ns capacity) = e ∙ rw d in absurd (eqb-false _ _ d (ap (λ (x : Written). x .answer .number) (sym q) ∙ z))
 
 -- a file that reading accepts
 module _ (b : List ℕ) (capacity : ℕ) (small : Bytes b) (z : readAnswer b capacity .number ≡ 0) where
@@ -80,7 +80,7 @@ module _ (b : List ℕ) (capacity : ℕ) (small : Bytes b) (z : readAnswer b cap
   hops-again-most = omega (arith, hops-most b capacity z)
 
   pub block-within : blockPlace b + blockLength b ≤ length b
-  unfolding need
+  unfolding neededLength
   block-within =
       ⊎-elim (λ e. let (n, p, l) = names-on b e in omega (arith, names-before-lines b, sound .exact)) (λ e. let (n, p, l) = names-off b e in omega arith) (decided (hasNames b))
 
@@ -115,7 +115,7 @@ module _ (b old : List ℕ) where
   unfolding copyAnswer
   copy-speaks e n = rw (← e, ne-eqb _ _ n)
 
-  pub copy-refused : {a : Answer} → a ≡ readAnswer b most-numbers → (a .number ≡ 0 → ⊥) → (nothingWritten a ≡ copyOf b (length old)) × (old ≡ copyBytes b old)
+  pub copy-refused : {a : Answer} → a ≡ readAnswer b most-numbers → (a .number ≡ 0 → ⊥) → (refusedWritten a ≡ copyOf b (length old)) × (old ≡ copyBytes b old)
   unfolding copyOf copyBytes
   copy-refused e n = (rw (copy-speaks e n, ne-eqb _ _ n), rw (copy-speaks e n, ne-eqb _ _ n))
 
@@ -134,7 +134,7 @@ module _ (b old : List ℕ) where
 
 -- what was read, as it is handed on to be written
 module _ (b before : List ℕ) (small : Bytes b) (l : length before ≡ most-numbers) {c : Contents} (e : c ≡ readOf b (length before)) where
-  pub copy-unread : (old : List ℕ) → (c .answer .number ≡ 0 → ⊥) → (nothingWritten (c .answer) ≡ copyOf b (length old)) × (old ≡ copyBytes b old)
+  pub copy-unread : (old : List ℕ) → (c .answer .number ≡ 0 → ⊥) → (refusedWritten (c .answer) ≡ copyOf b (length old)) × (old ≡ copyBytes b old)
   copy-unread old n = copy-refused b old (found-refused b most-numbers (e ∙ ap (readOf b) l) n) n
 
   module _ (y : c .answer .number ≡ 0) where
@@ -173,7 +173,7 @@ module _ (b before : List ℕ) (small : Bytes b) (l : length before ≡ most-num
 -- the ways out of writing and reading again
 module _ (sh : Shape) (hs ns file again : List ℕ) where
   pub back-refused : {a : Answer} → a ≡ backAnswer sh hs ns (length file) (length again) → (a .number ≡ 0 → ⊥) →
-      (nothing a ≡ backOf sh hs ns (length file) (length again)) × ((file ≡ backBytes sh hs ns file (length again)) × (again ≡ backHops sh hs ns (length file) again))
+      (refusedContents a ≡ backOf sh hs ns (length file) (length again)) × ((file ≡ backBytes sh hs ns file (length again)) × (again ≡ backHops sh hs ns (length file) again))
   unfolding backOf backBytes backHops
   back-refused e n = (rw (← e, ne-eqb _ _ n), (rw (← e, ne-eqb _ _ n), rw (← e, ne-eqb _ _ n)))
 

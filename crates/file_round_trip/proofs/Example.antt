@@ -12,8 +12,8 @@ use Rattle.graph_check.specs.Check.{countsFit, inside, firstOutside, ascendsAt,
 use Rattle.graph.specs.declared.Shape.{Shape}
 use Rattle.file_names.specs.Block.{nameAt, repeated, lengthFits, bad, firstBad}
 use Rattle.file_name_order.specs.Pair.{sameByte, sameName}
-use Rattle.file_fields.specs.Format.{hasInitial, hasHops, hasNames, hasLines, initialIn, hopsPlace, hopsIn, namesPlace, namesIn, restOf, linesPlace, lineBytesIn, linesIn, need, shapeIn, hopListIn}
-use Rattle.file_fields.specs.Format.{idleBit}
+use Rattle.file_fields.specs.Format.{hasInitial, hasHops, hasNames, hasLines, initialIn, hopsPlace, hopsIn, namesPlace, namesIn, restOf, linesPlace, lineBytesIn, linesIn, neededLength, shapeIn, hopListIn}
+use Rattle.file_fields.specs.Format.{redundantBit}
 use Rattle.file_numbers.specs.Parts.{parts}
 use Rattle.file_lines.specs.LineField.{lineIn, zeroLines, anyLine, lineList}
 use Rattle.file_hops.specs.Field.{hopFrom, hopsBy, hopsInField, hopBytes, fieldBytes}
@@ -36,7 +36,7 @@ unfolding encode headBytes bitsOf initialBytes hopsBytes linesBytes anyLine any 
 p1-bytes = (refl, refl)
 
 pub p1-read : (readAnswer bytes 16 ≡ accepted) × (hopListIn bytes ≡ hops) × (readAnswer bytes 15 ≡ refused 6 0) × (readAnswer [] 0 ≡ refused 11 0)
-unfolding readAnswer formatAnswer namesAnswer idleBit need linesPlace lineBytesIn linesIn lineIn zeroLines restOf namesIn namesPlace hopsIn hopsPlace initialIn hasInitial hasHops hasNames hasLines shapeIn hopListIn nameAt firstBad bad lengthFits repeated sameName sameByte checkOf countsFit firstOutside inside firstNotAscending ascendsAt before hopsInField hopsBy hopFrom flat least all any
+unfolding readAnswer formatAnswer namesAnswer redundantBit neededLength linesPlace lineBytesIn linesIn lineIn zeroLines restOf namesIn namesPlace hopsIn hopsPlace initialIn hasInitial hasHops hasNames hasLines shapeIn hopListIn nameAt firstBad bad lengthFits repeated sameName sameByte checkOf countsFit firstOutside inside firstNotAscending ascendsAt before hopsInField hopsBy hopFrom flat least all any
 p1-read = (refl, refl, refl, refl)
 
 -- the second hop of line 5 and the last of line 300
@@ -53,5 +53,5 @@ unfolding encode headBytes bitsOf initialBytes hopsBytes linesBytes lineList any
 lined-bytes = (refl, refl)
 
 pub lined-read : (readAnswer linedBytes 16 ≡ accepted) × (hopListIn linedBytes ≡ linedHops)
-unfolding readAnswer formatAnswer namesAnswer idleBit need linesPlace lineBytesIn linesIn lineIn zeroLines restOf namesIn namesPlace hopsIn hopsPlace initialIn hasInitial hasHops hasNames hasLines shapeIn hopListIn nameAt firstBad bad lengthFits repeated sameName sameByte checkOf countsFit firstOutside inside firstNotAscending ascendsAt before hopsInField hopsBy hopFrom flat least all any
+unfolding readAnswer formatAnswer namesAnswer redundantBit neededLength linesPlace lineBytesIn linesIn lineIn zeroLines restOf namesIn namesPlace hopsIn hopsPlace initialIn hasInitial hasHops hasNames hasLines shapeIn hopListIn nameAt firstBad bad lengthFits repeated sameName sameByte checkOf countsFit firstOutside inside firstNotAscending ascendsAt before hopsInField hopsBy hopFrom flat least all any
 lined-read = (refl, refl)

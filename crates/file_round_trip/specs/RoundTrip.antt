@@ -9,10 +9,10 @@ use Rattle.graph.specs.Answers.{most-numbers, accepted, andThen, capacityAnswer
 use Rattle.graph.specs.declared.Shape.{Shape}
 use Rattle.graph.specs.declared.Answer.{Answer}
 use Rattle.base_outputs.specs.Output.{written}
-use Rattle.file_read.specs.Read.{readAnswer, nothing}
+use Rattle.file_read.specs.Read.{readAnswer, refusedContents}
 use Rattle.file_read.specs.declared.Contents.{Contents}
 use Rattle.file_encode.specs.Encode.{linesBytes, encode}
-use Rattle.file_write.specs.Write.{givenAnswer, nothingWritten}
+use Rattle.file_write.specs.Write.{givenAnswer, refusedWritten}
 use Rattle.file_write.specs.declared.Written.{Written}
 
 -- "A file read and written again has the same bytes": it is read into room for the hops of every graph
@@ -20,7 +20,7 @@ unfoldable pub copyAnswer : List ℕ → ℕ → Answer
 copyAnswer b capacity = andThen (readAnswer b most-numbers) (capacityAnswer (length b) capacity)
 
 unfoldable pub copyOf : List ℕ → ℕ → Written
-copyOf b capacity = cond (eqb (copyAnswer b capacity .number) 0) (record { answer = accepted; length = length b }) (nothingWritten (copyAnswer b capacity))
+copyOf b capacity = cond (eqb (copyAnswer b capacity .number) 0) (record { answer = accepted; length = length b }) (refusedWritten (copyAnswer b capacity))
 
 unfoldable pub copyBytes : List ℕ → List ℕ → List ℕ
 copyBytes b old = written (copyAnswer b (length old) .number) b old
@@ -36,7 +36,7 @@ unfoldable pub backAnswer : Shape → List ℕ → List ℕ → ℕ → ℕ → 
 backAnswer sh hs ns capacity hopCapacity = andThen (givenAnswer sh hs ns) (andThen (capacityAnswer (length hs) hopCapacity) (capacityAnswer (length (encode sh hs ns)) capacity))
 
 unfoldable pub backOf : Shape → List ℕ → List ℕ → ℕ → ℕ → Contents
-backOf sh hs ns capacity hopCapacity = cond (eqb (backAnswer sh hs ns capacity hopCapacity .number) 0) (sameGraph sh hs ns) (nothing (backAnswer sh hs ns capacity hopCapacity))
+backOf sh hs ns capacity hopCapacity = cond (eqb (backAnswer sh hs ns capacity hopCapacity .number) 0) (sameGraph sh hs ns) (refusedContents (backAnswer sh hs ns capacity hopCapacity))
 
 unfoldable pub backBytes : Shape → List ℕ → List ℕ → List ℕ → ℕ → List ℕ
 backBytes sh hs ns old hopCapacity = written (backAnswer sh hs ns (length old) hopCapacity .number) (encode sh hs ns) old

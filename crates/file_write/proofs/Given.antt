@@ -18,7 +18,7 @@ use Rattle.file_names.specs.Block.{nameAt, firstBad, Searchable}
 use Rattle.file_names.proofs.Blocks.{name-less, name-least}
 use Rattle.base_outputs.specs.Output.{onFront}
 use Rattle.file_encode.specs.Encode.{encode, Writable}
-use Rattle.file_write.specs.Write.{blockAnswer, namesGiven, givenAnswer, writeAnswer, nothingWritten, writeOf, writeBytes}
+use Rattle.file_write.specs.Write.{blockAnswer, namesGiven, givenAnswer, writeAnswer, refusedWritten, writeOf, writeBytes}
 use Rattle.file_write.specs.declared.Written.{Written}
 
 -- row 14
@@ -109,7 +109,7 @@ module _ (sh : Shape) (hs ns : List ℕ) where
 
   -- what a refusal and an acceptance give
   module _ (capacity : ℕ) where
-    pub refused-gives : {a : Answer} → a ≡ writeAnswer sh hs ns capacity → (a .number ≡ 0 → ⊥) → nothingWritten a ≡ writeOf sh hs ns capacity
+    pub refused-gives : {a : Answer} → a ≡ writeAnswer sh hs ns capacity → (a .number ≡ 0 → ⊥) → refusedWritten a ≡ writeOf sh hs ns capacity
     unfolding writeOf
     refused-gives e n = rw (← e, ne-eqb _ _ n)
 

@@ -33,13 +33,13 @@ unfoldable pub writeAnswer : Shape → List ℕ → List ℕ → ℕ → Answer
 writeAnswer sh hs ns capacity = andThen (givenAnswer sh hs ns) (capacityAnswer (length (encode sh hs ns)) capacity)
 
 -- "with any number but 0 every other figure in the answer is 0"
-abbrev pub nothingWritten : Answer → Written
-nothingWritten a = record { answer = a; length = 0 }
+abbrev pub refusedWritten : Answer → Written
+refusedWritten a = record { answer = a; length = 0 }
 
 unfoldable pub writeOf : Shape → List ℕ → List ℕ → ℕ → Written
 writeOf sh hs ns capacity =
     cond (eqb (writeAnswer sh hs ns capacity .number) 0) (record { answer = accepted; length = length (encode sh hs ns) })
-    (nothingWritten (writeAnswer sh hs ns capacity))
+    (refusedWritten (writeAnswer sh hs ns capacity))
 
 -- "A refusal leaves all lent elements untouched"; "Acceptance writes the named elements and none past them"
 unfoldable pub writeBytes : Shape → List ℕ → List ℕ → List ℕ → List ℕ

@@ -14,7 +14,7 @@ ghost use mathlib.Core.Path.{_≡_};
 ghost use Prim.Native.Nat.{_<_};
 ghost use lib.ListN.{length};
 ghost use Rattle.graph.specs.Answers.{most-labels};
-ghost use Rattle.file_write.specs.Write.{blockAnswer, givenAnswer, writeAnswer, nothingWritten, writeOf, writeBytes};
+ghost use Rattle.file_write.specs.Write.{blockAnswer, givenAnswer, writeAnswer, refusedWritten, writeOf, writeBytes};
 
 // Row 14 of a block of n names.
 fn block_answer(names: &[u8], n: usize) -> Answer
@@ -53,7 +53,7 @@ pub fn given_answer(shape: Shape, hops: &[u16], names: &[u8]) -> Answer
 
 // With a refusal the length is 0.
 pub fn unwritten(answer: Answer) -> Written
-    ensures { λ r. ⌜ r ≡ nothingWritten answer ⌝ }
+    ensures { λ r. ⌜ r ≡ refusedWritten answer ⌝ }
 {
     Written { answer, length: 0 }
 }

@@ -35,7 +35,7 @@ use Rattle.reduce_entry.proofs.Marked.{after-map, after-short, after-shape, aft
 use Rattle.file_fields.specs.Format.{hopsIn, shapeIn, hopListIn}
 use Rattle.file_fields.proofs.Laws.{length-hop-list, count-hop-list}
 use Rattle.file_format.specs.Rows.{formatAnswer}
-use Rattle.file_read.specs.Read.{readAnswer, readOf, readHops, contentsOf, nothing}
+use Rattle.file_read.specs.Read.{readAnswer, readOf, readHops, contentsOf, refusedContents}
 use Rattle.file_read.specs.declared.Contents.{Contents}
 use Rattle.report_text.specs.Text.{Room, Put}
 use Rattle.report_rows.specs.Rows.{linesOf, refusalOf}
@@ -137,13 +137,13 @@ module _ (b : List ℕ) where
       same-text (checkOf (shapeIn b) (hopListIn b)) (λ z. capacity-text (numberPlace (hopsIn b)) (length old) (omega (arith, hops-fit z, count-hop-list b)) t))
 
   module _ (old : List ℕ) (l : most-numbers ≤ length old) {x : Contents} (e : x ≡ readOf b (length old)) where
-    chosen : (t : Bool) → eqb (readAnswer b (length old) .number) 0 ≡ t → x ≡ cond t (contentsOf b) (nothing (readAnswer b (length old)))
+    chosen : (t : Bool) → eqb (readAnswer b (length old) .number) 0 ≡ t → x ≡ cond t (contentsOf b) (refusedContents (readAnswer b (length old)))
     unfolding readOf
     chosen t d = rw d at e
 
     refused-answer : (x .answer .number ≡ 0 → ⊥) → x .answer ≡ readAnswer b (length old)
     refused-answer n = go (eqb (readAnswer b (length old) .number) 0) (chosen _ refl) where
-      go : (t : Bool) → x ≡ cond t (contentsOf b) (nothing (readAnswer b (length old))) → x .answer ≡ readAnswer b (length old)
+      go : (t : Bool) → x ≡ cond t (contentsOf b) (refusedContents (readAnswer b (length old))) → x .answer ≡ readAnswer b (length old)
       go true d = absurd (n (ap (λ (y : Contents). y .answer .number) d))
       go false d = ap (λ (y : Contents). y .answer) d
 

@@ -1,8 +1,8 @@
--- `file_fields::idle_bit` meets its contract: the code is the definition. Assumes nothing.
-use Rattle.file_fields.specs.Format.{idleBit}
+-- `file_fields::redundant_bit` meets its contract: the code is the definition. Assumes nothing.
+use Rattle.file_fields.specs.Format.{redundantBit}
 use borrow.Author.Needs.{needs}
-use Rattle.file_fields.proofs.idle_bit.Statement.{statement}
-use Rattle.file_fields.proofs.idle_bit.Tie as tie
+use Rattle.file_fields.proofs.redundant_bit.Statement.{statement}
+use Rattle.file_fields.proofs.redundant_bit.Tie as tie
 
 initial-in-requires : tie.Need-initial-in-requires
 initial-in-requires c κs = search needs
@@ -22,15 +22,15 @@ has-hops-requires c κs = search needs
 has-names-requires : tie.Need-has-names-requires
 has-names-requires c κs = search needs
 
-idle-lines-requires : tie.Need-idle-lines-requires
-idle-lines-requires c κs = search needs
+redundant-lines-requires : tie.Need-redundant-lines-requires
+redundant-lines-requires c κs = search needs
 
 returns : tie.Need-returns
-unfolding idleBit
+unfolding redundantBit
 returns c = cc
 
-pub idle-bit-spec : {M : Type 1} → statement M
-idle-bit-spec =
+pub redundant-bit-spec : {M : Type 1} → statement M
+redundant-bit-spec =
     tie.close
     (tie.spec
     initial-in-requires
@@ -39,5 +39,5 @@ idle-bit-spec =
     has-initial-requires
     has-hops-requires
     has-names-requires
-    idle-lines-requires
+    redundant-lines-requires
     returns)

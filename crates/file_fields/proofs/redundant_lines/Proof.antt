@@ -1,11 +1,11 @@
--- `file_fields::idle_lines` meets its contract: each way out is a case of the definition. Assumes nothing.
+-- `file_fields::redundant_lines` meets its contract: each way out is a case of the definition. Assumes nothing.
 use mathlib.Core.Path.{sym, _∙_}
 use native.Mathlib.Omega.{arith}
-use Rattle.file_fields.specs.Format.{need}
+use Rattle.file_fields.specs.Format.{neededLength}
 use Rattle.file_fields.proofs.Laws.{lines-on}
 use borrow.Author.Needs.{needs}
-use Rattle.file_fields.proofs.idle_lines.Statement.{statement}
-use Rattle.file_fields.proofs.idle_lines.Tie as tie
+use Rattle.file_fields.proofs.redundant_lines.Statement.{statement}
+use Rattle.file_fields.proofs.redundant_lines.Tie as tie
 
 has-lines-requires : tie.Need-has-lines-requires
 has-lines-requires c κs = search needs
@@ -17,7 +17,7 @@ cast-are-zero : tie.Need-cast-are-zero
 cast-are-zero c = search needs
 
 are-zero-requires : tie.Need-are-zero-requires
-unfolding need
+unfolding neededLength
 are-zero-requires c κs = omega (arith, lines-on (c .before .before .before .before .args .file .now) (sym (c .before .before .has-lines .ensures) ∙ c .before .if1 .taken))
 
 returns : tie.Need-returns
@@ -26,8 +26,8 @@ returns c = rw (sym (c .before .before .before .has-lines .ensures) ∙ c .befor
 returns-2 : tie.Need-returns-2
 returns-2 c = rw (sym (c .before .has-lines .ensures) ∙ c .if1 .left)
 
-pub idle-lines-spec : {M : Type 1} → statement M
-idle-lines-spec =
+pub redundant-lines-spec : {M : Type 1} → statement M
+redundant-lines-spec =
     tie.close
     (tie.spec
     has-lines-requires
