@@ -30,13 +30,13 @@ use Rattle.reduce_short_graph.specs.Short.{shortHops, shortShape}
 use Rattle.reduce_short_graph.proofs.Images.{short-few}
 use Rattle.reduce_short_graph.proofs.Lines.{short-line-smallest}
 use Rattle.reduce_short_graph.proofs.Reduces.{shape-admitted, map-inside}
-use Rattle.report_text.specs.Text.{digits, decimal, spaced, numbered, line, lines, in-word, marked-word, map-word, out-word, hop-word, no-word}
+use Rattle.report_text.specs.Text.{digits, decimal, spaced, spacedNumbers, textLine, textLines, in-word, marked-word, map-word, out-word, hop-word, no-word}
 use Rattle.report_rows.specs.Rows.{markedLine, mapLine, hopLine, linesOf, refusalOf}
 use Rattle.report_entry.specs.Report.{reportOf, most-text}
 
 -- the numbers of a list have 16 bits
-abbrev pub Narrow : List ℕ → Type 0
-Narrow hs = (i : ℕ) → getD hs i 0 < 65536
+abbrev pub NarrowList : List ℕ → Type 0
+NarrowList hs = (i : ℕ) → getD hs i 0 < 65536
 
 -- the hop at place i is a silent one of u
 abbrev isIn : List ℕ → Pairs → ℕ → Bool
@@ -81,31 +81,31 @@ decimal-five = digits-step 10000 4 19 (digits-four 15)
 
 -- lines whose numbers take w digits at most
 module _ (w : ℕ) (word : List ℕ) (a b : ℕ) (p : length (decimal a) ≤ w) (q : length (decimal b) ≤ w) where
-  line2-most : length (line word (a ∷ b ∷ [])) ≤ length word + (w + w + 3)
-  unfolding line numbered spaced
+  line2-most : length (textLine word (a ∷ b ∷ [])) ≤ length word + (w + w + 3)
+  unfolding textLine spacedNumbers spaced
   line2-most = simp length-append (omega arith)
 
   module _ (c : ℕ) (r : length (decimal c) ≤ w) where
-    line3-most : length (line word (a ∷ b ∷ c ∷ [])) ≤ length word + (w + w + w + 4)
-    unfolding line numbered spaced
+    line3-most : length (textLine word (a ∷ b ∷ c ∷ [])) ≤ length word + (w + w + w + 4)
+    unfolding textLine spacedNumbers spaced
     line3-most = simp length-append (omega arith)
 
     -- the last of four may take v
-    line4-most : (v d : ℕ) → length (decimal d) ≤ v → length (line word (a ∷ b ∷ c ∷ d ∷ [])) ≤ length word + (w + w + w + v + 5)
-    unfolding line numbered spaced
+    line4-most : (v d : ℕ) → length (decimal d) ≤ v → length (textLine word (a ∷ b ∷ c ∷ d ∷ [])) ≤ length word + (w + w + w + v + 5)
+    unfolding textLine spacedNumbers spaced
     line4-most v d t = simp length-append (omega arith)
 
 -- the lines of the places that pass p, w each, where the others have none
-lines-most : (f : ℕ → List ℕ) (p : ℕ → Bool) (w n : ℕ) → ((i : ℕ) → i < n → length (f i) ≤ cond (p i) w 0) → length (lines n f) ≤ tally n p * w
-unfolding lines tally
+lines-most : (f : ℕ → List ℕ) (p : ℕ → Bool) (w n : ℕ) → ((i : ℕ) → i < n → length (f i) ≤ cond (p i) w 0) → length (textLines n f) ≤ tally n p * w
+unfolding textLines tally
 lines-most f p w zero h = omega arith
 lines-most f p w (suc n) h = go (p n) (h n (omega arith)) (lines-most f p w n (λ i l. h i (omega arith))) where
-  go : (x : Bool) → length (f n) ≤ cond x w 0 → length (lines n f) ≤ tally n p * w → length (lines n f ++ f n) ≤ (cond x 1 0 + tally n p) * w
-  go true l ih = omega (arith, length-append (lines n f) (f n), suc-mul (tally n p) w)
-  go false l ih = omega (arith, length-append (lines n f) (f n))
+  go : (x : Bool) → length (f n) ≤ cond x w 0 → length (textLines n f) ≤ tally n p * w → length (textLines n f ++ f n) ≤ (cond x 1 0 + tally n p) * w
+  go true l ih = omega (arith, length-append (textLines n f) (f n), suc-mul (tally n p) w)
+  go false l ih = omega (arith, length-append (textLines n f) (f n))
 
 -- a line of w at each place
-lines-each : (f : ℕ → List ℕ) (w n : ℕ) → ((i : ℕ) → i < n → length (f i) ≤ w) → length (lines n f) ≤ n * w
+lines-each : (f : ℕ → List ℕ) (w n : ℕ) → ((i : ℕ) → i < n → length (f i) ≤ w) → length (textLines n f) ≤ n * w
 lines-each f w n h = rw (tally-full (λ (i : ℕ). true) n (λ i l. refl)) at (lines-most f (λ (i : ℕ). true) w n h)
 
 pub refusal-most : (a : Answer) → length (refusalOf a) ≤ most-text
@@ -121,7 +121,7 @@ module _ (sh : Shape) (hs : List ℕ) (adm : Admitted sh hs) where
   marked-most : (u : Pairs) (i : ℕ) → i < count hs → length (markedLine hs (markOf hs u) i) ≤ cond (isIn hs u i) 17 0
   unfolding markedLine markOf
   marked-most u i l = go (isIn hs u i) where
-    go : (x : Bool) → length (cond (eqb (cond x 1 0) 1) (line marked-word (from hs i ∷ to hs i ∷ [])) []) ≤ cond x 17 0
+    go : (x : Bool) → length (cond (eqb (cond x 1 0) 1) (textLine marked-word (from hs i ∷ to hs i ∷ [])) []) ≤ cond x 17 0
     go true = line2-most 4 marked-word (from hs i) (to hs i) (state-most (adm .range .from-in i l)) (state-most (adm .range .to-in i l))
     go false = omega arith
 
@@ -148,12 +148,12 @@ module _ (sh : Shape) (hs : List ℕ) (u : Pairs) where
       )
 
 -- the line of a short hop is 0 or the line of a hop, and so of 16 bits where those are
-line-narrow : (sh : Shape) (hs : List ℕ) (u : Pairs) → Narrow hs → (i : ℕ) → i < count (flat (shortHops sh hs u)) → lineAt (flat (shortHops sh hs u)) i < 65536
+line-narrow : (sh : Shape) (hs : List ℕ) (u : Pairs) → NarrowList hs → (i : ℕ) → i < count (flat (shortHops sh hs u)) → lineAt (flat (shortHops sh hs u)) i < 65536
 line-narrow sh hs u n i l = ⊎-elim (λ z. omega arith) (λ p. let (j, _, _, e) = short-line-smallest sh hs u l .one-of-theirs (omega arith) in omega (arith, e, n (numberPlace j + 3)))
     (eq-or-not (lineAt (flat (shortHops sh hs u)) i) 0)
 
 -- 13 bytes for `in`, 17 a marked hop, 14 a state, 19 for `out`, 25 a short hop
-pub report-most : {sh : Shape} {hs : List ℕ} → Reducible sh hs → Narrow hs → length (reportOf sh hs) ≤ most-text
+pub report-most : {sh : Shape} {hs : List ℕ} → Reducible sh hs → NarrowList hs → length (reportOf sh hs) ≤ most-text
 unfolding reportOf linesOf mapLine
 report-most {sh} {hs} red narrow =
     simp length-append

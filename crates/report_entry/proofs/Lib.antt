@@ -1,2 +1,2 @@
 pub mod Lengths  -- how long texts are at most
-pub mod Shown  -- what is printed, in the words of the entries that are called
+pub mod Printed  -- what is printed, in the words of the entries that are called

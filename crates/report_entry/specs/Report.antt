@@ -48,5 +48,5 @@ printedOf b = cond (ltb most-input (length b)) (refusalOf (refused 13 most-input
 abbrev pub most-text : ℕ
 most-text = 13 + 14 * most-states + 19 + 25 * most-hops
 
-unfoldable pub shownIn : ℕ → List ℕ → List ℕ
-shownIn capacity text = cond (leb most-text capacity) text []
+unfoldable pub printedIn : ℕ → List ℕ → List ℕ
+printedIn capacity text = cond (leb most-text capacity) text []

@@ -20,8 +20,8 @@ ghost use Rattle.graph_check.specs.Check.{Admitted};
 ghost use Rattle.graph_successors.specs.SuccessorIndex.{SuccessorIndex};
 ghost use Rattle.reduce_representatives.specs.Tables.{Reducible};
 ghost use Rattle.base_outputs.specs.Output.{onFront};
-ghost use Rattle.report_text.specs.Text.{Put};
-ghost use Rattle.report_entry.specs.Report.{most-text, reportOf, printedGraph, printedFile, printedOf, shownIn};
+ghost use Rattle.report_text.specs.Text.{TextPut};
+ghost use Rattle.report_entry.specs.Report.{most-text, reportOf, printedGraph, printedFile, printedOf, printedIn};
 
 // The longest input that is looked at.
 pub const MOST_INPUT: usize = 65536;
@@ -34,7 +34,7 @@ fn print_reduced(shape: Shape, hops: &[u16], starts: &[u16; STARTS], out: &mut [
     requires reducible { ⌜ Reducible shape (now hops) ⌝ }
     requires table { ⌜ SuccessorIndex (now hops) (now starts) ⌝ }
     requires capacity { ⌜ most-text ≤ length (now out) ⌝ }
-    ensures { λ r. ⌜ Put (now (out .entry)) 0 (reportOf shape (now (hops .entry))) r (now (out .exit)) ⌝ }
+    ensures { λ r. ⌜ TextPut (now (out .entry)) 0 (reportOf shape (now (hops .entry))) r (now (out .exit)) ⌝ }
 {
     let mut marks = [0u8; MOST_HOPS];
     let mut map = [0u16; MOST_STATES];
@@ -50,7 +50,7 @@ fn print_reduced(shape: Shape, hops: &[u16], starts: &[u16; STARTS], out: &mut [
 fn print_graph(shape: Shape, hops: &[u16], out: &mut [u8]) -> usize
     requires admitted { ⌜ Admitted shape (now hops) ⌝ }
     requires capacity { ⌜ most-text ≤ length (now out) ⌝ }
-    ensures { λ r. ⌜ Put (now (out .entry)) 0 (printedGraph shape (now (hops .entry))) r (now (out .exit)) ⌝ }
+    ensures { λ r. ⌜ TextPut (now (out .entry)) 0 (printedGraph shape (now (hops .entry))) r (now (out .exit)) ⌝ }
 {
     let starts = starts_of(hops);
     let answer = ring_answer(shape, hops, &starts);
@@ -63,7 +63,7 @@ fn print_graph(shape: Shape, hops: &[u16], out: &mut [u8]) -> usize
 // The same of a file. Reading has checked the graph, so that nothing is checked, searched for rings or marked twice.
 fn print_contents(file: &[u8], out: &mut [u8]) -> usize
     requires { ⌜ most-text ≤ length (now out) ⌝ }
-    ensures { λ r. ⌜ Put (now (out .entry)) 0 (printedFile (now (file .entry))) r (now (out .exit)) ⌝ }
+    ensures { λ r. ⌜ TextPut (now (out .entry)) 0 (printedFile (now (file .entry))) r (now (out .exit)) ⌝ }
 {
     let mut hops = [0u16; MOST_NUMBERS];
     let contents = read(file, &mut hops);
@@ -79,7 +79,7 @@ fn print_contents(file: &[u8], out: &mut [u8]) -> usize
 // The same of whatever was read from standard input, which may be too long to be looked at.
 fn print_input(file: &[u8], out: &mut [u8]) -> usize
     requires { ⌜ most-text ≤ length (now out) ⌝ }
-    ensures { λ r. ⌜ Put (now (out .entry)) 0 (printedOf (now (file .entry))) r (now (out .exit)) ⌝ }
+    ensures { λ r. ⌜ TextPut (now (out .entry)) 0 (printedOf (now (file .entry))) r (now (out .exit)) ⌝ }
 {
     if MOST_INPUT < file.len() {
         return put_refusal(out, 0, refuse(13, MOST_INPUT));
@@ -89,8 +89,8 @@ fn print_input(file: &[u8], out: &mut [u8]) -> usize
 
 // The entry. What is printed stands in the buffer's front, and how long it is is returned; a buffer too short for the longest report gets nothing.
 pub fn print_file(file: &[u8], out: &mut [u8]) -> usize
-    ensures counts { λ r. ⌜ r ≡ length (shownIn (length (now (out .entry))) (printedOf (now (file .entry)))) ⌝ }
-    ensures shows { λ r. ⌜ now (out .exit) ≡ onFront (shownIn (length (now (out .entry))) (printedOf (now (file .entry)))) (now (out .entry)) ⌝ }
+    ensures counts { λ r. ⌜ r ≡ length (printedIn (length (now (out .entry))) (printedOf (now (file .entry)))) ⌝ }
+    ensures shows { λ r. ⌜ now (out .exit) ≡ onFront (printedIn (length (now (out .entry))) (printedOf (now (file .entry)))) (now (out .entry)) ⌝ }
     ensures within { λ r. ⌜ r ≤ length (now (out .exit)) ⌝ }
 {
     if out.len() < MOST_TEXT {

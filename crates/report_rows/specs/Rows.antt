@@ -8,19 +8,19 @@ use lib.Dec.{eqb}
 use Rattle.graph.specs.Hops.{count, from, label, to, lineAt}
 use Rattle.graph.specs.declared.Shape.{Shape}
 use Rattle.graph.specs.declared.Answer.{Answer}
-use Rattle.report_text.specs.Text.{line, lines, in-word, marked-word, map-word, out-word, hop-word, no-word}
+use Rattle.report_text.specs.Text.{textLine, textLines, in-word, marked-word, map-word, out-word, hop-word, no-word}
 
 -- "`marked`: from, to, in list order": the line of the hop at place i, if it is marked
 unfoldable pub markedLine : List ℕ → (ℕ → ℕ) → ℕ → List ℕ
-markedLine hs mark i = cond (eqb (mark i) 1) (line marked-word (from hs i ∷ to hs i ∷ [])) []
+markedLine hs mark i = cond (eqb (mark i) 1) (textLine marked-word (from hs i ∷ to hs i ∷ [])) []
 
 -- "`map`: old, new"
 unfoldable pub mapLine : (ℕ → ℕ) → ℕ → List ℕ
-mapLine map s = line map-word (s ∷ map s ∷ [])
+mapLine map s = textLine map-word (s ∷ map s ∷ [])
 
 -- "`hop`: from, label, to", and "its source line, .. last in the printed `hop`"
 unfoldable pub hopLine : List ℕ → ℕ → List ℕ
-hopLine hs i = line hop-word (from hs i ∷ label hs i ∷ to hs i ∷ lineAt hs i ∷ [])
+hopLine hs i = textLine hop-word (from hs i ∷ label hs i ∷ to hs i ∷ lineAt hs i ∷ [])
 
 -- a lent list, by place
 abbrev pub byPlace : List ℕ → ℕ → ℕ
@@ -28,21 +28,21 @@ byPlace xs i = getD xs i 0
 
 -- the lines of the marked hops, of the map of n states and of the short hops, where marks and map are lent as lists
 abbrev pub markedLines : List ℕ → List ℕ → List ℕ
-markedLines hs ms = lines (count hs) (markedLine hs (byPlace ms))
+markedLines hs ms = textLines (count hs) (markedLine hs (byPlace ms))
 
 abbrev pub mapLines : ℕ → List ℕ → List ℕ
-mapLines n m = lines n (mapLine (byPlace m))
+mapLines n m = textLines n (mapLine (byPlace m))
 
 abbrev pub hopLines : List ℕ → List ℕ
-hopLines short = lines (count short) (hopLine short)
+hopLines short = textLines (count short) (hopLine short)
 
 -- "`in`: states, hops", the marked hops, the map, "`out`: new states, hops, initial state", the short hops; marks and map by place
 unfoldable pub linesOf : Shape → List ℕ → (ℕ → ℕ) → (ℕ → ℕ) → Shape → List ℕ → List ℕ
 linesOf sh hs mark map new short =
-    line in-word (sh .states ∷ count hs ∷ []) ++
-    (lines (count hs) (markedLine hs mark) ++
-    (lines (sh .states) (mapLine map) ++
-    (line out-word (new .states ∷ count short ∷ new .initial ∷ []) ++ lines (count short) (hopLine short))))
+    textLine in-word (sh .states ∷ count hs ∷ []) ++
+    (textLines (count hs) (markedLine hs mark) ++
+    (textLines (sh .states) (mapLine map) ++
+    (textLine out-word (new .states ∷ count short ∷ new .initial ∷ []) ++ textLines (count short) (hopLine short))))
 
 -- the same, where marks and map are lent as lists
 abbrev pub lentLines : Shape → List ℕ → List ℕ → List ℕ → Shape → List ℕ → List ℕ
@@ -50,4 +50,4 @@ lentLines sh hs ms m new short = linesOf sh hs (byPlace ms) (byPlace m) new shor
 
 -- "A refusal prints only `no`, number, place."
 unfoldable pub refusalOf : Answer → List ℕ
-refusalOf a = line no-word (a .number ∷ a .place ∷ [])
+refusalOf a = textLine no-word (a .number ∷ a .place ∷ [])

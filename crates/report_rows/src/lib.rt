@@ -18,13 +18,13 @@ ghost use Prim.Native.Nat.{_<_, _≤_};
 ghost use lib.ListN.{length};
 ghost use Rattle.graph.specs.Answers.{most-states};
 ghost use Rattle.graph.specs.Hops.{count};
-ghost use Rattle.report_text.specs.Text.{Room, Put};
+ghost use Rattle.report_text.specs.Text.{TextFits, TextPut};
 ghost use Rattle.report_rows.specs.Rows.{byPlace, markedLine, markedLines, mapLines, hopLine, hopLines, lentLines, refusalOf};
 
 // "A refusal prints only `no`, number, place."
 pub fn put_refusal(out: &mut [u8], at: usize, answer: Answer) -> usize
-    requires { ⌜ Room at (refusalOf answer) (now out) ⌝ }
-    ensures { λ r. ⌜ Put (now (out .entry)) at (refusalOf answer) r (now (out .exit)) ⌝ }
+    requires { ⌜ TextFits at (refusalOf answer) (now out) ⌝ }
+    ensures { λ r. ⌜ TextPut (now (out .entry)) at (refusalOf answer) r (now (out .exit)) ⌝ }
 {
     let number = answer.number as usize;
     let place = answer.place;
@@ -36,8 +36,8 @@ pub fn put_refusal(out: &mut [u8], at: usize, answer: Answer) -> usize
 fn put_mark(out: &mut [u8], at: usize, hops: &[u16], marks: &[u8], i: usize) -> usize
     requires there { ⌜ i < count (now hops) ⌝ }
     requires marked { ⌜ i < length (now marks) ⌝ }
-    requires capacity { ⌜ Room at (markedLine (now hops) (byPlace (now marks)) i) (now out) ⌝ }
-    ensures { λ r. ⌜ Put (now (out .entry)) at (markedLine (now (hops .entry)) (byPlace (now (marks .entry))) i) r (now (out .exit)) ⌝ }
+    requires capacity { ⌜ TextFits at (markedLine (now hops) (byPlace (now marks)) i) (now out) ⌝ }
+    ensures { λ r. ⌜ TextPut (now (out .entry)) at (markedLine (now (hops .entry)) (byPlace (now (marks .entry))) i) r (now (out .exit)) ⌝ }
 {
     if marks[i] == 1 {
         let from = from_at(hops, i).0 as usize;
@@ -50,8 +50,8 @@ fn put_mark(out: &mut [u8], at: usize, hops: &[u16], marks: &[u8], i: usize) -> 
 
 fn put_marks(out: &mut [u8], at: usize, hops: &[u16], marks: &[u8]) -> usize
     requires marked { ⌜ count (now hops) ≤ length (now marks) ⌝ }
-    requires capacity { ⌜ Room at (markedLines (now hops) (now marks)) (now out) ⌝ }
-    ensures { λ r. ⌜ Put (now (out .entry)) at (markedLines (now (hops .entry)) (now (marks .entry))) r (now (out .exit)) ⌝ }
+    requires capacity { ⌜ TextFits at (markedLines (now hops) (now marks)) (now out) ⌝ }
+    ensures { λ r. ⌜ TextPut (now (out .entry)) at (markedLines (now (hops .entry)) (now (marks .entry))) r (now (out .exit)) ⌝ }
 {
     let n = hop_count(hops);
     let mut next = at;
@@ -66,8 +66,8 @@ fn put_marks(out: &mut [u8], at: usize, hops: &[u16], marks: &[u8]) -> usize
 fn put_map(out: &mut [u8], at: usize, map: &[u16], states: usize) -> usize
     requires mapped { ⌜ states ≤ length (now map) ⌝ }
     requires few { ⌜ states ≤ most-states ⌝ }
-    requires capacity { ⌜ Room at (mapLines states (now map)) (now out) ⌝ }
-    ensures { λ r. ⌜ Put (now (out .entry)) at (mapLines states (now (map .entry))) r (now (out .exit)) ⌝ }
+    requires capacity { ⌜ TextFits at (mapLines states (now map)) (now out) ⌝ }
+    ensures { λ r. ⌜ TextPut (now (out .entry)) at (mapLines states (now (map .entry))) r (now (out .exit)) ⌝ }
 {
     let mut next = at;
     let mut s = 0;
@@ -83,8 +83,8 @@ fn put_map(out: &mut [u8], at: usize, map: &[u16], states: usize) -> usize
 // The line of a short hop, by new numbers, its source line last.
 fn put_hop_line(out: &mut [u8], at: usize, short: &[u16], i: usize) -> usize
     requires there { ⌜ i < count (now short) ⌝ }
-    requires capacity { ⌜ Room at (hopLine (now short) i) (now out) ⌝ }
-    ensures { λ r. ⌜ Put (now (out .entry)) at (hopLine (now (short .entry)) i) r (now (out .exit)) ⌝ }
+    requires capacity { ⌜ TextFits at (hopLine (now short) i) (now out) ⌝ }
+    ensures { λ r. ⌜ TextPut (now (out .entry)) at (hopLine (now (short .entry)) i) r (now (out .exit)) ⌝ }
 {
     let from = new_from_at(short, i).0 as usize;
     let label = label_at(short, i).0 as usize;
@@ -95,8 +95,8 @@ fn put_hop_line(out: &mut [u8], at: usize, short: &[u16], i: usize) -> usize
 }
 
 fn put_hops(out: &mut [u8], at: usize, short: &[u16]) -> usize
-    requires { ⌜ Room at (hopLines (now short)) (now out) ⌝ }
-    ensures { λ r. ⌜ Put (now (out .entry)) at (hopLines (now (short .entry))) r (now (out .exit)) ⌝ }
+    requires { ⌜ TextFits at (hopLines (now short)) (now out) ⌝ }
+    ensures { λ r. ⌜ TextPut (now (out .entry)) at (hopLines (now (short .entry))) r (now (out .exit)) ⌝ }
 {
     let n = hop_count(short);
     let mut next = at;
@@ -121,9 +121,9 @@ pub fn put_report(
     requires marked { ⌜ count (now hops) ≤ length (now marks) ⌝ }
     requires mapped { ⌜ shape .states ≤ length (now map) ⌝ }
     requires few { ⌜ shape .states ≤ most-states ⌝ }
-    requires capacity { ⌜ Room 0 (lentLines shape (now hops) (now marks) (now map) new (now short)) (now out) ⌝ }
+    requires capacity { ⌜ TextFits 0 (lentLines shape (now hops) (now marks) (now map) new (now short)) (now out) ⌝ }
     ensures { λ r. ⌜
-        Put (now (out .entry)) 0
+        TextPut (now (out .entry)) 0
         (lentLines shape (now (hops .entry)) (now (marks .entry)) (now (map .entry)) new (now (short .entry)))
         r
         (now (out .exit)) ⌝ }

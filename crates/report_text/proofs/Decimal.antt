@@ -7,23 +7,23 @@ use native.Mathlib.Omega.{arith}
 use borrow.Author.Tests.{ltb-false}
 use lib.ListN.{length, getD, length-append, List·getD-append}
 use lib.Dec.{ltb}
-use Rattle.report_text.specs.Text.{digits, decimal, shownBy}
+use Rattle.report_text.specs.Text.{digits, decimal, digitsValue}
 
 -- what k digits hold
 limit : ℕ → ℕ
 limit zero = 1
 limit (suc k) = 10 * limit k
 
-shown-append : (n : ℕ) (xs ys : List ℕ) → shownBy n (xs ++ ys) ≡ shownBy (shownBy n xs) ys
-unfolding shownBy
+shown-append : (n : ℕ) (xs ys : List ℕ) → digitsValue n (xs ++ ys) ≡ digitsValue (digitsValue n xs) ys
+unfolding digitsValue
 shown-append n [] ys = refl
 shown-append n (x ∷ xs) ys = shown-append _ xs ys
 
-digits-show : (k n : ℕ) → n < limit k → shownBy 0 (digits k n) ≡ n
-unfolding digits limit shownBy
+digits-show : (k n : ℕ) → n < limit k → digitsValue 0 (digits k n) ≡ n
+unfolding digits limit digitsValue
 digits-show zero n l = omega arith
 digits-show (suc k) n l = go (ltb n 10) (digits-show k (n / 10) (omega arith)) where
-  go : (t : Bool) → shownBy 0 (digits k (n / 10)) ≡ n / 10 → shownBy 0 (cond t ((48 + n) ∷ []) (digits k (n / 10) ++ ((48 + n % 10) ∷ []))) ≡ n
+  go : (t : Bool) → digitsValue 0 (digits k (n / 10)) ≡ n / 10 → digitsValue 0 (cond t ((48 + n) ∷ []) (digits k (n / 10) ++ ((48 + n % 10) ∷ []))) ≡ n
   go true h = omega arith
   go false h = rw (shown-append 0 (digits k (n / 10)) ((48 + n % 10) ∷ []), h) (omega arith)
 
@@ -39,9 +39,9 @@ digits-lead (suc k) n l z = go (ltb n 10) refl (digits-lead k (n / 10) (omega ar
       let g = h (λ q. omega arith) in
       (omega (arith, length-append (digits k (n / 10)) ((48 + n % 10) ∷ [])), rw (List·getD-append (digits k (n / 10)) ((48 + n % 10) ∷ []) 0 0 (g .0)) (g .1))
 
-pub decimal-shows : (n : ℕ) → n < 2 ^ 64 → shownBy 0 (decimal n) ≡ n
+pub decimal-value : (n : ℕ) → n < 2 ^ 64 → digitsValue 0 (decimal n) ≡ n
 unfolding decimal limit
-decimal-shows n l = digits-show 20 n (omega arith)
+decimal-value n l = digits-show 20 n (omega arith)
 
 pub decimal-bare : (n : ℕ) → n < 2 ^ 64 → (n ≡ 0 → ⊥) → 48 < getD (decimal n) 0 0
 unfolding decimal limit

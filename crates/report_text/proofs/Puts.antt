@@ -11,37 +11,37 @@ use lib.ListN.{length, getD, set, length-append, length-drop}
 use lib.Seq.{set-split, length-take-le}
 use Rattle.base_outputs.specs.Output.{overAt}
 use Rattle.base_outputs.proofs.Front.{over-none, over-then}
-use Rattle.report_text.specs.Text.{digits, decimal, spaced, numbered, line, lines, Room, Put}
+use Rattle.report_text.specs.Text.{digits, decimal, spaced, spacedNumbers, textLine, textLines, TextFits, TextPut}
 
 length-over : (at : ℕ) (text old : List ℕ) → at + length text ≤ length old → length (overAt at text old) ≡ length old
 length-over at text old l = rw (length-append, length-append, length-drop, length-take-le at old (omega arith)) (omega arith)
 
-pub put-none : (old : List ℕ) (at : ℕ) → Put old at [] at old
+pub put-none : (old : List ℕ) (at : ℕ) → TextPut old at [] at old
 put-none old at = record { follows = omega arith; stands = over-none at old }
 
 -- one byte
-pub put-one : (old : List ℕ) (at b : ℕ) → Room at (b ∷ []) old → Put old at (b ∷ []) (at + 1) (set old at b)
+pub put-one : (old : List ℕ) (at b : ℕ) → TextFits at (b ∷ []) old → TextPut old at (b ∷ []) (at + 1) (set old at b)
 put-one old at b capacity = record { follows = refl; stands = rw (add-one at) (set-split old at b (omega arith)) }
 
 -- the same text
 module _ {a b : List ℕ} (e : a ≡ b) {old : List ℕ} {at : ℕ} where
-  pub capacity-same : Room at a old → Room at b old
+  pub capacity-same : TextFits at a old → TextFits at b old
   capacity-same capacity = rw e at capacity
 
-  pub put-same : {new : List ℕ} {r : ℕ} → Put old at a r new → Put old at b r new
+  pub put-same : {new : List ℕ} {r : ℕ} → TextPut old at a r new → TextPut old at b r new
   put-same p = rw e at p
 
 -- a text behind another
-module _ (a b : List ℕ) {old : List ℕ} {at : ℕ} (capacity : Room at (a ++ b) old) where
-  pub capacity-first : Room at a old
+module _ (a b : List ℕ) {old : List ℕ} {at : ℕ} (capacity : TextFits at (a ++ b) old) where
+  pub capacity-first : TextFits at a old
   capacity-first = record { fits = omega (arith, length-append a b) }
 
-  module _ {mid : List ℕ} {k : ℕ} (p : Put old at a k mid) where
-    pub capacity-rest : Room k b mid
+  module _ {mid : List ℕ} {k : ℕ} (p : TextPut old at a k mid) where
+    pub capacity-rest : TextFits k b mid
     capacity-rest =
         record { fits = omega (arith, length-append a b, ap length (p .stands) ∙ length-over at a old (capacity-first .fits)) }
 
-    pub put-then : {new : List ℕ} {r : ℕ} → Put mid k b r new → Put old at (a ++ b) r new
+    pub put-then : {new : List ℕ} {r : ℕ} → TextPut mid k b r new → TextPut old at (a ++ b) r new
     put-then {r = r} q = record {
       follows = omega (arith, length-append a b);
       stands = q .stands ∙ ap (overAt k b) (p .stands) ∙ over-then at a b old (p .follows) (omega (arith, capacity-first .fits));
@@ -67,49 +67,49 @@ pub spaced-parts : (n : ℕ) → spaced n ≡ (32 ∷ []) ++ digits 20 n
 unfolding spaced decimal
 spaced-parts n = refl
 
-pub line-parts : (word ns : List ℕ) → line word ns ≡ word ++ (numbered ns ++ (10 ∷ []))
-unfolding line
+pub line-parts : (word ns : List ℕ) → textLine word ns ≡ word ++ (spacedNumbers ns ++ (10 ∷ []))
+unfolding textLine
 line-parts word ns = refl
 
 -- the numbers of a line are put as lines are: one behind the other
 abbrev pub spacedAt : List ℕ → ℕ → List ℕ
 spacedAt ns i = spaced (getD ns i 0)
 
-lines-first : (f : ℕ → List ℕ) (n : ℕ) → lines (suc n) f ≡ f 0 ++ lines n (λ (i : ℕ). f (suc i))
-unfolding lines
+lines-first : (f : ℕ → List ℕ) (n : ℕ) → textLines (suc n) f ≡ f 0 ++ textLines n (λ (i : ℕ). f (suc i))
+unfolding textLines
 lines-first f zero = sym (append-nil (f 0))
-lines-first f (suc n) = ap (λ (xs : List ℕ). xs ++ f (suc n)) (lines-first f n) ∙ append-assoc (f 0) (lines n (λ (i : ℕ). f (suc i))) (f (suc n))
+lines-first f (suc n) = ap (λ (xs : List ℕ). xs ++ f (suc n)) (lines-first f n) ∙ append-assoc (f 0) (textLines n (λ (i : ℕ). f (suc i))) (f (suc n))
 
-pub numbered-lines : (ns : List ℕ) → numbered ns ≡ lines (length ns) (spacedAt ns)
-unfolding numbered lines
+pub numbered-lines : (ns : List ℕ) → spacedNumbers ns ≡ textLines (length ns) (spacedAt ns)
+unfolding spacedNumbers textLines
 numbered-lines [] = refl
 numbered-lines (n ∷ ns) = ap (λ (xs : List ℕ). spaced n ++ xs) (numbered-lines ns) ∙ sym (lines-first (spacedAt (n ∷ ns)) (length ns))
 
 -- lines, the first i of n being put
 module _ (f : ℕ → List ℕ) where
-  lines-within : (n : ℕ) {i : ℕ} → i ≤ n → length (lines i f) ≤ length (lines n f)
-  unfolding lines
+  lines-within : (n : ℕ) {i : ℕ} → i ≤ n → length (textLines i f) ≤ length (textLines n f)
+  unfolding textLines
   lines-within zero {i} l = let q : i ≡ 0 = omega arith in rw q (le-refl 0)
   lines-within (suc n) {i} l =
-      ⊎-elim (λ q. rw q (le-refl (length (lines n f ++ f n))))
-      (λ m. let h : length (lines i f) ≤ length (lines n f) = lines-within n {i = i} (omega arith) in omega (arith, length-append (lines n f) (f n))) (eq-or-lt-of-le l)
+      ⊎-elim (λ q. rw q (le-refl (length (textLines n f ++ f n))))
+      (λ m. let h : length (textLines i f) ≤ length (textLines n f) = lines-within n {i = i} (omega arith) in omega (arith, length-append (textLines n f) (f n))) (eq-or-lt-of-le l)
 
   module _ {old : List ℕ} {at : ℕ} where
-    pub lines-none : Put old at (lines 0 f) at old
-    unfolding lines
+    pub lines-none : TextPut old at (textLines 0 f) at old
+    unfolding textLines
     lines-none = put-none old at
 
-    module _ (n : ℕ) {i : ℕ} (capacity : Room at (lines n f) old) (l : i < n) {mid : List ℕ} {k : ℕ} (p : Put old at (lines i f) k mid) where
-      next-capacity : Room at (lines i f ++ f i) old
-      unfolding lines
-      next-capacity = let h : length (lines (suc i) f) ≤ length (lines n f) = lines-within n l in record { fits = omega arith }
+    module _ (n : ℕ) {i : ℕ} (capacity : TextFits at (textLines n f) old) (l : i < n) {mid : List ℕ} {k : ℕ} (p : TextPut old at (textLines i f) k mid) where
+      next-capacity : TextFits at (textLines i f ++ f i) old
+      unfolding textLines
+      next-capacity = let h : length (textLines (suc i) f) ≤ length (textLines n f) = lines-within n l in record { fits = omega arith }
 
-      pub lines-capacity : Room k (f i) mid
-      lines-capacity = capacity-rest (lines i f) (f i) next-capacity p
+      pub lines-capacity : TextFits k (f i) mid
+      lines-capacity = capacity-rest (textLines i f) (f i) next-capacity p
 
-      pub lines-more : {new : List ℕ} {r : ℕ} → Put mid k (f i) r new → Put old at (lines (i + 1) f) r new
-      unfolding lines
-      lines-more q = rw (add-one i) (put-then (lines i f) (f i) next-capacity p q)
+      pub lines-more : {new : List ℕ} {r : ℕ} → TextPut mid k (f i) r new → TextPut old at (textLines (i + 1) f) r new
+      unfolding textLines
+      lines-more q = rw (add-one i) (put-then (textLines i f) (f i) next-capacity p q)
 
-    pub lines-done : {n i : ℕ} → i ≤ n → n ≤ i → {mid : List ℕ} {k : ℕ} → Put old at (lines i f) k mid → Put old at (lines n f) k mid
+    pub lines-done : {n i : ℕ} → i ≤ n → n ≤ i → {mid : List ℕ} {k : ℕ} → TextPut old at (textLines i f) k mid → TextPut old at (textLines n f) k mid
     lines-done {n} {i} l m p = let q : n ≡ i = omega arith in rw q p

@@ -18,27 +18,27 @@ unfoldable pub decimal : ℕ → List ℕ
 decimal n = digits 20 n
 
 -- the number that digits show, read from the left behind a number that stands before them
-unfoldable pub shownBy : ℕ → List ℕ → ℕ
-shownBy before [] = before
-shownBy before (d ∷ ds) = shownBy (10 * before + (d - 48)) ds
+unfoldable pub digitsValue : ℕ → List ℕ → ℕ
+digitsValue before [] = before
+digitsValue before (d ∷ ds) = digitsValue (10 * before + (d - 48)) ds
 
 -- a space and a number
 unfoldable pub spaced : ℕ → List ℕ
 spaced n = 32 ∷ decimal n
 
 -- each number behind a space
-unfoldable pub numbered : List ℕ → List ℕ
-numbered [] = []
-numbered (n ∷ ns) = spaced n ++ numbered ns
+unfoldable pub spacedNumbers : List ℕ → List ℕ
+spacedNumbers [] = []
+spacedNumbers (n ∷ ns) = spaced n ++ spacedNumbers ns
 
 -- a line: a word, then the numbers, then a line feed
-unfoldable pub line : List ℕ → List ℕ → List ℕ
-line word ns = word ++ (numbered ns ++ (10 ∷ []))
+unfoldable pub textLine : List ℕ → List ℕ → List ℕ
+textLine word ns = word ++ (spacedNumbers ns ++ (10 ∷ []))
 
 -- f 0, f 1, .. up to f (n - 1), one behind the other
-unfoldable pub lines : ℕ → (ℕ → List ℕ) → List ℕ
-lines zero f = []
-lines (suc n) f = lines n f ++ f n
+unfoldable pub textLines : ℕ → (ℕ → List ℕ) → List ℕ
+textLines zero f = []
+textLines (suc n) f = textLines n f ++ f n
 
 -- the words of the lines
 abbrev pub in-word : List ℕ
@@ -60,10 +60,10 @@ abbrev pub no-word : List ℕ
 no-word = 110 ∷ 111 ∷ []
 
 -- the buffer has room for the text from place `at` on
-pub record Room (at : ℕ) (text buffer : List ℕ) : Type 0 where
+pub record TextFits (at : ℕ) (text buffer : List ℕ) : Type 0 where
   pub fits : at + length text ≤ length buffer
 
 -- the text was put into the buffer from place `at` on, over what was there and over nothing else; `next` is the place behind it
-pub record Put (old : List ℕ) (at : ℕ) (text : List ℕ) (next : ℕ) (new : List ℕ) : Type 0 where
+pub record TextPut (old : List ℕ) (at : ℕ) (text : List ℕ) (next : ℕ) (new : List ℕ) : Type 0 where
   pub follows : next ≡ at + length text
   pub stands : new ≡ overAt at text old

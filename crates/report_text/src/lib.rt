@@ -5,19 +5,19 @@
 // Uses `base_outputs` for what a slice holds afterwards.
 use base_outputs::put_bytes;
 ghost use mathlib.Core.List.{[], _∷_};
-ghost use Rattle.report_text.specs.Text.{digits, spaced, numbered, line, Room, Put};
+ghost use Rattle.report_text.specs.Text.{digits, spaced, spacedNumbers, textLine, TextFits, TextPut};
 
 fn put_byte(out: &mut [u8], at: usize, byte: u8) -> usize
-    requires { ⌜ Room at (byte ∷ []) (now out) ⌝ }
-    ensures { λ r. ⌜ Put (now (out .entry)) at (byte ∷ []) r (now (out .exit)) ⌝ }
+    requires { ⌜ TextFits at (byte ∷ []) (now out) ⌝ }
+    ensures { λ r. ⌜ TextPut (now (out .entry)) at (byte ∷ []) r (now (out .exit)) ⌝ }
 {
     out[at] = byte;
     at + 1
 }
 
 fn put_word(out: &mut [u8], at: usize, word: &[u8]) -> usize
-    requires { ⌜ Room at (now word) (now out) ⌝ }
-    ensures { λ r. ⌜ Put (now (out .entry)) at (now (word .entry)) r (now (out .exit)) ⌝ }
+    requires { ⌜ TextFits at (now word) (now out) ⌝ }
+    ensures { λ r. ⌜ TextPut (now (out .entry)) at (now (word .entry)) r (now (out .exit)) ⌝ }
 {
     put_bytes(out, at, word);
     at + word.len()
@@ -25,8 +25,8 @@ fn put_word(out: &mut [u8], at: usize, word: &[u8]) -> usize
 
 // The last k digits of n at most, and no zero in front.
 fn put_digits(out: &mut [u8], at: usize, n: usize, k: usize) -> usize
-    requires { ⌜ Room at (digits k n) (now out) ⌝ }
-    ensures { λ r. ⌜ Put (now (out .entry)) at (digits k n) r (now (out .exit)) ⌝ }
+    requires { ⌜ TextFits at (digits k n) (now out) ⌝ }
+    ensures { λ r. ⌜ TextPut (now (out .entry)) at (digits k n) r (now (out .exit)) ⌝ }
 {
     if k == 0 {
         return at;
@@ -40,8 +40,8 @@ fn put_digits(out: &mut [u8], at: usize, n: usize, k: usize) -> usize
 
 // A space and a number.
 fn put_spaced(out: &mut [u8], at: usize, n: usize) -> usize
-    requires { ⌜ Room at (spaced n) (now out) ⌝ }
-    ensures { λ r. ⌜ Put (now (out .entry)) at (spaced n) r (now (out .exit)) ⌝ }
+    requires { ⌜ TextFits at (spaced n) (now out) ⌝ }
+    ensures { λ r. ⌜ TextPut (now (out .entry)) at (spaced n) r (now (out .exit)) ⌝ }
 {
     let next = put_byte(out, at, b' ');
     put_digits(out, next, n, 20)
@@ -49,8 +49,8 @@ fn put_spaced(out: &mut [u8], at: usize, n: usize) -> usize
 
 // Each number behind a space.
 fn put_numbers(out: &mut [u8], at: usize, numbers: &[usize]) -> usize
-    requires { ⌜ Room at (numbered (now numbers)) (now out) ⌝ }
-    ensures { λ r. ⌜ Put (now (out .entry)) at (numbered (now (numbers .entry))) r (now (out .exit)) ⌝ }
+    requires { ⌜ TextFits at (spacedNumbers (now numbers)) (now out) ⌝ }
+    ensures { λ r. ⌜ TextPut (now (out .entry)) at (spacedNumbers (now (numbers .entry))) r (now (out .exit)) ⌝ }
 {
     let mut next = at;
     let mut i = 0;
@@ -63,8 +63,8 @@ fn put_numbers(out: &mut [u8], at: usize, numbers: &[usize]) -> usize
 
 // A line of a word and numbers.
 pub fn put_line(out: &mut [u8], at: usize, word: &[u8], numbers: &[usize]) -> usize
-    requires { ⌜ Room at (line (now word) (now numbers)) (now out) ⌝ }
-    ensures { λ r. ⌜ Put (now (out .entry)) at (line (now (word .entry)) (now (numbers .entry))) r (now (out .exit)) ⌝ }
+    requires { ⌜ TextFits at (textLine (now word) (now numbers)) (now out) ⌝ }
+    ensures { λ r. ⌜ TextPut (now (out .entry)) at (textLine (now (word .entry)) (now (numbers .entry))) r (now (out .exit)) ⌝ }
 {
     let first = put_word(out, at, word);
     let end = put_numbers(out, first, numbers);

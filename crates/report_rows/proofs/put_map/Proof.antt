@@ -3,7 +3,7 @@ use Prim.Native.Nat.{_-_, _≤_}
 use mathlib.Core.Path.{_≡_, refl, sym}
 use native.Mathlib.Omega.{arith}
 use lib.ListN.{length}
-use Rattle.report_text.specs.Text.{Put}
+use Rattle.report_text.specs.Text.{TextPut}
 use Rattle.report_rows.specs.Rows.{mapLines}
 use Rattle.report_text.proofs.Puts.{put-same, capacity-same, lines-none, lines-capacity, lines-more, lines-done}
 use Rattle.report_rows.proofs.Parts.{map-parts}
@@ -13,7 +13,7 @@ use Rattle.report_rows.proofs.put_map.Tie as tie
 
 abbrev Inv-loop : tie.InvT-loop
 Inv-loop out₀ at map states next₀ s₀ t9 out next s =
-    (s ≤ states) × (length out ≡ length out₀) × Put out₀ at (mapLines s map) next out
+    (s ≤ states) × (length out ≡ length out₀) × TextPut out₀ at (mapLines s map) next out
 
 abbrev μ-loop : tie.MeasureT-loop
 μ-loop out₀ at map states next₀ s₀ t9 out next s = states - s

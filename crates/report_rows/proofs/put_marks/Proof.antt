@@ -4,7 +4,7 @@ use mathlib.Core.Path.{_≡_, refl}
 use native.Mathlib.Omega.{arith}
 use lib.ListN.{length}
 use Rattle.graph.specs.Hops.{count}
-use Rattle.report_text.specs.Text.{lines, Put}
+use Rattle.report_text.specs.Text.{textLines, TextPut}
 use Rattle.report_rows.specs.Rows.{byPlace, markedLine}
 use Rattle.report_text.proofs.Puts.{lines-none, lines-capacity, lines-more, lines-done}
 use borrow.Author.Needs.{needs}
@@ -13,7 +13,7 @@ use Rattle.report_rows.proofs.put_marks.Tie as tie
 
 abbrev Inv-loop : tie.InvT-loop
 Inv-loop out₀ at hops marks n next₀ i₀ out next i =
-    (n ≡ count hops) × (i ≤ n) × (length out ≡ length out₀) × Put out₀ at (lines i (markedLine hops (byPlace marks))) next out
+    (n ≡ count hops) × (i ≤ n) × (length out ≡ length out₀) × TextPut out₀ at (textLines i (markedLine hops (byPlace marks))) next out
 
 abbrev μ-loop : tie.MeasureT-loop
 μ-loop out₀ at hops marks n next₀ i₀ out next i = n - i

@@ -1,7 +1,7 @@
 -- `report_text::put_line` meets its contract: the word, the numbers and the line feed stand one behind the other. Assumes nothing.
 use mathlib.Core.Path.{sym}
 use mathlib.Core.List.{[], _∷_, _++_}
-use Rattle.report_text.specs.Text.{numbered}
+use Rattle.report_text.specs.Text.{spacedNumbers}
 use Rattle.report_text.proofs.Puts.{put-same, put-then, capacity-same, capacity-first, capacity-rest, line-parts}
 use borrow.Author.Needs.{needs}
 use Rattle.report_text.proofs.put_line.Statement.{statement}
@@ -31,10 +31,10 @@ returns c =
     let ns = s .args .numbers .now in
     let w = c .before .before .before .before .before .before .before .before .before .before .put-word .ensures in
     let r0 = capacity-same (line-parts word ns) (s .pre) in
-    let r1 = capacity-rest word (numbered ns ++ (10 ∷ [])) r0 w in
+    let r1 = capacity-rest word (spacedNumbers ns ++ (10 ∷ [])) r0 w in
     put-same (sym (line-parts word ns))
-    (put-then word (numbered ns ++ (10 ∷ [])) r0 w
-    (put-then (numbered ns) (10 ∷ []) r1 (c .before .before .before .before .before .before .put-numbers .ensures) (c .before .before .put-byte .ensures)))
+    (put-then word (spacedNumbers ns ++ (10 ∷ [])) r0 w
+    (put-then (spacedNumbers ns) (10 ∷ []) r1 (c .before .before .before .before .before .before .put-numbers .ensures) (c .before .before .put-byte .ensures)))
 
 pub put-line-spec : {M : Type 1} → statement M
 put-line-spec =

@@ -5,7 +5,7 @@ use lib.ListN.{length, replicate, length-replicate}
 use Rattle.graph.specs.Answers.{most-numbers}
 use Rattle.report_text.proofs.Puts.{put-same}
 use Rattle.report_entry.proofs.Lengths.{refusal-most}
-use Rattle.report_entry.proofs.Shown.{file-refused, file-most, file-admitted, file-printed, text-capacity}
+use Rattle.report_entry.proofs.Printed.{file-refused, file-most, file-admitted, file-printed, text-capacity}
 use borrow.Author.Needs.{needs}
 use Rattle.report_entry.proofs.print.print_contents.Statement.{statement}
 use Rattle.report_entry.proofs.print.print_contents.Tie as tie

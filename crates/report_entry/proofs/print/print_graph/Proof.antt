@@ -2,7 +2,7 @@
 use Rattle.graph_successors.proofs.Firsts.{admitted-indexable}
 use Rattle.report_text.proofs.Puts.{put-same}
 use Rattle.report_entry.proofs.Lengths.{refusal-most}
-use Rattle.report_entry.proofs.Shown.{graph-refused, graph-reducible, graph-accepted, text-capacity}
+use Rattle.report_entry.proofs.Printed.{graph-refused, graph-reducible, graph-accepted, text-capacity}
 use borrow.Author.Needs.{needs}
 use Rattle.report_entry.proofs.print.print_graph.Statement.{statement}
 use Rattle.report_entry.proofs.print.print_graph.Tie as tie

@@ -3,7 +3,7 @@ use mathlib.Core.Path.{_∙_, ap}
 use Rattle.report_text.proofs.Puts.{put-same}
 use Rattle.report_rows.specs.Rows.{refusalOf}
 use Rattle.report_entry.proofs.Lengths.{refusal-most}
-use Rattle.report_entry.proofs.Shown.{input-refused, input-taken, text-capacity}
+use Rattle.report_entry.proofs.Printed.{input-refused, input-taken, text-capacity}
 use borrow.Author.Needs.{needs}
 use Rattle.report_entry.proofs.print.print_input.Statement.{statement}
 use Rattle.report_entry.proofs.print.print_input.Tie as tie

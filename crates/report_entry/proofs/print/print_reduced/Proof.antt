@@ -8,7 +8,7 @@ use Rattle.reduce_representatives.proofs.Marked.{mark-set-terminating}
 use Rattle.reduce_entry.proofs.Marked.{after-marks}
 use Rattle.report_text.proofs.Puts.{put-same, capacity-same}
 use Rattle.report_entry.proofs.Lengths.{report-most}
-use Rattle.report_entry.proofs.Shown.{reduced-marks, reduced-shape, reduced-most, reduced-short, reduced-map, reduced-lines, text-capacity}
+use Rattle.report_entry.proofs.Printed.{reduced-marks, reduced-shape, reduced-most, reduced-short, reduced-map, reduced-lines, text-capacity}
 use borrow.Author.Needs.{needs}
 use Rattle.report_entry.proofs.print.print_reduced.Statement.{statement}
 use Rattle.report_entry.proofs.print.print_reduced.Tie as tie

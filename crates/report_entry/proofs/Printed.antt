@@ -37,10 +37,10 @@ use Rattle.file_fields.proofs.Laws.{length-hop-list, count-hop-list}
 use Rattle.file_format.specs.Rows.{formatAnswer}
 use Rattle.file_read.specs.Read.{readAnswer, readOf, readHops, contentsOf, refusedContents}
 use Rattle.file_read.specs.declared.Contents.{Contents}
-use Rattle.report_text.specs.Text.{Room, Put}
+use Rattle.report_text.specs.Text.{TextFits, TextPut}
 use Rattle.report_rows.specs.Rows.{linesOf, refusalOf}
 use Rattle.report_rows.proofs.Parts.{report-same}
-use Rattle.report_entry.specs.Report.{reportOf, unlessRefused, printedGraph, printedFile, most-input, printedOf, most-text, shownIn}
+use Rattle.report_entry.specs.Report.{reportOf, unlessRefused, printedGraph, printedFile, most-input, printedOf, most-text, printedIn}
 
 pub refused-text : (a : Answer) (t : List ℕ) → (a .number ≡ 0 → ⊥) → unlessRefused a t ≡ refusalOf a
 unfolding unlessRefused
@@ -208,16 +208,16 @@ module _ (b : List ℕ) where
 
 -- a buffer that is too short, and one that is not
 module _ (capacity : ℕ) (t : List ℕ) where
-  pub shown-none : capacity < most-text → shownIn capacity t ≡ []
-  unfolding shownIn
-  shown-none l = rw (lt-leb most-text capacity l)
+  pub printed-none : capacity < most-text → printedIn capacity t ≡ []
+  unfolding printedIn
+  printed-none l = rw (lt-leb most-text capacity l)
 
-  pub shown-whole : most-text ≤ capacity → shownIn capacity t ≡ t
-  unfolding shownIn
-  shown-whole l = rw (le-leb most-text capacity l)
+  pub printed-whole : most-text ≤ capacity → printedIn capacity t ≡ t
+  unfolding printedIn
+  printed-whole l = rw (le-leb most-text capacity l)
 
 -- a text put at the front
-module _ {old t new : List ℕ} {r : ℕ} (p : Put old 0 t r new) where
+module _ {old t new : List ℕ} {r : ℕ} (p : TextPut old 0 t r new) where
   pub front-length : r ≡ length t
   front-length = omega arith
 
@@ -227,5 +227,5 @@ module _ {old t new : List ℕ} {r : ℕ} (p : Put old 0 t r new) where
   pub front-within : r ≤ length new
   front-within = rw front-stands (simp length-append (omega arith))
 
-pub text-capacity : {t out : List ℕ} → length t ≤ most-text → most-text ≤ length out → Room 0 t out
+pub text-capacity : {t out : List ℕ} → length t ≤ most-text → most-text ≤ length out → TextFits 0 t out
 text-capacity p q = record { fits = omega arith }
