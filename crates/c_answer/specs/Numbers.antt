@@ -22,8 +22,8 @@ unfoldable pub returned : Answer → ℕ → ℕ → ℕ
 returned a n capacity = cond (eqb (a .number) 0) (cond (leb n capacity) 0 6) (a .number)
 
 -- the answer slice afterwards
-unfoldable pub told : ℕ → List ℕ → List ℕ → List ℕ
-told n numbers old = cond (leb n (length old)) (numbers ++ drop n old) old
+unfoldable pub answerAfter : ℕ → List ℕ → List ℕ → List ℕ
+answerAfter n numbers old = cond (leb n (length old)) (numbers ++ drop n old) old
 
 -- another lent slice afterwards: what the entry leaves in it, unless the answer slice is too short
 unfoldable pub unlessShort : ℕ → List ℕ → List ℕ → List ℕ → List ℕ

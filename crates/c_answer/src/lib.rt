@@ -1,7 +1,7 @@
 // What every entry of the C ABI returns to its caller: the figures at the front of the answer
 // slice, and the number that is returned.
 // An answer slice too short gets nothing, and 6 is returned unless the entry itself refuses. The
-// crates c_* build the figures of their entries as a small array and end with `tell`; where nothing
+// crates c_* build the figures of their entries as a small array and end with `put_answer`; where nothing
 // else may be written either, they compute the answer alone and end with `short_number`.
 // Uses `graph` for answers and `base_outputs` for what a slice holds afterwards.
 use graph::Answer;
@@ -10,7 +10,7 @@ ghost use mathlib.Core.List.{[], _∷_};
 ghost use Prim.Native.Nat.{_<_, _≤_};
 ghost use lib.ListN.{length};
 ghost use Rattle.base_outputs.specs.Output.{onFront};
-ghost use Rattle.c_answer.specs.Numbers.{numbersOf, returned, told};
+ghost use Rattle.c_answer.specs.Numbers.{numbersOf, returned, answerAfter};
 
 // The number where the answer slice is too short for n figures: a refusal's own, else 6.
 pub fn short_number(a: Answer, capacity: usize, n: usize) -> u32
@@ -37,9 +37,9 @@ fn put_figures(out: &mut [u64], figures: &[u64])
 }
 
 // Tells the figures of an entry that answers `a`, and says what is returned.
-pub fn tell(out: &mut [u64], figures: &[u64], a: Answer) -> u32
+pub fn put_answer(out: &mut [u64], figures: &[u64], a: Answer) -> u32
     ensures returns { λ r. ⌜ r ≡ returned a (length (now (figures .entry))) (length (now (out .entry))) ⌝ }
-    ensures tells { λ r. ⌜ now (out .exit) ≡ told (length (now (figures .entry))) (now (figures .entry)) (now (out .entry)) ⌝ }
+    ensures tells { λ r. ⌜ now (out .exit) ≡ answerAfter (length (now (figures .entry))) (now (figures .entry)) (now (out .entry)) ⌝ }
 {
     if out.len() < figures.len() {
         return short_number(a, out.len(), figures.len());
@@ -49,19 +49,19 @@ pub fn tell(out: &mut [u64], figures: &[u64], a: Answer) -> u32
 }
 
 // An entry that tells its answer and no more.
-pub fn tell_answer(out: &mut [u64], a: Answer) -> u32
+pub fn put_plain_answer(out: &mut [u64], a: Answer) -> u32
     ensures returns { λ r. ⌜ r ≡ returned a 3 (length (now (out .entry))) ⌝ }
-    ensures tells { λ r. ⌜ now (out .exit) ≡ told 3 (numbersOf a []) (now (out .entry)) ⌝ }
+    ensures tells { λ r. ⌜ now (out .exit) ≡ answerAfter 3 (numbersOf a []) (now (out .entry)) ⌝ }
 {
     let figures = [a.number as u64, a.table as u64, a.place as u64];
-    tell(out, &figures, a)
+    put_answer(out, &figures, a)
 }
 
 // An entry that tells its answer and one figure.
-pub fn tell_figure(out: &mut [u64], a: Answer, figure: u64) -> u32
+pub fn put_figure_answer(out: &mut [u64], a: Answer, figure: u64) -> u32
     ensures returns { λ r. ⌜ r ≡ returned a 4 (length (now (out .entry))) ⌝ }
-    ensures tells { λ r. ⌜ now (out .exit) ≡ told 4 (numbersOf a (figure ∷ [])) (now (out .entry)) ⌝ }
+    ensures tells { λ r. ⌜ now (out .exit) ≡ answerAfter 4 (numbersOf a (figure ∷ [])) (now (out .entry)) ⌝ }
 {
     let figures = [a.number as u64, a.table as u64, a.place as u64, figure];
-    tell(out, &figures, a)
+    put_answer(out, &figures, a)
 }

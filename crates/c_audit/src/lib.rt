@@ -5,19 +5,19 @@
 // and returned.
 use audit_entry::Audit;
 use audit_entry::auditing::audit;
-use c_answer::tell;
+use c_answer::put_answer;
 use graph::Shape;
 ghost use mathlib.Core.Path.{_≡_};
 ghost use lib.ListN.{length};
 ghost use Rattle.audit_admitted.specs.Admitted.{auditAnswer};
 ghost use Rattle.audit_entry.specs.Audit.{auditOf};
-ghost use Rattle.c_answer.specs.Numbers.{shapeOf, returned, told};
+ghost use Rattle.c_answer.specs.Numbers.{shapeOf, returned, answerAfter};
 ghost use Rattle.c_audit.specs.Numbers.{auditNumbers};
 
 // An answer, the fault count, and the first fault's kind, place and state.
-fn tell_audited(out: &mut [u64], audited: Audit) -> u32
+fn put_audit(out: &mut [u64], audited: Audit) -> u32
     ensures returns { λ r. ⌜ r ≡ returned (audited .answer) 7 (length (now (out .entry))) ⌝ }
-    ensures tells { λ r. ⌜ now (out .exit) ≡ told 7 (auditNumbers audited) (now (out .entry)) ⌝ }
+    ensures tells { λ r. ⌜ now (out .exit) ≡ answerAfter 7 (auditNumbers audited) (now (out .entry)) ⌝ }
 {
     let a = audited.answer;
     let first = audited.first;
@@ -30,10 +30,10 @@ fn tell_audited(out: &mut [u64], audited: Audit) -> u32
         first.place as u64,
         first.state as u64,
     ];
-    tell(out, &figures, a)
+    put_answer(out, &figures, a)
 }
 
-pub fn tell_audit(
+pub fn audit_into(
     states1: u32,
     labels1: u32,
     initial1: u32,
@@ -51,7 +51,7 @@ pub fn tell_audit(
         7
         (length (now (answer .entry))) ⌝ }
     ensures tells { λ r. ⌜ now (answer .exit) ≡
-        told 7
+        answerAfter 7
         (auditNumbers
         (auditOf (shapeOf states1 labels1 initial1) (shapeOf states2 labels2 initial2) (now (hops1 .entry)) (now (hops2 .entry)) (now (map .entry))))
         (now (answer .entry)) ⌝ }
@@ -67,5 +67,5 @@ pub fn tell_audit(
         initial: initial2,
     };
     let audited = audit(shape1, hops1, shape2, hops2, map);
-    tell_audited(answer, audited)
+    put_audit(answer, audited)
 }

@@ -4,9 +4,9 @@
 // computed, and the other output is left as it was.
 // Uses `file_read` for `read`, `file_write` for `write`, and `c_answer` for what is written and
 // returned.
+use c_answer::put_answer;
+use c_answer::put_figure_answer;
 use c_answer::short_number;
-use c_answer::tell;
-use c_answer::tell_figure;
 use file_read::Contents;
 use file_read::reading::read;
 use file_read::reading::read_answer;
@@ -17,13 +17,13 @@ ghost use mathlib.Core.Path.{_≡_};
 ghost use lib.ListN.{length};
 ghost use Rattle.file_read.specs.Read.{readAnswer, readOf, readHops};
 ghost use Rattle.file_write.specs.Write.{writeAnswer, writeOf, writeBytes};
-ghost use Rattle.c_answer.specs.Numbers.{shapeOf, returned, told, unlessShort};
+ghost use Rattle.c_answer.specs.Numbers.{shapeOf, returned, answerAfter, unlessShort};
 ghost use Rattle.c_file.specs.Numbers.{contentsNumbers, writtenNumbers};
 
 // An answer, the graph's counts and initial state, and where its name block stands.
-fn tell_contents(out: &mut [u64], contents: Contents) -> u32
+fn put_contents(out: &mut [u64], contents: Contents) -> u32
     ensures returns { λ r. ⌜ r ≡ returned (contents .answer) 9 (length (now (out .entry))) ⌝ }
-    ensures tells { λ r. ⌜ now (out .exit) ≡ told 9 (contentsNumbers contents) (now (out .entry)) ⌝ }
+    ensures tells { λ r. ⌜ now (out .exit) ≡ answerAfter 9 (contentsNumbers contents) (now (out .entry)) ⌝ }
 {
     let a = contents.answer;
     let shape = contents.shape;
@@ -38,27 +38,27 @@ fn tell_contents(out: &mut [u64], contents: Contents) -> u32
         contents.names_place as u64,
         contents.names_len as u64,
     ];
-    tell(out, &figures, a)
+    put_answer(out, &figures, a)
 }
 
 // Where the answer slice is too short, only the answer is found, and no hops are written.
-pub fn tell_read(file: &[u8], hops: &mut [u16], answer: &mut [u64]) -> u32
+pub fn read_into(file: &[u8], hops: &mut [u16], answer: &mut [u64]) -> u32
     ensures returns { λ r. ⌜ r ≡ returned (readAnswer (now (file .entry)) (length (now (hops .entry)))) 9 (length (now (answer .entry))) ⌝ }
     ensures hops { λ r. ⌜ now (hops .exit) ≡
         unlessShort 9 (now (answer .entry)) (readHops (now (file .entry)) (now (hops .entry))) (now (hops .entry)) ⌝ }
     ensures tells { λ r. ⌜ now (answer .exit) ≡
-        told 9 (contentsNumbers (readOf (now (file .entry)) (length (now (hops .entry))))) (now (answer .entry)) ⌝ }
+        answerAfter 9 (contentsNumbers (readOf (now (file .entry)) (length (now (hops .entry))))) (now (answer .entry)) ⌝ }
 {
     if answer.len() < 9 {
         let unwritten = read_answer(file, hops.len());
         return short_number(unwritten, answer.len(), 9);
     }
     let contents = read(file, hops);
-    tell_contents(answer, contents)
+    put_contents(answer, contents)
 }
 
 // Where the answer slice is too short, only the answer is found, and no bytes are written.
-pub fn tell_write(
+pub fn write_into(
     states: u32,
     labels: u32,
     initial: u32,
@@ -78,7 +78,7 @@ pub fn tell_write(
         (writeBytes (shapeOf states labels initial) (now (hops .entry)) (now (names .entry)) (now (out .entry)))
         (now (out .entry)) ⌝ }
     ensures tells { λ r. ⌜ now (answer .exit) ≡
-        told 4
+        answerAfter 4
         (writtenNumbers (writeOf (shapeOf states labels initial) (now (hops .entry)) (now (names .entry)) (length (now (out .entry)))))
         (now (answer .entry)) ⌝ }
 {
@@ -92,5 +92,5 @@ pub fn tell_write(
         return short_number(unwritten, answer.len(), 4);
     }
     let written = write(shape, hops, names, out);
-    tell_figure(answer, written.answer, written.length as u64)
+    put_figure_answer(answer, written.answer, written.length as u64)
 }

@@ -2,7 +2,7 @@
 // `capi` exports the function unchanged.
 // Uses `graph_find` for where the hop stands or would stand, and `c_answer` for what is written and
 // returned.
-use c_answer::tell;
+use c_answer::put_answer;
 use graph::Shape;
 use graph_find::Finding;
 use graph_find::find;
@@ -10,13 +10,13 @@ ghost use mathlib.Core.Path.{_≡_};
 ghost use lib.ListN.{length};
 ghost use Rattle.graph_check.specs.Check.{checkOf};
 ghost use Rattle.graph_find.specs.Find.{findOf};
-ghost use Rattle.c_answer.specs.Numbers.{shapeOf, returned, told};
+ghost use Rattle.c_answer.specs.Numbers.{shapeOf, returned, answerAfter};
 ghost use Rattle.c_find.specs.Numbers.{findingNumbers};
 
 // An answer, whether the hop is found, and its place.
-fn tell_finding(out: &mut [u64], finding: Finding) -> u32
+fn put_finding(out: &mut [u64], finding: Finding) -> u32
     ensures returns { λ r. ⌜ r ≡ returned (finding .answer) 5 (length (now (out .entry))) ⌝ }
-    ensures tells { λ r. ⌜ now (out .exit) ≡ told 5 (findingNumbers finding) (now (out .entry)) ⌝ }
+    ensures tells { λ r. ⌜ now (out .exit) ≡ answerAfter 5 (findingNumbers finding) (now (out .entry)) ⌝ }
 {
     let a = finding.answer;
     let figures = [
@@ -26,10 +26,10 @@ fn tell_finding(out: &mut [u64], finding: Finding) -> u32
         finding.found as u64,
         finding.place as u64,
     ];
-    tell(out, &figures, a)
+    put_answer(out, &figures, a)
 }
 
-pub fn tell_find(
+pub fn find_into(
     states: u32,
     labels: u32,
     initial: u32,
@@ -41,7 +41,7 @@ pub fn tell_find(
 ) -> u32
     ensures returns { λ r. ⌜ r ≡ returned (checkOf (shapeOf states labels initial) (now (hops .entry))) 5 (length (now (answer .entry))) ⌝ }
     ensures tells { λ r. ⌜ now (answer .exit) ≡
-        told 5 (findingNumbers (findOf (shapeOf states labels initial) (now (hops .entry)) from label to)) (now (answer .entry)) ⌝ }
+        answerAfter 5 (findingNumbers (findOf (shapeOf states labels initial) (now (hops .entry)) from label to)) (now (answer .entry)) ⌝ }
 {
     let shape = Shape {
         states,
@@ -49,5 +49,5 @@ pub fn tell_find(
         initial,
     };
     let finding = find(shape, hops, from, label, to);
-    tell_finding(answer, finding)
+    put_finding(answer, finding)
 }

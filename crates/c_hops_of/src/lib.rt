@@ -2,7 +2,7 @@
 // list that the caller has.
 // `capi` exports the function unchanged.
 // Uses `graph_hops_of` for where the part stands and `c_answer` for what is written and returned.
-use c_answer::tell;
+use c_answer::put_answer;
 use graph::Shape;
 use graph::answers::accept;
 use graph_hops_of::span_of;
@@ -10,10 +10,10 @@ ghost use mathlib.Core.Path.{_≡_};
 ghost use lib.ListN.{length};
 ghost use Rattle.graph.specs.Answers.{accepted};
 ghost use Rattle.graph_hops_of.specs.HopsOf.{chosen, spanOf};
-ghost use Rattle.c_answer.specs.Numbers.{shapeOf, returned, told};
+ghost use Rattle.c_answer.specs.Numbers.{shapeOf, returned, answerAfter};
 ghost use Rattle.c_hops_of.specs.Numbers.{spanNumbers};
 
-pub fn tell_hops_of(
+pub fn hops_of_into(
     side: u32,
     state: u32,
     states1: u32,
@@ -28,7 +28,7 @@ pub fn tell_hops_of(
 ) -> u32
     ensures returns { λ r. ⌜ r ≡ returned accepted 2 (length (now (answer .entry))) ⌝ }
     ensures tells { λ r. ⌜ now (answer .exit) ≡
-        told 2
+        answerAfter 2
         (spanNumbers
         (spanOf
         (chosen side state (shapeOf states1 labels1 initial1) (now (hops1 .entry)) (shapeOf states2 labels2 initial2) (now (hops2 .entry)))
@@ -49,5 +49,5 @@ pub fn tell_hops_of(
     };
     let span = span_of(side, state, shape1, hops1, shape2, hops2);
     let figures = [span.start as u64, span.length as u64];
-    tell(answer, &figures, accept())
+    put_answer(answer, &figures, accept())
 }

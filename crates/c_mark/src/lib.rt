@@ -5,9 +5,9 @@
 // Uses `graph_check` for `check`, `mark_entry` for `mark`, `mark_entry_fast` for the faster
 // marking, `mark_entry_round` for the round question, and `c_answer` for what is written and
 // returned.
+use c_answer::put_figure_answer;
+use c_answer::put_plain_answer;
 use c_answer::short_number;
-use c_answer::tell_answer;
-use c_answer::tell_figure;
 use graph::Shape;
 use graph_check::check;
 use mark_entry::mark::mark;
@@ -20,14 +20,14 @@ ghost use lib.ListN.{length};
 ghost use Rattle.graph_check.specs.Check.{checkOf};
 ghost use Rattle.mark_entry.specs.Mark.{markAnswer, markOutput};
 ghost use Rattle.mark_entry_round.specs.Question.{questionAnswer, questionOf};
-ghost use Rattle.c_answer.specs.Numbers.{shapeOf, numbersOf, returned, told, unlessShort};
+ghost use Rattle.c_answer.specs.Numbers.{shapeOf, numbersOf, returned, answerAfter, unlessShort};
 ghost use Rattle.mark_entry_fast.specs.Fast.{markFastOf};
 ghost use Rattle.c_mark.specs.Numbers.{roundNumbers, countedNumbers};
 
-pub fn tell_check(states: u32, labels: u32, initial: u32, hops: &[u16], answer: &mut [u64]) -> u32
+pub fn check_into(states: u32, labels: u32, initial: u32, hops: &[u16], answer: &mut [u64]) -> u32
     ensures returns { λ r. ⌜ r ≡ returned (checkOf (shapeOf states labels initial) (now (hops .entry))) 3 (length (now (answer .entry))) ⌝ }
     ensures tells { λ r. ⌜ now (answer .exit) ≡
-        told 3 (numbersOf (checkOf (shapeOf states labels initial) (now (hops .entry))) []) (now (answer .entry)) ⌝ }
+        answerAfter 3 (numbersOf (checkOf (shapeOf states labels initial) (now (hops .entry))) []) (now (answer .entry)) ⌝ }
 {
     let shape = Shape {
         states,
@@ -35,11 +35,11 @@ pub fn tell_check(states: u32, labels: u32, initial: u32, hops: &[u16], answer: 
         initial,
     };
     let a = check(shape, hops);
-    tell_answer(answer, a)
+    put_plain_answer(answer, a)
 }
 
 // Where the answer slice is too short, only the answer is found, and nothing is marked.
-pub fn tell_mark(
+pub fn mark_into(
     states: u32,
     labels: u32,
     initial: u32,
@@ -56,7 +56,7 @@ pub fn tell_mark(
         (markOutput (shapeOf states labels initial) (now (hops .entry)) sense (now (marks .entry)))
         (now (marks .entry)) ⌝ }
     ensures tells { λ r. ⌜ now (answer .exit) ≡
-        told 3 (numbersOf (markAnswer (shapeOf states labels initial) (now (hops .entry)) sense (now (marks .entry))) []) (now (answer .entry)) ⌝ }
+        answerAfter 3 (numbersOf (markAnswer (shapeOf states labels initial) (now (hops .entry)) sense (now (marks .entry))) []) (now (answer .entry)) ⌝ }
 {
     let shape = Shape {
         states,
@@ -68,11 +68,11 @@ pub fn tell_mark(
         return short_number(unwritten, answer.len(), 3);
     }
     let a = mark(shape, hops, sense, marks);
-    tell_answer(answer, a)
+    put_plain_answer(answer, a)
 }
 
 // The same in sense 1, with the number of tests.
-pub fn tell_mark_fast(
+pub fn mark_fast_into(
     states: u32,
     labels: u32,
     initial: u32,
@@ -88,7 +88,7 @@ pub fn tell_mark_fast(
         (markOutput (shapeOf states labels initial) (now (hops .entry)) 1 (now (marks .entry)))
         (now (marks .entry)) ⌝ }
     ensures tells { λ r. ⌜ now (answer .exit) ≡
-        told 4 (countedNumbers (markFastOf (shapeOf states labels initial) (now (hops .entry)) (now (marks .entry)))) (now (answer .entry)) ⌝ }
+        answerAfter 4 (countedNumbers (markFastOf (shapeOf states labels initial) (now (hops .entry)) (now (marks .entry)))) (now (answer .entry)) ⌝ }
 {
     let shape = Shape {
         states,
@@ -100,10 +100,10 @@ pub fn tell_mark_fast(
         return short_number(unwritten, answer.len(), 4);
     }
     let counted = mark_fast(shape, hops, marks);
-    tell_figure(answer, counted.answer, counted.tests as u64)
+    put_figure_answer(answer, counted.answer, counted.tests as u64)
 }
 
-pub fn tell_round(
+pub fn round_into(
     states: u32,
     labels: u32,
     initial: u32,
@@ -115,7 +115,7 @@ pub fn tell_round(
     ensures returns { λ r. ⌜ r ≡
         returned (questionAnswer (shapeOf states labels initial) (now (hops .entry)) place rounds) 4 (length (now (answer .entry))) ⌝ }
     ensures tells { λ r. ⌜ now (answer .exit) ≡
-        told 4 (roundNumbers (questionOf (shapeOf states labels initial) (now (hops .entry)) place rounds)) (now (answer .entry)) ⌝ }
+        answerAfter 4 (roundNumbers (questionOf (shapeOf states labels initial) (now (hops .entry)) place rounds)) (now (answer .entry)) ⌝ }
 {
     let shape = Shape {
         states,
@@ -123,5 +123,5 @@ pub fn tell_round(
         initial,
     };
     let question = round_question(shape, hops, place as usize, rounds);
-    tell_figure(answer, question.answer, question.survives as u64)
+    put_figure_answer(answer, question.answer, question.survives as u64)
 }

@@ -3,8 +3,8 @@
 // `capi` exports the function unchanged. Where the answer slice is too short only the answer is
 // computed, and the map and the short hops are left as they were.
 // Uses `reduce_entry` for `reduce` and `c_answer` for what is written and returned.
+use c_answer::put_answer;
 use c_answer::short_number;
-use c_answer::tell;
 use graph::Shape;
 use reduce_entry::Reduction;
 use reduce_entry::entry::reduce;
@@ -12,13 +12,13 @@ use reduce_entry::entry::reduce_answer;
 ghost use mathlib.Core.Path.{_≡_};
 ghost use lib.ListN.{length};
 ghost use Rattle.reduce_entry.specs.Reduce.{reduceAnswer, reduceOf, mapOutput, shortOutput};
-ghost use Rattle.c_answer.specs.Numbers.{shapeOf, returned, told, unlessShort};
+ghost use Rattle.c_answer.specs.Numbers.{shapeOf, returned, answerAfter, unlessShort};
 ghost use Rattle.c_reduce.specs.Numbers.{reductionNumbers};
 
 // An answer, and the short graph's counts and initial state.
-fn tell_reduction(out: &mut [u64], reduction: Reduction) -> u32
+fn put_reduction(out: &mut [u64], reduction: Reduction) -> u32
     ensures returns { λ r. ⌜ r ≡ returned (reduction .answer) 7 (length (now (out .entry))) ⌝ }
-    ensures tells { λ r. ⌜ now (out .exit) ≡ told 7 (reductionNumbers reduction) (now (out .entry)) ⌝ }
+    ensures tells { λ r. ⌜ now (out .exit) ≡ answerAfter 7 (reductionNumbers reduction) (now (out .entry)) ⌝ }
 {
     let a = reduction.answer;
     let shape = reduction.shape;
@@ -31,11 +31,11 @@ fn tell_reduction(out: &mut [u64], reduction: Reduction) -> u32
         reduction.hops as u64,
         shape.initial as u64,
     ];
-    tell(out, &figures, a)
+    put_answer(out, &figures, a)
 }
 
 // Where the answer slice is too short, only the answer is found, and nothing is reduced.
-pub fn tell_reduce(
+pub fn reduce_into(
     states: u32,
     labels: u32,
     initial: u32,
@@ -61,7 +61,7 @@ pub fn tell_reduce(
         (shortOutput (shapeOf states labels initial) (now (hops .entry)) sense (now (map .entry)) (now (short .entry)))
         (now (short .entry)) ⌝ }
     ensures tells { λ r. ⌜ now (answer .exit) ≡
-        told 7
+        answerAfter 7
         (reductionNumbers (reduceOf (shapeOf states labels initial) (now (hops .entry)) sense (length (now (map .entry))) (length (now (short .entry)))))
         (now (answer .entry)) ⌝ }
 {
@@ -75,5 +75,5 @@ pub fn tell_reduce(
         return short_number(unwritten, answer.len(), 7);
     }
     let reduction = reduce(shape, hops, sense, map, short);
-    tell_reduction(answer, reduction)
+    put_reduction(answer, reduction)
 }

@@ -4,8 +4,8 @@
 // computed, and the map and the last hops are left as they were.
 // Uses `shrink_entry` for `shrink`, `reduce_entry` for its answer alone, and `c_answer` for what is
 // written and returned.
+use c_answer::put_answer;
 use c_answer::short_number;
-use c_answer::tell;
 use graph::Shape;
 use reduce_entry::entry::reduce_answer;
 use shrink_entry::Shrinking;
@@ -14,13 +14,13 @@ ghost use mathlib.Core.Path.{_≡_};
 ghost use lib.ListN.{length};
 ghost use Rattle.reduce_entry.specs.Reduce.{reduceAnswer};
 ghost use Rattle.shrink_entry.specs.Shrink.{shrinkOf, shrinkMapOutput, shrinkHopsOutput};
-ghost use Rattle.c_answer.specs.Numbers.{shapeOf, returned, told, unlessShort};
+ghost use Rattle.c_answer.specs.Numbers.{shapeOf, returned, answerAfter, unlessShort};
 ghost use Rattle.c_shrink.specs.Numbers.{shrinkingNumbers};
 
 // An answer, the last graph's counts and initial state, and the number of reductions.
-fn tell_shrinking(out: &mut [u64], shrinking: Shrinking) -> u32
+fn put_shrinking(out: &mut [u64], shrinking: Shrinking) -> u32
     ensures returns { λ r. ⌜ r ≡ returned (shrinking .answer) 8 (length (now (out .entry))) ⌝ }
-    ensures tells { λ r. ⌜ now (out .exit) ≡ told 8 (shrinkingNumbers shrinking) (now (out .entry)) ⌝ }
+    ensures tells { λ r. ⌜ now (out .exit) ≡ answerAfter 8 (shrinkingNumbers shrinking) (now (out .entry)) ⌝ }
 {
     let a = shrinking.answer;
     let shape = shrinking.shape;
@@ -34,11 +34,11 @@ fn tell_shrinking(out: &mut [u64], shrinking: Shrinking) -> u32
         shape.initial as u64,
         shrinking.reductions as u64,
     ];
-    tell(out, &figures, a)
+    put_answer(out, &figures, a)
 }
 
 // Where the answer slice is too short, only the answer is found, and nothing is reduced.
-pub fn tell_shrink(
+pub fn shrink_into(
     states: u32,
     labels: u32,
     initial: u32,
@@ -64,7 +64,7 @@ pub fn tell_shrink(
         (shrinkHopsOutput (shapeOf states labels initial) (now (hops .entry)) sense (now (map .entry)) (now (short .entry)))
         (now (short .entry)) ⌝ }
     ensures tells { λ r. ⌜ now (answer .exit) ≡
-        told 8
+        answerAfter 8
         (shrinkingNumbers (shrinkOf (shapeOf states labels initial) (now (hops .entry)) sense (length (now (map .entry))) (length (now (short .entry)))))
         (now (answer .entry)) ⌝ }
 {
@@ -78,5 +78,5 @@ pub fn tell_shrink(
         return short_number(unwritten, answer.len(), 8);
     }
     let shrinking = shrink(shape, hops, sense, map, short);
-    tell_shrinking(answer, shrinking)
+    put_shrinking(answer, shrinking)
 }

@@ -1,11 +1,11 @@
 // Read and write.
-use c_file::tell_read;
-use c_file::tell_write;
+use c_file::read_into;
+use c_file::write_into;
 ghost use mathlib.Core.Path.{_≡_};
 ghost use lib.ListN.{length};
 ghost use Rattle.file_read.specs.Read.{readAnswer, readOf, readHops};
 ghost use Rattle.file_write.specs.Write.{writeAnswer, writeOf, writeBytes};
-ghost use Rattle.c_answer.specs.Numbers.{shapeOf, returned, told, unlessShort};
+ghost use Rattle.c_answer.specs.Numbers.{shapeOf, returned, answerAfter, unlessShort};
 ghost use Rattle.c_file.specs.Numbers.{contentsNumbers, writtenNumbers};
 
 #[no_mangle]
@@ -14,9 +14,9 @@ pub extern "C" fn zf_read(file: &[u8], hops: &mut [u16], answer: &mut [u64]) -> 
     ensures hops { λ r. ⌜ now (hops .exit) ≡
         unlessShort 9 (now (answer .entry)) (readHops (now (file .entry)) (now (hops .entry))) (now (hops .entry)) ⌝ }
     ensures tells { λ r. ⌜ now (answer .exit) ≡
-        told 9 (contentsNumbers (readOf (now (file .entry)) (length (now (hops .entry))))) (now (answer .entry)) ⌝ }
+        answerAfter 9 (contentsNumbers (readOf (now (file .entry)) (length (now (hops .entry))))) (now (answer .entry)) ⌝ }
 {
-    tell_read(file, hops, answer)
+    read_into(file, hops, answer)
 }
 
 #[no_mangle]
@@ -40,9 +40,9 @@ pub extern "C" fn zf_write(
         (writeBytes (shapeOf states labels initial) (now (hops .entry)) (now (names .entry)) (now (out .entry)))
         (now (out .entry)) ⌝ }
     ensures tells { λ r. ⌜ now (answer .exit) ≡
-        told 4
+        answerAfter 4
         (writtenNumbers (writeOf (shapeOf states labels initial) (now (hops .entry)) (now (names .entry)) (length (now (out .entry)))))
         (now (answer .entry)) ⌝ }
 {
-    tell_write(states, labels, initial, hops, names, out, answer)
+    write_into(states, labels, initial, hops, names, out, answer)
 }

@@ -1,10 +1,10 @@
 // Find.
-use c_find::tell_find;
+use c_find::find_into;
 ghost use mathlib.Core.Path.{_≡_};
 ghost use lib.ListN.{length};
 ghost use Rattle.graph_check.specs.Check.{checkOf};
 ghost use Rattle.graph_find.specs.Find.{findOf};
-ghost use Rattle.c_answer.specs.Numbers.{shapeOf, returned, told};
+ghost use Rattle.c_answer.specs.Numbers.{shapeOf, returned, answerAfter};
 ghost use Rattle.c_find.specs.Numbers.{findingNumbers};
 
 #[no_mangle]
@@ -20,7 +20,7 @@ pub extern "C" fn zf_find(
 ) -> u32
     ensures returns { λ r. ⌜ r ≡ returned (checkOf (shapeOf states labels initial) (now (hops .entry))) 5 (length (now (answer .entry))) ⌝ }
     ensures tells { λ r. ⌜ now (answer .exit) ≡
-        told 5 (findingNumbers (findOf (shapeOf states labels initial) (now (hops .entry)) from label to)) (now (answer .entry)) ⌝ }
+        answerAfter 5 (findingNumbers (findOf (shapeOf states labels initial) (now (hops .entry)) from label to)) (now (answer .entry)) ⌝ }
 {
-    tell_find(states, labels, initial, hops, from, label, to, answer)
+    find_into(states, labels, initial, hops, from, label, to, answer)
 }

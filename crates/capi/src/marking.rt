@@ -1,15 +1,15 @@
 // Check, both markings and the round question.
-use c_mark::tell_check;
-use c_mark::tell_mark;
-use c_mark::tell_mark_fast;
-use c_mark::tell_round;
+use c_mark::check_into;
+use c_mark::mark_fast_into;
+use c_mark::mark_into;
+use c_mark::round_into;
 ghost use mathlib.Core.Path.{_≡_};
 ghost use mathlib.Core.List.{[]};
 ghost use lib.ListN.{length};
 ghost use Rattle.graph_check.specs.Check.{checkOf};
 ghost use Rattle.mark_entry.specs.Mark.{markAnswer, markOutput};
 ghost use Rattle.mark_entry_round.specs.Question.{questionAnswer, questionOf};
-ghost use Rattle.c_answer.specs.Numbers.{shapeOf, numbersOf, returned, told, unlessShort};
+ghost use Rattle.c_answer.specs.Numbers.{shapeOf, numbersOf, returned, answerAfter, unlessShort};
 ghost use Rattle.mark_entry_fast.specs.Fast.{markFastOf};
 ghost use Rattle.c_mark.specs.Numbers.{roundNumbers, countedNumbers};
 
@@ -23,9 +23,9 @@ pub extern "C" fn zf_check(
 ) -> u32
     ensures returns { λ r. ⌜ r ≡ returned (checkOf (shapeOf states labels initial) (now (hops .entry))) 3 (length (now (answer .entry))) ⌝ }
     ensures tells { λ r. ⌜ now (answer .exit) ≡
-        told 3 (numbersOf (checkOf (shapeOf states labels initial) (now (hops .entry))) []) (now (answer .entry)) ⌝ }
+        answerAfter 3 (numbersOf (checkOf (shapeOf states labels initial) (now (hops .entry))) []) (now (answer .entry)) ⌝ }
 {
-    tell_check(states, labels, initial, hops, answer)
+    check_into(states, labels, initial, hops, answer)
 }
 
 #[no_mangle]
@@ -46,9 +46,9 @@ pub extern "C" fn zf_mark(
         (markOutput (shapeOf states labels initial) (now (hops .entry)) sense (now (marks .entry)))
         (now (marks .entry)) ⌝ }
     ensures tells { λ r. ⌜ now (answer .exit) ≡
-        told 3 (numbersOf (markAnswer (shapeOf states labels initial) (now (hops .entry)) sense (now (marks .entry))) []) (now (answer .entry)) ⌝ }
+        answerAfter 3 (numbersOf (markAnswer (shapeOf states labels initial) (now (hops .entry)) sense (now (marks .entry))) []) (now (answer .entry)) ⌝ }
 {
-    tell_mark(states, labels, initial, hops, sense, marks, answer)
+    mark_into(states, labels, initial, hops, sense, marks, answer)
 }
 
 #[no_mangle]
@@ -68,9 +68,9 @@ pub extern "C" fn zf_mark_fast(
         (markOutput (shapeOf states labels initial) (now (hops .entry)) 1 (now (marks .entry)))
         (now (marks .entry)) ⌝ }
     ensures tells { λ r. ⌜ now (answer .exit) ≡
-        told 4 (countedNumbers (markFastOf (shapeOf states labels initial) (now (hops .entry)) (now (marks .entry)))) (now (answer .entry)) ⌝ }
+        answerAfter 4 (countedNumbers (markFastOf (shapeOf states labels initial) (now (hops .entry)) (now (marks .entry)))) (now (answer .entry)) ⌝ }
 {
-    tell_mark_fast(states, labels, initial, hops, marks, answer)
+    mark_fast_into(states, labels, initial, hops, marks, answer)
 }
 
 #[no_mangle]
@@ -86,7 +86,7 @@ pub extern "C" fn zf_round(
     ensures returns { λ r. ⌜ r ≡
         returned (questionAnswer (shapeOf states labels initial) (now (hops .entry)) place rounds) 4 (length (now (answer .entry))) ⌝ }
     ensures tells { λ r. ⌜ now (answer .exit) ≡
-        told 4 (roundNumbers (questionOf (shapeOf states labels initial) (now (hops .entry)) place rounds)) (now (answer .entry)) ⌝ }
+        answerAfter 4 (roundNumbers (questionOf (shapeOf states labels initial) (now (hops .entry)) place rounds)) (now (answer .entry)) ⌝ }
 {
-    tell_round(states, labels, initial, hops, place, rounds, answer)
+    round_into(states, labels, initial, hops, place, rounds, answer)
 }

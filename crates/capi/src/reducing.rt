@@ -1,14 +1,14 @@
 // Reduce, shrink and audit.
-use c_audit::tell_audit;
-use c_reduce::tell_reduce;
-use c_shrink::tell_shrink;
+use c_audit::audit_into;
+use c_reduce::reduce_into;
+use c_shrink::shrink_into;
 ghost use mathlib.Core.Path.{_≡_};
 ghost use lib.ListN.{length};
 ghost use Rattle.reduce_entry.specs.Reduce.{reduceAnswer, reduceOf, mapOutput, shortOutput};
 ghost use Rattle.shrink_entry.specs.Shrink.{shrinkOf, shrinkMapOutput, shrinkHopsOutput};
 ghost use Rattle.audit_admitted.specs.Admitted.{auditAnswer};
 ghost use Rattle.audit_entry.specs.Audit.{auditOf};
-ghost use Rattle.c_answer.specs.Numbers.{shapeOf, returned, told, unlessShort};
+ghost use Rattle.c_answer.specs.Numbers.{shapeOf, returned, answerAfter, unlessShort};
 ghost use Rattle.c_reduce.specs.Numbers.{reductionNumbers};
 ghost use Rattle.c_shrink.specs.Numbers.{shrinkingNumbers};
 ghost use Rattle.c_audit.specs.Numbers.{auditNumbers};
@@ -40,11 +40,11 @@ pub extern "C" fn zf_reduce(
         (shortOutput (shapeOf states labels initial) (now (hops .entry)) sense (now (map .entry)) (now (short .entry)))
         (now (short .entry)) ⌝ }
     ensures tells { λ r. ⌜ now (answer .exit) ≡
-        told 7
+        answerAfter 7
         (reductionNumbers (reduceOf (shapeOf states labels initial) (now (hops .entry)) sense (length (now (map .entry))) (length (now (short .entry)))))
         (now (answer .entry)) ⌝ }
 {
-    tell_reduce(states, labels, initial, hops, sense, map, short, answer)
+    reduce_into(states, labels, initial, hops, sense, map, short, answer)
 }
 
 #[no_mangle]
@@ -74,11 +74,11 @@ pub extern "C" fn zf_shrink(
         (shrinkHopsOutput (shapeOf states labels initial) (now (hops .entry)) sense (now (map .entry)) (now (short .entry)))
         (now (short .entry)) ⌝ }
     ensures tells { λ r. ⌜ now (answer .exit) ≡
-        told 8
+        answerAfter 8
         (shrinkingNumbers (shrinkOf (shapeOf states labels initial) (now (hops .entry)) sense (length (now (map .entry))) (length (now (short .entry)))))
         (now (answer .entry)) ⌝ }
 {
-    tell_shrink(states, labels, initial, hops, sense, map, short, answer)
+    shrink_into(states, labels, initial, hops, sense, map, short, answer)
 }
 
 #[no_mangle]
@@ -100,12 +100,12 @@ pub extern "C" fn zf_audit(
         7
         (length (now (answer .entry))) ⌝ }
     ensures tells { λ r. ⌜ now (answer .exit) ≡
-        told 7
+        answerAfter 7
         (auditNumbers
         (auditOf (shapeOf states1 labels1 initial1) (shapeOf states2 labels2 initial2) (now (hops1 .entry)) (now (hops2 .entry)) (now (map .entry))))
         (now (answer .entry)) ⌝ }
 {
-    tell_audit(
+    audit_into(
         states1,
         labels1,
         initial1,

@@ -1,10 +1,10 @@
 // Hops of a state, by start and length.
-use c_hops_of::tell_hops_of;
+use c_hops_of::hops_of_into;
 ghost use mathlib.Core.Path.{_≡_};
 ghost use lib.ListN.{length};
 ghost use Rattle.graph.specs.Answers.{accepted};
 ghost use Rattle.graph_hops_of.specs.HopsOf.{chosen, spanOf};
-ghost use Rattle.c_answer.specs.Numbers.{shapeOf, returned, told};
+ghost use Rattle.c_answer.specs.Numbers.{shapeOf, returned, answerAfter};
 ghost use Rattle.c_hops_of.specs.Numbers.{spanNumbers};
 
 #[no_mangle]
@@ -23,7 +23,7 @@ pub extern "C" fn zf_hops_of(
 ) -> u32
     ensures returns { λ r. ⌜ r ≡ returned accepted 2 (length (now (answer .entry))) ⌝ }
     ensures tells { λ r. ⌜ now (answer .exit) ≡
-        told 2
+        answerAfter 2
         (spanNumbers
         (spanOf
         (chosen side state (shapeOf states1 labels1 initial1) (now (hops1 .entry)) (shapeOf states2 labels2 initial2) (now (hops2 .entry)))
@@ -32,7 +32,7 @@ pub extern "C" fn zf_hops_of(
         (now (hops2 .entry))))
         (now (answer .entry)) ⌝ }
 {
-    tell_hops_of(
+    hops_of_into(
         side,
         state,
         states1,

@@ -1,10 +1,10 @@
--- `capi::files::zf_write` meets its contract, which is that of `c_file::tell_write`. Assumes nothing.
+-- `capi::files::zf_write` meets its contract, which is that of `c_file::write_into`. Assumes nothing.
 use borrow.Author.Needs.{needs}
 use Rattle.capi.proofs.files.zf_write.Statement.{statement}
 use Rattle.capi.proofs.files.zf_write.Tie as tie
 
-tell-write-requires : tie.Need-tell-write-requires
-tell-write-requires c κs = search needs
+write-into-requires : tie.Need-write-into-requires
+write-into-requires c κs = search needs
 
 same-length : tie.Need-same-length
 same-length c = search needs
@@ -13,7 +13,7 @@ same-length-2 : tie.Need-same-length-2
 same-length-2 c = search needs
 
 returns : tie.Need-returns
-returns c = c .before .before .before .before .tell-write .ensures
+returns c = c .before .before .before .before .write-into .ensures
 
 pub zf-write-spec : {M : Type 1} → statement M
-zf-write-spec = tie.close (tie.spec tell-write-requires same-length same-length-2 returns)
+zf-write-spec = tie.close (tie.spec write-into-requires same-length same-length-2 returns)

@@ -1,10 +1,10 @@
--- `capi::marking::zf_mark` meets its contract, which is that of `c_mark::tell_mark`. Assumes nothing.
+-- `capi::marking::zf_mark` meets its contract, which is that of `c_mark::mark_into`. Assumes nothing.
 use borrow.Author.Needs.{needs}
 use Rattle.capi.proofs.marking.zf_mark.Statement.{statement}
 use Rattle.capi.proofs.marking.zf_mark.Tie as tie
 
-tell-mark-requires : tie.Need-tell-mark-requires
-tell-mark-requires c κs = search needs
+mark-into-requires : tie.Need-mark-into-requires
+mark-into-requires c κs = search needs
 
 same-length : tie.Need-same-length
 same-length c = search needs
@@ -13,7 +13,7 @@ same-length-2 : tie.Need-same-length-2
 same-length-2 c = search needs
 
 returns : tie.Need-returns
-returns c = c .before .before .before .before .tell-mark .ensures
+returns c = c .before .before .before .before .mark-into .ensures
 
 pub zf-mark-spec : {M : Type 1} → statement M
-zf-mark-spec = tie.close (tie.spec tell-mark-requires same-length same-length-2 returns)
+zf-mark-spec = tie.close (tie.spec mark-into-requires same-length same-length-2 returns)

@@ -1,10 +1,10 @@
--- `capi::reducing::zf_shrink` meets its contract, which is that of `c_shrink::tell_shrink`. Assumes nothing.
+-- `capi::reducing::zf_shrink` meets its contract, which is that of `c_shrink::shrink_into`. Assumes nothing.
 use borrow.Author.Needs.{needs}
 use Rattle.capi.proofs.reducing.zf_shrink.Statement.{statement}
 use Rattle.capi.proofs.reducing.zf_shrink.Tie as tie
 
-tell-shrink-requires : tie.Need-tell-shrink-requires
-tell-shrink-requires c κs = search needs
+shrink-into-requires : tie.Need-shrink-into-requires
+shrink-into-requires c κs = search needs
 
 same-length : tie.Need-same-length
 same-length c = search needs
@@ -16,7 +16,7 @@ same-length-3 : tie.Need-same-length-3
 same-length-3 c = search needs
 
 returns : tie.Need-returns
-returns c = c .before .before .before .before .before .before .tell-shrink .ensures
+returns c = c .before .before .before .before .before .before .shrink-into .ensures
 
 pub zf-shrink-spec : {M : Type 1} → statement M
-zf-shrink-spec = tie.close (tie.spec tell-shrink-requires same-length same-length-2 same-length-3 returns)
+zf-shrink-spec = tie.close (tie.spec shrink-into-requires same-length same-length-2 same-length-3 returns)

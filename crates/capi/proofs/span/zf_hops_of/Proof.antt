@@ -1,16 +1,16 @@
--- `capi::span::zf_hops_of` meets its contract, which is that of `c_hops_of::tell_hops_of`. Assumes nothing.
+-- `capi::span::zf_hops_of` meets its contract, which is that of `c_hops_of::hops_of_into`. Assumes nothing.
 use borrow.Author.Needs.{needs}
 use Rattle.capi.proofs.span.zf_hops_of.Statement.{statement}
 use Rattle.capi.proofs.span.zf_hops_of.Tie as tie
 
-tell-hops-of-requires : tie.Need-tell-hops-of-requires
-tell-hops-of-requires c κs = search needs
+hops-of-into-requires : tie.Need-hops-of-into-requires
+hops-of-into-requires c κs = search needs
 
 same-length : tie.Need-same-length
 same-length c = search needs
 
 returns : tie.Need-returns
-returns c = c .before .before .tell-hops-of .ensures
+returns c = c .before .before .hops-of-into .ensures
 
 pub zf-hops-of-spec : {M : Type 1} → statement M
-zf-hops-of-spec = tie.close (tie.spec tell-hops-of-requires same-length returns)
+zf-hops-of-spec = tie.close (tie.spec hops-of-into-requires same-length returns)

@@ -1,0 +1,55 @@
+-- `c_file::read_into` meets its contract: where the answer slice is too short, only the answer is found. Assumes nothing.
+use borrow.Author.Needs.{needs}
+use mathlib.Core.Path.{ap, _∙_}
+use Rattle.file_read.specs.declared.Contents.{Contents}
+use Rattle.c_file.specs.Numbers.{contentsNumbers}
+use Rattle.c_answer.proofs.Answers.{returned-of}
+use Rattle.c_answer.proofs.AnswerAfter.{answer-after-of, short-answer-after, short-kept, left-long}
+use Rattle.c_file.proofs.Results.{found-answer}
+use Rattle.c_file.proofs.read_into.Statement.{statement}
+use Rattle.c_file.proofs.read_into.Tie as tie
+
+read-answer-requires : tie.Need-read-answer-requires
+read-answer-requires c κs = search needs
+
+short-number-requires : tie.Need-short-number-requires
+short-number-requires c κs = search needs
+
+returns : tie.Need-returns
+returns c =
+    let l = c .before .before .if1 .taken in
+    (returned-of 9 _ (c .before .read-answer .ensures) (c .short-number .ensures), (short-kept 9 _ _ _ l, short-answer-after 9 _ _ l))
+
+read-requires : tie.Need-read-requires
+read-requires c κs = search needs
+
+put-contents-requires : tie.Need-put-contents-requires
+put-contents-requires c κs = search needs
+
+same-length : tie.Need-same-length
+same-length c = search needs
+
+same-length-2 : tie.Need-same-length-2
+same-length-2 c = search needs
+
+returns-2 : tie.Need-returns-2
+returns-2 c =
+    let w = c .before .before .before .before .before .before .read .ensures in
+    let l = c .before .before .before .before .before .before .before .before .if1 .left in
+    let t = c .before .before .put-contents .ensures in (
+      returned-of 9 _ (ap (λ (r : Contents). r .answer) (w .0) ∙ found-answer _ _) (t .0),
+      (left-long 9 _ _ _ l (w .1), answer-after-of contentsNumbers 9 _ (w .0) (t .1)),
+    )
+
+pub read-into-spec : {M : Type 1} → statement M
+read-into-spec =
+    tie.close
+    (tie.spec
+    read-answer-requires
+    short-number-requires
+    returns
+    read-requires
+    put-contents-requires
+    same-length
+    same-length-2
+    returns-2)

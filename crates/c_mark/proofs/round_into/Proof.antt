@@ -1,0 +1,33 @@
+-- `c_mark::round_into` meets its contract: what is told of the result is told of the round question's. Assumes nothing.
+use borrow.Author.Needs.{needs}
+use mathlib.Core.Path.{ap}
+use Rattle.mark_entry_round.specs.declared.RoundAnswer.{RoundAnswer}
+use Rattle.mark_entry_round.specs.Question.{questionOf}
+use Rattle.c_mark.specs.Numbers.{roundNumbers}
+use Rattle.c_answer.proofs.Answers.{returned-of}
+use Rattle.c_answer.proofs.AnswerAfter.{answer-after-of}
+use Rattle.c_mark.proofs.round_into.Statement.{statement}
+use Rattle.c_mark.proofs.round_into.Tie as tie
+
+round-question-requires : tie.Need-round-question-requires
+round-question-requires c κs = search needs
+
+cast-put-figure-answer : tie.Need-cast-put-figure-answer
+cast-put-figure-answer c = search needs
+
+put-figure-answer-requires : tie.Need-put-figure-answer-requires
+put-figure-answer-requires c κs = search needs
+
+same-length : tie.Need-same-length
+same-length c = search needs
+
+returns : tie.Need-returns
+unfolding questionOf
+returns c =
+    let e = c .before .before .before .before .before .round-question .ensures in
+    let t = c .before .before .put-figure-answer .ensures in
+    (returned-of 4 _ (ap (λ (q : RoundAnswer). q .answer) e) (t .0), answer-after-of roundNumbers 4 _ e (t .1))
+
+pub round-into-spec : {M : Type 1} → statement M
+round-into-spec =
+    tie.close (tie.spec round-question-requires cast-put-figure-answer put-figure-answer-requires same-length returns)
