@@ -24,9 +24,9 @@ use Rattle.audit_entry.specs.Audit.{auditOf}
 use Rattle.graph_find.specs.Find.{hopsBefore, findOf}
 use Rattle.test_worked.specs.Table.{tableOf, table, outcomeOf, fallsIn}
 
-pub given : tableOf table ≡ table
+pub table-holds : tableOf table ≡ table
 unfolding
     all any least tabulate tally total flat is labelled has before checkOf countsFit inside firstOutside ascendsAt firstNotAscending leadsBy onRing lowestOnRing ringAnswer
     approximant survives marked closes tried answered answers hopAnswers answer closing inSetAt reachesBy hopOrStay joinsAt answersTo answersFrom answeredIn closesIn markedIn isSense senseOf senseAnswer marksOf markOf markAnswer fell stillMarked affectedAt affected testedIn testsIn testsUpTo testsOf markFastOf markedFrom isNormal nextState afterSteps repOf newOf mapOf
     insert collected shortUpTo shortHops shortShape mapList initialFault preserved lostFaults matchAt matchedFrom matched unmatched unmatchedFaults faultsOf firstInitial lostPlace firstLost unmatchedPlace unmatchedState firstUnmatched firstFault reduceAnswer reduceOf firstHigh mapFits auditAnswer auditOf hopsBefore findOf outcomeOf fallsIn
-given = refl
+table-holds = refl

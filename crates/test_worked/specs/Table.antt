@@ -66,7 +66,7 @@ pub record Entry : Type 0 where
   pub hops : List Hop
   pub outcome : Outcome
 
-pub record Table : Type 0 where
+pub record WorkedTable : Type 0 where
   pub graphs : List Entry
   pub audits : List Audited
   pub searches : List Sought
@@ -123,7 +123,7 @@ soughtOf q = record {
   finding = findOf (q .graph) (flat (q .hops)) (q .hop .from) (q .hop .label) (q .hop .to);
 }
 
-abbrev pub tableOf : Table → Table
+abbrev pub tableOf : WorkedTable → WorkedTable
 tableOf t = record { graphs = map entryOf (t .graphs); audits = map auditedOf (t .audits); searches = map soughtOf (t .searches) }
 
 -- the hop lists, in ascending order
@@ -174,7 +174,7 @@ abbrev inP1 : Hop → ℕ → ℕ → Sought
 inP1 h n p = record { graph = shape 4 2; hops = p1; hop = h; finding = record { answer = accepted; found = n; place = p } }
 
 -- document 01's figures, and document 02's of wishes 3 and 10
-abbrev pub table : Table
+abbrev pub table : WorkedTable
 table = record {
   graphs =
       record {

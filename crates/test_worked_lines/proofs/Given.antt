@@ -17,9 +17,9 @@ use Rattle.reduce_short_graph.specs.Short.{shortUpTo, shortHops, shortShape, ma
 use Rattle.reduce_entry.specs.Reduce.{reduceAnswer}
 use Rattle.test_worked_lines.specs.Table.{tableOf, table}
 
-pub given : tableOf table ≡ table
+pub table-holds : tableOf table ≡ table
 unfolding
     all any least tabulate tally flat is labelled has before checkOf countsFit inside firstOutside ascendsAt firstNotAscending leadsBy onRing lowestOnRing ringAnswer approximant tried marksOf markOf
     inSetAt reachesBy hopOrStay joinsAt answersTo answersFrom answeredIn closesIn markedIn isSense senseOf senseAnswer markedFrom isNormal nextState afterSteps repOf newOf mapOf
     lesserLine insert collected shortUpTo shortHops shortShape mapList reduceAnswer
-given = refl
+table-holds = refl

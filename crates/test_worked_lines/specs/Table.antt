@@ -23,32 +23,32 @@ pub record Carried : Type 0 where
   pub short : List Hop
 
 -- what is said of an answer: the graph, for how many numbers the output for short hops has room, and what `reduce` answers under sense 1
-pub record Asked : Type 0 where
+pub record CapacityAsked : Type 0 where
   pub graph : Shape
   pub hops : List Hop
   pub numbers : ℕ
   pub answer : Answer
 
-pub record Table : Type 0 where
+pub record LinesTable : Type 0 where
   pub carried : List Carried
-  pub answers : List Asked
+  pub answers : List CapacityAsked
 
 -- the definitions' own account
 abbrev pub carriedOf : Carried → Carried
 carriedOf c = record { graph = c .graph; hops = c .hops; short = reducedHops (c .graph) (flat (c .hops)) 1 }
 
-abbrev pub askedOf : Asked → Asked
-askedOf q = record {
+abbrev pub capacityAskedOf : CapacityAsked → CapacityAsked
+capacityAskedOf q = record {
   graph = q .graph;
   hops = q .hops;
   numbers = q .numbers;
   answer = reduceAnswer (q .graph) (flat (q .hops)) 1 (q .graph .states) (q .numbers);
 }
 
-abbrev pub tableOf : Table → Table
-tableOf t = record { carried = map carriedOf (t .carried); answers = map askedOf (t .answers) }
+abbrev pub tableOf : LinesTable → LinesTable
+tableOf t = record { carried = map carriedOf (t .carried); answers = map capacityAskedOf (t .answers) }
 
-abbrev pub table : Table
+abbrev pub table : LinesTable
 table = record {
   carried =
       -- M4: "P1 with lines 3, 4, 5, 2", of which the representative 1 has the hop with 5, and the like hop of 0 has 4

@@ -40,7 +40,7 @@ pub record Reduced : Type 0 where
   pub short : List Hop
 
 -- what is said of an answer: the graph, the number of the sense, how long the two outputs are, and what `reduce` answers
-pub record Asked : Type 0 where
+pub record SenseAsked : Type 0 where
   pub graph : Shape
   pub hops : List Hop
   pub sense : ℕ
@@ -48,10 +48,10 @@ pub record Asked : Type 0 where
   pub numbers : ℕ
   pub answer : Answer
 
-pub record Table : Type 0 where
+pub record SensesTable : Type 0 where
   pub marks : List Marked
   pub reductions : List Reduced
-  pub answers : List Asked
+  pub answers : List SenseAsked
 
 -- the definitions' own account
 abbrev marksIn : ℕ → Shape → List Hop → List ℕ
@@ -77,8 +77,8 @@ reducedOf m = record {
   short = reducedHops (m .graph) (flat (m .hops)) (m .sense);
 }
 
-abbrev pub askedOf : Asked → Asked
-askedOf q = record {
+abbrev pub senseAskedOf : SenseAsked → SenseAsked
+senseAskedOf q = record {
   graph = q .graph;
   hops = q .hops;
   sense = q .sense;
@@ -87,8 +87,8 @@ askedOf q = record {
   answer = reduceAnswer (q .graph) (flat (q .hops)) (q .sense) (q .entries) (q .numbers);
 }
 
-abbrev pub tableOf : Table → Table
-tableOf t = record { marks = map markedOf (t .marks); reductions = map reducedOf (t .reductions); answers = map askedOf (t .answers) }
+abbrev pub tableOf : SensesTable → SensesTable
+tableOf t = record { marks = map markedOf (t .marks); reductions = map reducedOf (t .reductions); answers = map senseAskedOf (t .answers) }
 
 -- wish 7's case, and the two that tell R2 from R3
 abbrev case : List Hop
@@ -116,10 +116,10 @@ leaves sh hs k n m t s = record {
 }
 
 -- the answer in the sense k, for outputs that are so long
-abbrev says : Shape → List Hop → ℕ → ℕ → ℕ → Answer → Asked
+abbrev says : Shape → List Hop → ℕ → ℕ → ℕ → Answer → SenseAsked
 says sh hs k m n a = record { graph = sh; hops = hs; sense = k; entries = m; numbers = n; answer = a }
 
-abbrev pub table : Table
+abbrev pub table : SensesTable
 table = record {
   marks =
       -- "(0,0,1) (0,1,2) (1,1,3) (2,0,4) (4,0,3) has 0 to 1 marked by R8 alone; the other silent hops are marked by all four"

@@ -29,7 +29,7 @@ use Rattle.shrink_entry.specs.Shrink.{shrinkOf, shrinkMapOutput, shrinkHopsOutp
 use Rattle.base_outputs.specs.Output.{onFront}
 use Rattle.graph.specs.Answers.{accepted}
 use Rattle.shrink_entry.specs.declared.Shrinking.{Shrinking}
-use Rattle.test_worked_shrink.specs.Table.{Turn, Shrunk, turnsOf, shrunkOf, refusedOf, tableOf, chain-r1, chain-r2, chain-r3, chain-r8, p1-r1, p2-r1, twice-r2, table}
+use Rattle.test_worked_shrink.specs.Table.{Step, Shrunk, stepsOf, shrunkOf, refusedOf, tableOf, chain-r1, chain-r2, chain-r3, chain-r8, p1-r1, p2-r1, twice-r2, table}
 use Rattle.test_worked_shrink.proofs.Settled.{closesAt, leftAt, settled}
 
 -- the marks of a stage, by what there is to compute
@@ -53,12 +53,12 @@ next g u = record {
 }
 
 -- the reductions from g on: each but the last look marks something and leads to the next, and the last look marks nothing
-data Steps (k : ℕ) : Stage → List Turn → Type 0 where
+data Steps (k : ℕ) : Stage → List Step → Type 0 where
   still : {g : Stage} → Marks k g [] → some g (markSet (g .hops) []) ≡ false → Steps k g []
-  step : {g : Stage} {t : Turn} {ts : List Turn} → Marks k g (t .marks) → some g (markSet (g .hops) (t .marks)) ≡ true →
+  step : {g : Stage} {t : Step} {ts : List Step} → Marks k g (t .marks) → some g (markSet (g .hops) (t .marks)) ≡ true →
       marksOf (g .hops) (markSet (g .hops) (t .marks)) ≡ t .marks → next g (markSet (g .hops) (t .marks)) ≡ t .stage → Steps k (t .stage) ts → Steps k g (t ∷ ts)
 
-unfoldable end : Stage → List Turn → Stage
+unfoldable end : Stage → List Step → Stage
 end g [] = g
 end g (t ∷ ts) = end (t .stage) ts
 
@@ -75,21 +75,21 @@ module _ {k : ℕ} {g : Stage} {ms : List ℕ} (m : Marks k g ms) where
   marks-is e = ap (marksOf (g .hops)) (marks-are m) ∙ e
 
 -- so the repetition ends in the last of them
-steps-end : (k n : ℕ) (g : Stage) (ts : List Turn) → length ts ≤ n → Steps k g ts → iterated k n g ≡ end g ts
+steps-end : (k n : ℕ) (g : Stage) (ts : List Step) → length ts ≤ n → Steps k g ts → iterated k n g ≡ end g ts
 unfolding iterated end
 steps-end k zero g [] l e = refl
 steps-end k (suc n) g [] l (still m e) = rw (some-is m e)
 steps-end k zero g (t ∷ ts) l e = absurd (omega arith)
 steps-end k (suc n) g (t ∷ ts) l (step m e _ p r) = rw (some-is m e, next-is m p) (steps-end k n (t .stage) ts (omega arith) r)
 
-steps-are : (k : ℕ) (g : Stage) (ts : List Turn) → Steps k g ts → turnsOf k g ts ≡ ts
-unfolding turnsOf
+steps-are : (k : ℕ) (g : Stage) (ts : List Step) → Steps k g ts → stepsOf k g ts ≡ ts
+unfolding stepsOf
 steps-are k g [] e = refl
-steps-are k g (t ∷ ts) (step m e q p r) = λ d. record { marks = marks-is m q d; stage = next-is m p d } ∷ ((ap (λ (h : Stage). turnsOf k h ts) (next-is m p) ∙ steps-are k (t .stage) ts r) d)
+steps-are k g (t ∷ ts) (step m e q p r) = λ d. record { marks = marks-is m q d; stage = next-is m p d } ∷ ((ap (λ (h : Stage). stepsOf k h ts) (next-is m p) ∙ steps-are k (t .stage) ts r) d)
 
 -- the last stage of a graph as the table says it, and what is returned of a stage
 abbrev last : Shrunk → Stage
-last m = end (firstStage (m .graph) (flat (m .hops))) (m .turns)
+last m = end (firstStage (m .graph) (flat (m .hops))) (m .steps)
 
 abbrev figures : Stage → Shrinking
 figures g = record { answer = accepted; shape = g .shape; hops = count (g .hops); reductions = g .reductions }
@@ -97,8 +97,8 @@ figures g = record { answer = accepted; shape = g .shape; hops = count (g .hops)
 -- what there is to compute of one graph
 record Row (m : Shrunk) : Type 0 where
   answers : reduceAnswer (m .graph) (flat (m .hops)) (m .sense) (length (m .map)) (length (m .short)) ≡ accepted
-  few : leb (length (m .turns)) (m .graph .states) ≡ true
-  steps : Steps (m .sense) (firstStage (m .graph) (flat (m .hops))) (m .turns)
+  few : leb (length (m .steps)) (m .graph .states) ≡ true
+  steps : Steps (m .sense) (firstStage (m .graph) (flat (m .hops))) (m .steps)
   returns : figures (last m) ≡ m .returned
   maps : onFront (last m .map) (m .map) ≡ m .map-after
   shorts : onFront (last m .hops) (m .short) ≡ m .short-after
@@ -111,14 +111,14 @@ row-given {m} r = λ d. record {
   sense = m .sense;
   map = m .map;
   short = m .short;
-  turns = steps-are (m .sense) (firstStage (m .graph) (flat (m .hops))) (m .turns) (r .steps) d;
+  steps = steps-are (m .sense) (firstStage (m .graph) (flat (m .hops))) (m .steps) (r .steps) d;
   returned = returned d;
   map-after = mapped d;
   short-after = shortened d;
 }
   where
     is : lastStage (m .sense) (m .graph) (flat (m .hops)) ≡ last m
-    is = steps-end (m .sense) (m .graph .states) (firstStage (m .graph) (flat (m .hops))) (m .turns) (leb-true _ _ (r .few)) (r .steps)
+    is = steps-end (m .sense) (m .graph .states) (firstStage (m .graph) (flat (m .hops))) (m .steps) (leb-true _ _ (r .few)) (r .steps)
 
     returned : shrinkOf (m .graph) (flat (m .hops)) (m .sense) (length (m .map)) (length (m .short)) ≡ m .returned
     returned = rw (r .answers) (ap figures is ∙ r .returns)
@@ -173,5 +173,5 @@ unfolding
     shrinkOf
 refusals = refl
 
-pub given : tableOf table ≡ table
-given = λ d. record { shrunk = rows-given rows d; refused = refusals d }
+pub table-holds : tableOf table ≡ table
+table-holds = λ d. record { shrunk = rows-given rows d; refused = refusals d }

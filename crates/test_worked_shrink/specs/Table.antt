@@ -26,7 +26,7 @@ abbrev pub shape : ℕ → ℕ → Shape
 shape n l = record { states = n; labels = l; initial = 0 }
 
 -- what is said of one reduction: the marks, one a hop, and the stage after it
-pub record Turn : Type 0 where
+pub record Step : Type 0 where
   pub marks : List ℕ
   pub stage : Stage
 
@@ -38,7 +38,7 @@ pub record Shrunk : Type 0 where
   pub sense : ℕ
   pub map : List ℕ
   pub short : List ℕ
-  pub turns : List Turn
+  pub steps : List Step
   pub returned : Shrinking
   pub map-after : List ℕ
   pub short-after : List ℕ
@@ -52,14 +52,14 @@ pub record Refused : Type 0 where
   pub numbers : ℕ
   pub answer : Answer
 
-pub record Table : Type 0 where
+pub record ShrinkTable : Type 0 where
   pub shrunk : List Shrunk
   pub refused : List Refused
 
 -- the definitions' own account: the reductions one after the other, as many as are said
-unfoldable pub turnsOf : ℕ → Stage → List Turn → List Turn
-turnsOf k g [] = []
-turnsOf k g (_ ∷ ts) = record { marks = marksOf (g .hops) (stageMarked k g); stage = nextStage k g } ∷ turnsOf k (nextStage k g) ts
+unfoldable pub stepsOf : ℕ → Stage → List Step → List Step
+stepsOf k g [] = []
+stepsOf k g (_ ∷ ts) = record { marks = marksOf (g .hops) (stageMarked k g); stage = nextStage k g } ∷ stepsOf k (nextStage k g) ts
 
 abbrev pub shrunkOf : Shrunk → Shrunk
 shrunkOf m = record {
@@ -68,7 +68,7 @@ shrunkOf m = record {
   sense = m .sense;
   map = m .map;
   short = m .short;
-  turns = turnsOf (m .sense) (firstStage (m .graph) (flat (m .hops))) (m .turns);
+  steps = stepsOf (m .sense) (firstStage (m .graph) (flat (m .hops))) (m .steps);
   returned = shrinkOf (m .graph) (flat (m .hops)) (m .sense) (length (m .map)) (length (m .short));
   map-after = shrinkMapOutput (m .graph) (flat (m .hops)) (m .sense) (m .map) (m .short);
   short-after = shrinkHopsOutput (m .graph) (flat (m .hops)) (m .sense) (m .map) (m .short);
@@ -84,7 +84,7 @@ refusedOf q = record {
   answer = shrinkOf (q .graph) (flat (q .hops)) (q .sense) (q .entries) (q .numbers) .answer;
 }
 
-abbrev pub tableOf : Table → Table
+abbrev pub tableOf : ShrinkTable → ShrinkTable
 tableOf t = record { shrunk = map shrunkOf (t .shrunk); refused = map refusedOf (t .refused) }
 
 -- W13.6 with three states: a silent chain in which state i has a hop labelled 1 to itself for odd i and to 0 for even i, and one labelled 2 the other way
@@ -108,19 +108,19 @@ abbrev nines : ℕ → List ℕ
 nines n = tabulate n (λ (_ : ℕ). 9)
 
 -- a reduction: the marks, and of the stage after it the states and labels, with initial state 0, the hops, the map and how many reductions led to it
-abbrev turn : List ℕ → ℕ → ℕ → List Hop → List ℕ → ℕ → Turn
-turn ms n l hs m r = record { marks = ms; stage = record { shape = shape n l; hops = flat hs; map = m; reductions = r } }
+abbrev step : List ℕ → ℕ → ℕ → List Hop → List ℕ → ℕ → Step
+step ms n l hs m r = record { marks = ms; stage = record { shape = shape n l; hops = flat hs; map = m; reductions = r } }
 
 -- what `shrink` leaves of a graph under a sense, in outputs that have one place more than they must: the reductions on the way; how many states, the hops and
 -- the map of the last graph; how many reductions; and how many numbers of the hops' output stay
-abbrev leaves : Shape → List Hop → ℕ → List Turn → ℕ → List Hop → List ℕ → ℕ → ℕ → Shrunk
-leaves sh hs k turns n s m r stay = record {
+abbrev leaves : Shape → List Hop → ℕ → List Step → ℕ → List Hop → List ℕ → ℕ → ℕ → Shrunk
+leaves sh hs k steps n s m r stay = record {
   graph = sh;
   hops = hs;
   sense = k;
   map = nines (suc (sh .states));
   short = nines (suc (length (flat hs)));
-  turns = turns;
+  steps = steps;
   returned = record { answer = accepted; shape = shape n (sh .labels); hops = length s; reductions = r };
   map-after = m ++ nines 1;
   short-after = flat s ++ nines stay;
@@ -136,12 +136,12 @@ shorter = hop 0 0 1 ∷ lined 0 1 0 9 ∷ lined 0 2 0 8 ∷ lined 1 1 0 7 ∷ ho
 abbrev shortest : List Hop
 shortest = lined 0 1 0 7 ∷ hop 0 2 0 ∷ []
 
-abbrev one-by-one : List Turn
+abbrev one-by-one : List Step
 one-by-one =
-    turn (1 ∷ 0 ∷ 0 ∷ 0 ∷ 0 ∷ 0 ∷ 0 ∷ 0 ∷ []) 2 3 shorter (0 ∷ 0 ∷ 1 ∷ []) 1 ∷ turn (1 ∷ 0 ∷ 0 ∷ 0 ∷ 0 ∷ []) 1 3 shortest (0 ∷ 0 ∷ 0 ∷ []) 2 ∷ []
+    step (1 ∷ 0 ∷ 0 ∷ 0 ∷ 0 ∷ 0 ∷ 0 ∷ 0 ∷ []) 2 3 shorter (0 ∷ 0 ∷ 1 ∷ []) 1 ∷ step (1 ∷ 0 ∷ 0 ∷ 0 ∷ 0 ∷ []) 1 3 shortest (0 ∷ 0 ∷ 0 ∷ []) 2 ∷ []
 
-abbrev at-once : List Turn
-at-once = turn (1 ∷ 0 ∷ 0 ∷ 1 ∷ 0 ∷ 0 ∷ 0 ∷ 0 ∷ []) 1 3 shortest (0 ∷ 0 ∷ 0 ∷ []) 1 ∷ []
+abbrev at-once : List Step
+at-once = step (1 ∷ 0 ∷ 0 ∷ 1 ∷ 0 ∷ 0 ∷ 0 ∷ 0 ∷ []) 1 3 shortest (0 ∷ 0 ∷ 0 ∷ []) 1 ∷ []
 
 -- W13.6: the chain "takes n - 1 reductions (R8: one)": by R1, R2 and R3 one fewer than the first states, so that no smaller bound holds
 abbrev pub chain-r1 : Shrunk
@@ -158,7 +158,7 @@ chain-r8 = leaves (shape 3 3) chain 8 at-once 1 shortest (0 ∷ 0 ∷ 0 ∷ []) 
 
 -- ours: P1, of which one reduction leaves nothing marked
 abbrev pub p1-r1 : Shrunk
-p1-r1 = leaves (shape 4 2) p1 1 (turn (1 ∷ 0 ∷ 0 ∷ 1 ∷ []) 2 2 (hop 0 1 1 ∷ []) (0 ∷ 0 ∷ 1 ∷ 1 ∷ []) 1 ∷ []) 2 (hop 0 1 1 ∷ []) (0 ∷ 0 ∷ 1 ∷ 1 ∷ []) 1 13
+p1-r1 = leaves (shape 4 2) p1 1 (step (1 ∷ 0 ∷ 0 ∷ 1 ∷ []) 2 2 (hop 0 1 1 ∷ []) (0 ∷ 0 ∷ 1 ∷ 1 ∷ []) 1 ∷ []) 2 (hop 0 1 1 ∷ []) (0 ∷ 0 ∷ 1 ∷ 1 ∷ []) 1 13
 
 -- W13.1: "If nothing is marked at first: 0, the graph itself, .. and the identity": P2
 abbrev pub p2-r1 : Shrunk
@@ -168,10 +168,10 @@ p2-r1 = leaves (shape 4 2) p2 1 [] 4 p2 (0 ∷ 1 ∷ 2 ∷ 3 ∷ []) 0 1
 abbrev pub twice-r2 : Shrunk
 twice-r2 =
     leaves (shape 3 2) twice 2
-    (turn (0 ∷ 0 ∷ 0 ∷ 1 ∷ []) 2 2 (lined 0 1 1 4 ∷ hop 1 0 0 ∷ lined 1 1 0 3 ∷ []) (0 ∷ 1 ∷ 0 ∷ []) 1 ∷ turn (0 ∷ 1 ∷ 0 ∷ []) 1 2 (lined 0 1 0 4 ∷ []) (0 ∷ 0 ∷ 0 ∷ []) 2 ∷ [])
+    (step (0 ∷ 0 ∷ 0 ∷ 1 ∷ []) 2 2 (lined 0 1 1 4 ∷ hop 1 0 0 ∷ lined 1 1 0 3 ∷ []) (0 ∷ 1 ∷ 0 ∷ []) 1 ∷ step (0 ∷ 1 ∷ 0 ∷ []) 1 2 (lined 0 1 0 4 ∷ []) (0 ∷ 0 ∷ 0 ∷ []) 2 ∷ [])
     1 (lined 0 1 0 4 ∷ []) (0 ∷ 0 ∷ 0 ∷ []) 2 13
 
-abbrev pub table : Table
+abbrev pub table : ShrinkTable
 table = record {
   shrunk = chain-r1 ∷ chain-r2 ∷ chain-r3 ∷ chain-r8 ∷ p1-r1 ∷ p2-r1 ∷ twice-r2 ∷ [];
   refused =
