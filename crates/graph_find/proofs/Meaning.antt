@@ -82,7 +82,7 @@ module _ {sh : Shape} {hs : List ℕ} (ok : Admitted sh hs) (s a t : ℕ) where
     go p (inr (inl l)) = omega (arith, ok .range .label-in (p .at) (p .within), p .label-is)
     go p (inr (inr l)) = omega (arith, ok .range .to-in (p .at) (p .within), p .to-is)
 
-  pub find-correct : Finds sh hs s a t finding
+  pub find-correct : Finds sh hs s a t (findOf sh hs s a t)
   find-correct = record {
     has-found = found-exactly-when-had;
     found-within = found-below-count;

@@ -14,7 +14,7 @@ use Rattle.base_fixpoint.specs.Pairs.{Pairs}
 use Rattle.reduce_insertion.proofs.Insertion.{sorted-ascending}
 use Rattle.reduce_insertion.proofs.Collected.{collected-sorted, collected-few, collected-within, collected-iff}
 use Rattle.reduce_representatives.specs.Representative.{isNormal, newOf, mapOf}
-use Rattle.reduce_short_graph.specs.Short.{image, shortUpTo, shortHops}
+use Rattle.reduce_short_graph.specs.Short.{ShortHop, image, shortUpTo, shortHops}
 
 module _ (sh : Shape) (hs : List ℕ) (u : Pairs) where
   pub short-ascending : Ascending (flat (shortHops sh hs u))
@@ -30,11 +30,7 @@ module _ (sh : Shape) (hs : List ℕ) (u : Pairs) where
   unfolding shortHops shortUpTo
   short-within = collected-within (λ (i : ℕ). isNormal hs u (from hs i)) (image sh hs u) (count hs)
 
-  -- a hop of the short graph is the image of a hop of a representative
-  abbrev pub ShortHop : ℕ → ℕ → ℕ → Type 0
-  ShortHop n a m = (r : ℕ) × (t : ℕ) × (isNormal hs u r ≡ true) × (has hs r a t ≡ true) × (newOf hs u r ≡ n) × (mapOf sh hs u t ≡ m)
-
-  pub short-has : (n a m : ℕ) → ShortHop n a m → has (flat (shortHops sh hs u)) n a m ≡ true
+  pub short-has : (n a m : ℕ) → ShortHop sh hs u n a m → has (flat (shortHops sh hs u)) n a m ≡ true
   unfolding shortHops shortUpTo
   short-has n a m (r, t, e, h, f, g) =
       let p = has-place hs r a t h in
@@ -45,7 +41,7 @@ module _ (sh : Shape) (hs : List ℕ) (u : Pairs) where
         record { same-from = ap (newOf hs u) (p .from-is) ∙ f; same-label = p .label-is; same-to = ap (mapOf sh hs u) (p .to-is) ∙ g },
       )
 
-  pub short-only : (n a m : ℕ) → has (flat (shortHops sh hs u)) n a m ≡ true → ShortHop n a m
+  pub short-only : (n a m : ℕ) → has (flat (shortHops sh hs u)) n a m ≡ true → ShortHop sh hs u n a m
   unfolding shortHops shortUpTo
   short-only n a m e =
       let (i, l, f, q) = collected-iff (λ (i : ℕ). isNormal hs u (from hs i)) (image sh hs u) (count hs) n a m .0 e in (
@@ -57,5 +53,5 @@ module _ (sh : Shape) (hs : List ℕ) (u : Pairs) where
         q .same-to,
       )
 
-  pub short-iff : (n a m : ℕ) → (has (flat (shortHops sh hs u)) n a m ≡ true) ↔ ShortHop n a m
+  pub short-iff : (n a m : ℕ) → (has (flat (shortHops sh hs u)) n a m ≡ true) ↔ ShortHop sh hs u n a m
   short-iff n a m = (short-only n a m, short-has n a m)

@@ -14,7 +14,7 @@ use Rattle.reduce_representatives.specs.Representative.{isNormal}
 use Rattle.reduce_short_graph.specs.Short.{image, shortUpTo, shortHops, comesFrom}
 
 module _ (sh : Shape) (hs : List ℕ) (u : Pairs) {i : ℕ} (l : i < count (flat (shortHops sh hs u))) where
-  abbrev pub shortHop : Hop
+  abbrev shortHop : Hop
   shortHop = hopAt (flat (shortHops sh hs u)) i
 
   pub short-line : lineAt (flat (shortHops sh hs u)) i ≡ smallestLine (comesFrom sh hs u shortHop) (lineAt hs) (count hs)
@@ -25,6 +25,6 @@ module _ (sh : Shape) (hs : List ℕ) (u : Pairs) {i : ℕ} (l : i < count (flat
       (collected-line (λ (j : ℕ). isNormal hs u (from hs j)) (image sh hs u) (count hs) (rw (count-flat (shortHops sh hs u)) at l))
 
   -- what that means: the line is one of those of the representatives' own hops whose image it is, and none of theirs that is not 0 is smaller
-  pub short-line-smallest : Smallest (comesFrom sh hs u shortHop) (lineAt hs) (count hs) (lineAt (flat (shortHops sh hs u)) i)
+  pub short-line-smallest : Smallest (comesFrom sh hs u (hopAt (flat (shortHops sh hs u)) i)) (lineAt hs) (count hs) (lineAt (flat (shortHops sh hs u)) i)
   short-line-smallest =
       subst (λ (x : ℕ). Smallest (comesFrom sh hs u shortHop) (lineAt hs) (count hs) x) (sym short-line) (smallest-is (comesFrom sh hs u shortHop) (lineAt hs) (count hs))

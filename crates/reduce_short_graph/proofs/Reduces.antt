@@ -18,8 +18,8 @@ use Rattle.reduce_representatives.specs.Representative.{Terminating, isNormal, 
 use Rattle.reduce_representatives.proofs.NormalForm.{rep-is-normal, rep-rests}
 use Rattle.reduce_representatives.proofs.Numbers.{new-over, new-injective}
 use Rattle.reduce_representatives.proofs.Mapped.{rep-own, map-in}
-use Rattle.reduce_short_graph.specs.Short.{shortHops, shortShape}
-use Rattle.reduce_short_graph.proofs.Images.{ShortHop, short-ascending, short-within, short-has, short-only}
+use Rattle.reduce_short_graph.specs.Short.{ShortHop, shortHops, shortShape}
+use Rattle.reduce_short_graph.proofs.Images.{short-ascending, short-within, short-has, short-only}
 
 module _ {sh : Shape} {hs : List ℕ} {u : Pairs} (sett : Terminating sh hs u) where
   -- the short graph is what is left, numbered anew

@@ -2,10 +2,11 @@
 -- hop r, a, t of a representative r, the hop new(r), a, map(t), once, in ascending order". Assumes
 -- nothing: these are definitions.
 use Prim.Native.Nat.{ℕ}
-use mathlib.Core.Bool.{Bool, _&&_}
+use mathlib.Core.Path.{_≡_}
+use mathlib.Core.Bool.{Bool, true, _&&_}
 use mathlib.Core.List.{List}
 use Rattle.base_bounded.specs.Quantifiers.{tally, tabulate}
-use Rattle.graph.specs.Hops.{count, from, linedHop, hopAt, same}
+use Rattle.graph.specs.Hops.{count, from, linedHop, hopAt, same, has}
 use Rattle.graph.specs.declared.Hop.{Hop}
 use Rattle.graph.specs.declared.Shape.{Shape}
 use Rattle.base_fixpoint.specs.Pairs.{Pairs}
@@ -26,6 +27,12 @@ shortUpTo sh hs u = collected (λ (i : ℕ). isNormal hs u (from hs i)) (image s
 
 unfoldable pub shortHops : Shape → List ℕ → Pairs → List Hop
 shortHops sh hs u = shortUpTo sh hs u (count hs)
+
+-- What a hop n, a, m of the short graph is to be: "for each hop r, a, t of a representative r, the
+-- hop new(r), a, map(t)"
+abbrev pub ShortHop : Shape → List ℕ → Pairs → ℕ → ℕ → ℕ → Type 0
+ShortHop sh hs u n a m =
+    (r : ℕ) × (t : ℕ) × (isNormal hs u r ≡ true) × (has hs r a t ≡ true) × (newOf hs u r ≡ n) × (mapOf sh hs u t ≡ m)
 
 -- the hop at place i is among "the hops it comes from", of a hop h of the short graph: it leaves a representative, and what it becomes is like h
 unfoldable pub comesFrom : Shape → List ℕ → Pairs → Hop → ℕ → Bool

@@ -44,9 +44,10 @@ module _ (sh : Shape) (hs : List ℕ) (k : ℕ) (map short : List ℕ) (z : redu
   front-short = front-hops (last-staged k red .reducible .admitted) short hops-are (sym (accepted-short sh hs k map short refl z refl))
 
   -- "Hence the returned map has none": the audit accepts, and finds no fault
-  pub shrink-audit-zero : auditOf sh (returned .shape) hs (between (shrinkHopsOutput sh hs k map short) 0 (returned .hops)) (take (sh .states) (shrinkMapOutput sh hs k map short)) ≡ faultless
+  pub shrink-audit-zero : auditOf sh (shrinkOf sh hs k (length map) (length short) .shape) hs
+      (between (shrinkHopsOutput sh hs k map short) 0 (shrinkOf sh hs k (length map) (length short) .hops)) (take (sh .states) (shrinkMapOutput sh hs k map short)) ≡ faultless
   shrink-audit-zero = rw (shape-is, front-short, front-map) (last-audit-zero k red)
 
   -- "and the number of reductions is below the first state count"
-  pub reductions-lt-states : returned .reductions < sh .states
+  pub reductions-lt-states : shrinkOf sh hs k (length map) (length short) .reductions < sh .states
   reductions-lt-states = rw (ap (λ (r : Shrinking). r .reductions) (sym (accepted-returns sh hs k map short refl z))) (last-reductions-lt-states k red)

@@ -20,7 +20,7 @@ use Rattle.reduce_representatives.specs.Representative.{isNormal, newOf, mapOf}
 use Rattle.reduce_short_graph.specs.Short.{becomes, image, shortHops, comesFrom}
 use Rattle.reduce_short_graph.proofs.Images.{short-ascending, short-has}
 use Rattle.reduce_short_graph.proofs.Lines.{short-line-smallest}
-use Rattle.shrink_iterate.specs.Iterate.{Stage, nextStage, stageMarked, marksSome, iterated, comesThrough, firstStage, lastStage, lastOf}
+use Rattle.shrink_iterate.specs.Iterate.{Stage, nextStage, stageMarked, marksSome, iterated, comesThrough, lastComesFrom, firstStage, lastStage, lastOf}
 
 -- hops that are alike become hops that are alike, and come to the same hops in the end
 module _ (sh : Shape) (hs : List ℕ) (u : Pairs) where
@@ -103,12 +103,9 @@ module _ (k : ℕ) where
 
 -- "the smallest nonzero line among the first graph's hops that a last hop comes from through all of them", and what that means
 module _ (k : ℕ) (sh : Shape) (hs : List ℕ) (up : Ascending hs) {p : ℕ} (l : p < count (lastStage k sh hs .hops)) where
-  abbrev pub firstFor : ℕ → Bool
-  firstFor i = comesThrough k (sh .states) (firstStage sh hs) (hopAt (lastStage k sh hs .hops) p) (hopAt hs i)
-
-  pub last-line-smallest : Smallest firstFor (lineAt hs) (count hs) (lineAt (lastStage k sh hs .hops) p)
+  pub last-line-smallest : Smallest (lastComesFrom k sh hs p) (lineAt hs) (count hs) (lineAt (lastStage k sh hs .hops) p)
   unfolding lastOf
   last-line-smallest = iterated-line k (sh .states) (firstStage sh hs) up p l
 
-  pub last-line : lineAt (lastStage k sh hs .hops) p ≡ smallestLine firstFor (lineAt hs) (count hs)
-  last-line = smallest-only last-line-smallest (smallest-is firstFor (lineAt hs) (count hs))
+  pub last-line : lineAt (lastStage k sh hs .hops) p ≡ smallestLine (lastComesFrom k sh hs p) (lineAt hs) (count hs)
+  last-line = smallest-only last-line-smallest (smallest-is (lastComesFrom k sh hs p) (lineAt hs) (count hs))

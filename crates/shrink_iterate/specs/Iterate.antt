@@ -5,7 +5,7 @@ use Prim.Native.Nat.{ℕ, zero, suc}
 use mathlib.Core.Bool.{Bool, cond, _&&_}
 use mathlib.Core.List.{List}
 use Rattle.base_bounded.specs.Quantifiers.{any}
-use Rattle.graph.specs.Hops.{count, same, flat}
+use Rattle.graph.specs.Hops.{hopAt, count, same, flat}
 use Rattle.graph.specs.declared.Hop.{Hop}
 use Rattle.graph.specs.declared.Shape.{Shape}
 use Rattle.base_fixpoint.specs.Pairs.{Pairs, In}
@@ -66,6 +66,10 @@ comesThrough k zero g h x = same x h
 comesThrough k (suc n) g h x =
     cond (marksSome k g) (isNormal (g .hops) (stageMarked k g) (x .from) && comesThrough k n (nextStage k g) h (becomes (g .shape) (g .hops) (stageMarked k g) x))
     (same x h)
+
+-- the hop at place i of the first graph is one that the hop at place p of the last comes from
+abbrev pub lastComesFrom : ℕ → Shape → List ℕ → ℕ → ℕ → Bool
+lastComesFrom k sh hs p i = comesThrough k (sh .states) (firstStage sh hs) (hopAt (lastStage k sh hs .hops) p) (hopAt hs i)
 
 -- what "until no hop is marked" means, with no bound: h is where the repetition from g ends
 pub data EndsIn (k : ℕ) : Stage → Stage → Type 0 where
