@@ -15,11 +15,12 @@ use Rattle.graph.specs.Answers.{accepted, refused, inTable, andThen}
 use Rattle.graph.specs.Map.{mapped}
 use Rattle.graph.specs.declared.Shape.{Shape}
 use Rattle.graph.specs.declared.Answer.{Answer}
-use Rattle.graph_check.specs.Check.{checkOf, Admitted}
+use Rattle.graph_check.specs.Check.{checkOf}
 use Rattle.base_bounded.proofs.Bools.{not-yes}
 use Rattle.base_bounded.proofs.Quantifiers.{least-is, least-before}
 use Rattle.graph_check.proofs.Checked.{check-admitted, admitted-check}
 use Rattle.audit_admitted.specs.Admitted.{AdmittedMap, firstHigh, mapFits, auditAnswer}
+use Rattle.audit_admitted.specs.Admitted.{Audited}
 
 -- row 8
 module _ (sh1 sh2 : Shape) (m : List ℕ) where
@@ -56,13 +57,6 @@ module _ (sh1 sh2 : Shape) (m : List ℕ) where
   unfolding firstHigh
   admits-fits a =
       fits-accepts (a .one-a-state) refl (rw (least-is high (length m) (length m) (le-refl (length m)) (λ s l. not-yes (lt-ltb _ _ (a .entries-in s (omega arith)))) (λ l. absurd (omega arith))) (le-refl (length m)))
-
--- both graphs and the map are admitted, and the label counts agree
-pub record Audited (sh1 sh2 : Shape) (h1 h2 m : List ℕ) : Type 0 where
-  pub first : Admitted sh1 h1
-  pub second : Admitted sh2 h2
-  pub labels : sh1 .labels ≡ sh2 .labels
-  pub map : AdmittedMap sh1 sh2 m
 
 module _ (sh1 sh2 : Shape) (h1 h2 m : List ℕ) where
   -- the ways out, in the order of the code

@@ -11,7 +11,7 @@ use Rattle.graph.specs.Answers.{accepted, refused, inTable, andThen}
 use Rattle.graph.specs.Map.{mapped}
 use Rattle.graph.specs.declared.Shape.{Shape}
 use Rattle.graph.specs.declared.Answer.{Answer}
-use Rattle.graph_check.specs.Check.{checkOf}
+use Rattle.graph_check.specs.Check.{checkOf, Admitted}
 
 -- "a map, when its length is state count 1 and each entry is below state count 2"
 pub record AdmittedMap (sh1 sh2 : Shape) (m : List ℕ) : Type 0 where
@@ -34,3 +34,10 @@ mapFits sh1 sh2 m =
 unfoldable pub auditAnswer : Shape → Shape → List ℕ → List ℕ → List ℕ → Answer
 auditAnswer sh1 sh2 h1 h2 m =
     andThen (checkOf sh1 h1) (andThen (inTable 2 (checkOf sh2 h2)) (andThen (sameLabels sh1 sh2) (mapFits sh1 sh2 m)))
+
+-- both graphs and the map are admitted, and the label counts agree
+pub record Audited (sh1 sh2 : Shape) (h1 h2 m : List ℕ) : Type 0 where
+  pub first : Admitted sh1 h1
+  pub second : Admitted sh2 h2
+  pub labels : sh1 .labels ≡ sh2 .labels
+  pub map : AdmittedMap sh1 sh2 m

@@ -10,11 +10,11 @@ use Rattle.graph.specs.declared.Answer.{Answer}
 use Rattle.graph_successors.proofs.Firsts.{admitted-indexable}
 use Rattle.audit_faults.specs.Faults.{faultsOf}
 use Rattle.audit_faults.specs.First.{noFault, firstFault}
-use Rattle.audit_faults.specs.Images.{Auditable}
+use Rattle.audit_faults.specs.Internal.Images.{Auditable}
 use Rattle.audit_faults.specs.declared.Fault.{Fault}
-use Rattle.audit_admitted.specs.Admitted.{auditAnswer}
+use Rattle.audit_admitted.specs.Admitted.{auditAnswer, Audited}
 use Rattle.audit_faults.proofs.Naming.{no-fault-named}
-use Rattle.audit_admitted.proofs.Admitted.{Audited, answer-audited, audited-answer}
+use Rattle.audit_admitted.proofs.Admitted.{answer-audited, audited-answer}
 use Rattle.audit_entry.specs.Audit.{auditOf, faultless}
 use Rattle.audit_entry.specs.declared.Audit.{Audit}
 

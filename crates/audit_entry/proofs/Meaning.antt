@@ -16,7 +16,7 @@ use Rattle.base_bounded.proofs.Bools.{decided, not-yes, and-yes, and-left, and-
 use Rattle.base_bounded.proofs.Quantifiers.{any-found, any-at, tally-zero, tally-each, total-zero, total-each}
 use Rattle.graph.proofs.Places.{has-at, has-place, place-has}
 use Rattle.lts.specs.Star.{stay}
-use Rattle.lts.specs.Reduction.{MatchedBack, Reduces}
+use Rattle.lts.specs.Internal.Reduction.{MatchedBack, Reduces}
 use Rattle.walk_silent.specs.Silent.{HopOf, Leads, leads}
 use Rattle.walk_silent.proofs.Leads.{leads-iff}
 use Rattle.graph.specs.Map.{mapped}

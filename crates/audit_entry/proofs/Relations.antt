@@ -5,7 +5,7 @@ use mathlib.Core.Path.{_≡_}
 use mathlib.Core.List.{List}
 use mathlib.Core.Logic.{_⊎_, inl, inr, _↔_}
 use Rattle.graph.specs.declared.Shape.{Shape}
-use Rattle.lts.specs.Branching.{MatchedBy, Branching}
+use Rattle.lts.specs.Internal.Branching.{MatchedBy, Branching}
 use Rattle.walk_silent.specs.Silent.{HopOf, Leads}
 use Rattle.audit_entry.specs.Bisimulation.{StatePairs, BranchingBisimulation}
 

@@ -11,7 +11,7 @@ use graph_successors::starts_of;
 ghost use mathlib.Core.Path.{_≡_};
 ghost use Rattle.audit_faults.specs.Faults.{faultsOf};
 ghost use Rattle.audit_faults.specs.First.{firstFault};
-ghost use Rattle.audit_faults.specs.Images.{Auditable};
+ghost use Rattle.audit_faults.specs.Internal.Images.{Auditable};
 
 // The fault count of a map that is admitted, of graphs that are, and the first fault.
 pub(crate) fn fault_count(

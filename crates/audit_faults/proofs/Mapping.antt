@@ -3,13 +3,13 @@ use Prim.Native.Nat.{ℕ, _<_}
 use mathlib.Core.Path.{_≡_, sym, ap, _∙_}
 use mathlib.Core.List.{List}
 use Rattle.graph.specs.Hops.{count, from, label, to, hopOf}
-use Rattle.graph.specs.Search.{placed}
+use Rattle.graph.specs.Internal.Search.{placed}
 use Rattle.graph.specs.declared.Hop.{Hop}
 use Rattle.graph.specs.declared.Found.{Found}
 use Rattle.graph.specs.declared.Found.the-variants.{At}
 use Rattle.graph.proofs.Lookup.{at-place}
 use Rattle.graph.specs.Map.{mapped}
-use Rattle.audit_faults.specs.Images.{placeOf, imageOf}
+use Rattle.audit_faults.specs.Internal.Images.{placeOf, imageOf}
 
 -- a place that was found is one
 pub found-within : (h2 : List ℕ) (h : Hop) {f : Found} {p : ℕ} → f ≡ placed h2 h → f ≡ At p → p < count h2

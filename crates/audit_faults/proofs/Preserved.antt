@@ -9,16 +9,16 @@ use lib.Dec.{eqb}
 use Rattle.graph.specs.Hops.{count, from, label, to, has}
 use Rattle.graph.specs.declared.Shape.{Shape}
 use Rattle.graph.specs.Map.{mapped}
-use Rattle.graph.specs.Search.{placed}
+use Rattle.graph.specs.Internal.Search.{placed}
 use Rattle.graph.specs.declared.Found.{Found}
 use Rattle.graph.specs.declared.Found.the-variants.{At, Gap}
 use Rattle.base_bounded.proofs.Bools.{or-right}
 use Rattle.graph.proofs.Lookup.{at-place, at-has, gap-has}
-use Rattle.graph_successors.specs.SuccessorIndex.{Indexable}
+use Rattle.graph_successors.specs.Internal.SuccessorIndex.{Indexable}
 use Rattle.audit_faults.specs.Faults.{initialFault, preserved}
 use Rattle.audit_faults.specs.First.{fault, noFault, firstInitial, lostPlace, firstLost}
 use Rattle.audit_faults.specs.declared.Fault.{Fault}
-use Rattle.audit_faults.specs.Images.{mappedHop, noPlace, placeOf, imageOf}
+use Rattle.audit_faults.specs.Internal.Images.{mappedHop, noPlace, placeOf, imageOf}
 
 module _ (sh1 sh2 : Shape) (m : List ℕ) {r : ℕ} (e : r ≡ mapped m (sh1 .initial)) where
   pub initial-joined : r ≡ sh2 .initial → {f : Fault} → f ≡ noFault → (0 ≡ initialFault sh1 sh2 m) × (f ≡ firstInitial sh1 sh2 m)

@@ -14,8 +14,8 @@ use graph_successors::find_row;
 ghost use mathlib.Core.Path.{_≡_};
 ghost use Prim.Native.Nat.{_<_};
 ghost use Rattle.graph.specs.Hops.{count};
-ghost use Rattle.graph_successors.specs.SuccessorIndex.{SuccessorIndex};
-ghost use Rattle.audit_faults.specs.Images.{Auditable, imageOf, Imaged};
+ghost use Rattle.graph_successors.specs.Internal.SuccessorIndex.{SuccessorIndex};
+ghost use Rattle.audit_faults.specs.Internal.Images.{Auditable, imageOf, Imaged};
 
 // The place of a hop that graph 2 has not: one past all that can be.
 pub const NO_PLACE: usize = MOST_HOPS;

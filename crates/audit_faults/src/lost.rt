@@ -20,7 +20,7 @@ ghost use Rattle.graph.specs.Hops.{count};
 ghost use Rattle.graph.specs.Answers.{most-states};
 ghost use Rattle.audit_faults.specs.Faults.{initialFault, preserved, lostFaults};
 ghost use Rattle.audit_faults.specs.First.{firstInitial, lostPlace, firstLost};
-ghost use Rattle.audit_faults.specs.Images.{Auditable, Imaged};
+ghost use Rattle.audit_faults.specs.Internal.Images.{Auditable, Imaged};
 
 // 1 if the map of initial state 1 is not initial state 2.
 pub fn initial_fault(shape1: Shape, shape2: Shape, map: &[u16]) -> Share

@@ -18,11 +18,11 @@ use Rattle.base_bounded.proofs.Bools.{clash, lt-or-le, same-test, and-no-left}
 use Rattle.base_bounded.proofs.Quantifiers.{any-found, any-at}
 use Rattle.graph.proofs.Lookup.{first-within, range-only}
 use Rattle.graph_successors.proofs.Firsts.{first-is, first-next}
-use Rattle.graph_successors.specs.SuccessorIndex.{Indexable}
-use Rattle.walk_reach.specs.Frontier.{visited}
+use Rattle.graph_successors.specs.Internal.SuccessorIndex.{Indexable}
+use Rattle.walk_reach.specs.Internal.Frontier.{visited}
 use Rattle.graph.specs.Map.{mapped}
-use Rattle.audit_faults.specs.Images.{Imaged}
-use Rattle.audit_matched.specs.Stamps.{seenInClass, stampsHop, StampedUpTo, StampedFrom}
+use Rattle.audit_faults.specs.Internal.Images.{Imaged}
+use Rattle.audit_matched.specs.Internal.Stamps.{seenInClass, stampsHop, StampedUpTo, StampedFrom}
 use Rattle.audit_matched.proofs.Stamping.{stamped-none, stamped-more}
 
 -- a test that fails from lo on

@@ -11,7 +11,7 @@ use lib.ListN.{length, getD, set}
 use lib.Seq.{getD-set-same, getD-set-other}
 use Rattle.base_bounded.specs.Quantifiers.{any}
 use Rattle.graph.specs.Hops.{count, from, label, to, is, has}
-use Rattle.graph.specs.Search.{placed}
+use Rattle.graph.specs.Internal.Search.{placed}
 use Rattle.graph.specs.declared.Hop.{Hop}
 use Rattle.graph.specs.declared.Found.{Found}
 use Rattle.graph.specs.declared.Found.the-variants.{At, Gap}
@@ -20,11 +20,11 @@ use Rattle.base_bounded.proofs.Quantifiers.{any-never}
 use Rattle.graph.proofs.Places.{is-alike}
 use Rattle.graph.proofs.Ordered.{alike-back, alike-then, ascending-place}
 use Rattle.graph.proofs.Lookup.{at-place, gap-has}
-use Rattle.graph_successors.specs.SuccessorIndex.{Indexable}
-use Rattle.walk_reach.specs.Frontier.{visited}
+use Rattle.graph_successors.specs.Internal.SuccessorIndex.{Indexable}
+use Rattle.walk_reach.specs.Internal.Frontier.{visited}
 use Rattle.graph.specs.Map.{mapped}
-use Rattle.audit_faults.specs.Images.{mappedHop, noPlace, placeOf, imageOf}
-use Rattle.audit_matched.specs.Stamps.{seenInClass, stampsHop, StampedUpTo}
+use Rattle.audit_faults.specs.Internal.Images.{mappedHop, noPlace, placeOf, imageOf}
+use Rattle.audit_matched.specs.Internal.Stamps.{seenInClass, stampsHop, StampedUpTo}
 
 -- a stamp for a hop is seen at its place and nowhere else
 module _ (h2 : List ℕ) (ready : Indexable h2) (h : Hop) (k : ℕ) (stamps : List ℕ) (capacity : count h2 ≤ length stamps) (j : ℕ) (l : j < count h2) where

@@ -1,1 +1,1 @@
-pub mod Stamps  -- what ticks what, and what the ticking has at hand
+pub mod Internal  -- what only private functions and proofs cite

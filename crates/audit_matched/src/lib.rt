@@ -19,7 +19,7 @@ ghost use lib.ListN.{length, getD, set};
 ghost use Rattle.graph.specs.Hops.{count};
 ghost use Rattle.graph.specs.Search.{firstOf};
 ghost use Rattle.graph.specs.Answers.{most-hops};
-ghost use Rattle.audit_matched.specs.Stamps.{StampInput, StampedUpTo, StampedFrom};
+ghost use Rattle.audit_matched.specs.Internal.Stamps.{StampInput, StampedUpTo, StampedFrom};
 
 // Ticks what the hop at place i of graph 1 is in graph 2, if it is there: the place of one that is not is past the stamps.
 fn stamp_hop(images: &[u16; MOST_HOPS], stamps: &mut [u16], k: u16, i: usize)

@@ -6,7 +6,7 @@ use mathlib.Core.List.{List}
 use Rattle.graph.specs.Hops.{flat}
 use Rattle.graph.specs.declared.Shape.{Shape}
 use Rattle.base_bounded.proofs.Quantifiers.{length-tabulate, getD-tabulate}
-use Rattle.reduce_representatives.specs.Tables.{Reducible}
+use Rattle.reduce_representatives.specs.Reducible.{Reducible}
 use Rattle.lts.specs.Closes.{Sense}
 use Rattle.base_fixpoint.specs.Pairs.{Pairs}
 use Rattle.mark_senses.specs.Senses.{markedIn}
@@ -18,7 +18,7 @@ use Rattle.audit_faults.specs.Faults.{faultsOf}
 use Rattle.audit_entry.specs.Bisimulation.{BranchingBisimulation, MapRelation, JoinsInitial}
 use Rattle.audit_entry.specs.Audit.{auditOf, faultless}
 use Rattle.audit_entry.proofs.Meaning.{audit-zero-iff, reduces-zero}
-use Rattle.audit_admitted.proofs.Admitted.{Audited}
+use Rattle.audit_admitted.specs.Admitted.{Audited}
 use Rattle.audit_entry.proofs.Answering.{faultless-iff}
 
 module _ {sh : Shape} {hs : List ℕ} (red : Reducible sh hs) (sense : Sense) where

@@ -17,7 +17,8 @@ use Rattle.graph.proofs.Fronts.{flat-front}
 use Rattle.reduce_short_graph.specs.Short.{mapList}
 use Rattle.mark_senses.specs.Senses.{senseOf}
 use Rattle.reduce_entry.proofs.Marked.{marked-within}
-use Rattle.reduce_entry.specs.Reduce.{noShape, reducedState, reducedMap, reducedHops, reducedShape, reduceAnswer, reduction, reduceOf, mapOutput, shortOutput}
+use Rattle.reduce_entry.specs.Reduce.{noShape, reducedMap, reducedHops, reducedShape, reduceAnswer, reduction, reduceOf, mapOutput, shortOutput}
+use Rattle.reduce_entry.specs.Internal.Reduce.{reducedState}
 use Rattle.reduce_entry.specs.declared.Reduction.{Reduction}
 use Rattle.reduce_entry.proofs.Answering.{reduce-reducible, reduce-map-capacity, reduce-short-capacity, accepted-returns, accepted-map, accepted-short}
 use Rattle.audit_entry.specs.declared.Audit.{Audit}

@@ -12,7 +12,7 @@ use Rattle.graph.specs.declared.Shape.{Shape}
 use Rattle.audit_faults.specs.Faults.{unmatched}
 use Rattle.audit_faults.specs.First.{fault, noFault, unmatchedPlace, unmatchedState, firstUnmatched}
 use Rattle.audit_faults.specs.declared.Fault.{Fault}
-use Rattle.audit_unmatched.specs.States.{unmatchedPlaceOf}
+use Rattle.audit_unmatched.specs.Internal.States.{unmatchedPlaceOf}
 
 -- what is kept after n states
 pub record Kept (sh1 : Shape) (h1 h2 m : List ℕ) (n place state : ℕ) : Type 0 where

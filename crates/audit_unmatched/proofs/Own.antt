@@ -15,7 +15,7 @@ use Rattle.base_bounded.proofs.Bools.{lt-or-le, and-no-left}
 use Rattle.base_bounded.proofs.Quantifiers.{least-before, least-is}
 use Rattle.graph.proofs.Lookup.{first-law}
 use Rattle.graph_successors.proofs.Firsts.{first-below}
-use Rattle.audit_unmatched.specs.States.{unstamped}
+use Rattle.audit_unmatched.specs.Internal.States.{unstamped}
 
 -- how many pass a test that fails from lo on
 module _ (p : ℕ → Bool) {lo : ℕ} where

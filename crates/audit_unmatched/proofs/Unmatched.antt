@@ -20,12 +20,12 @@ use Rattle.base_bounded.proofs.Least.{least-same}
 use Rattle.graph.proofs.Places.{is-yes, is-label, is-to}
 use Rattle.walk_silent.specs.Silent.{silentAt, leads}
 use Rattle.walk_silent.proofs.Leads.{visited-leads}
-use Rattle.walk_reach.specs.Reach.{chosenIn, Chooses}
-use Rattle.walk_reach.specs.Frontier.{visited, reachedBytes}
+use Rattle.walk_reach.specs.Internal.Reach.{chosenIn, Chooses}
+use Rattle.walk_reach.specs.Internal.Frontier.{visited, reachedBytes}
 use Rattle.graph.specs.Map.{mapped}
 use Rattle.audit_faults.specs.Faults.{matchAt, matchedFrom, matched, unmatched, unmatchedFaults}
-use Rattle.audit_matched.specs.Stamps.{seenInClass, stampsHop, StampedUpTo}
-use Rattle.audit_unmatched.specs.States.{unstamped, Fresh, unmatchedOf, unmatchedPlaceOf}
+use Rattle.audit_matched.specs.Internal.Stamps.{seenInClass, stampsHop, StampedUpTo}
+use Rattle.audit_unmatched.specs.Internal.States.{unstamped, Fresh, unmatchedOf, unmatchedPlaceOf}
 
 module _ (sh1 : Shape) (h1 h2 m : List ℕ) (ranged : InRange sh1 h1) (bytes : List ℕ) (silent : Chooses h1 (silentAt h1) bytes) (s : ℕ) (rest : List ℕ) (j : ℕ)
     (leaving : mapped m s ≡ from h2 j) where

@@ -35,11 +35,11 @@ ghost use lib.Dec.{ltb};
 ghost use Rattle.base_bounded.specs.Quantifiers.{least, tally};
 ghost use Rattle.graph.specs.Hops.{count};
 ghost use Rattle.graph.specs.Answers.{most-states};
-ghost use Rattle.graph_successors.specs.SuccessorIndex.{SuccessorIndex, Indexable};
+ghost use Rattle.graph_successors.specs.Internal.SuccessorIndex.{SuccessorIndex, Indexable};
 ghost use Rattle.audit_faults.specs.Faults.{unmatchedFaults};
 ghost use Rattle.audit_faults.specs.First.{fault, noFault, firstUnmatched};
-ghost use Rattle.audit_faults.specs.Images.{Auditable, Imaged};
-ghost use Rattle.audit_unmatched.specs.States.{CountInput, Workspace, unstamped, Fresh, unmatchedOf, unmatchedPlaceOf};
+ghost use Rattle.audit_faults.specs.Internal.Images.{Auditable, Imaged};
+ghost use Rattle.audit_unmatched.specs.Internal.States.{CountInput, Workspace, unstamped, Fresh, unmatchedOf, unmatchedPlaceOf};
 
 // What is made up for one state: how many hops of graph 2, and the place of the first, or the hop count.
 pub struct OfState {

@@ -17,7 +17,7 @@ use lib.Dec.{eqb}
 use Rattle.base_bounded.specs.Quantifiers.{all}
 use Rattle.base_bounded.proofs.Bools.{clash, eq-or-not, lt-or-le, same-test}
 use Rattle.base_bounded.proofs.Quantifiers.{all-yes, all-at}
-use Rattle.base_bitset.specs.Bits.{bitAt, bitIn}
+use Rattle.base_bitset.specs.Internal.Bits.{bitAt, bitIn}
 
 -- one digit
 or-digit : (x y : ℕ) → x < 2 → y < 2 → eqb (bitOr x y) 1 ≡ (eqb x 1 || eqb y 1)

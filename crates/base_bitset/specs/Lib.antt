@@ -1,1 +1,1 @@
-pub mod Bits  -- the bits of a word, and tables of words
+pub mod Internal  -- what only private functions and proofs cite

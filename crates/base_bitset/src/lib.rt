@@ -6,7 +6,7 @@ ghost use mathlib.Core.Bool.{not, _||_};
 ghost use Prim.Native.Nat.{_<_, _^_};
 ghost use lib.ListN.{length};
 ghost use Rattle.base_bounded.specs.Quantifiers.{all};
-ghost use Rattle.base_bitset.specs.Bits.{bitAt, word-bits, table-words};
+ghost use Rattle.base_bitset.specs.Internal.Bits.{bitAt, word-bits, table-words};
 
 // How many bits a word has.
 pub const WORD_BITS: usize = 64;

@@ -1,8 +1,7 @@
 -- Bounded quantifiers, by which everything over a hop list is said: all the numbers below a bound
 -- pass a test, any passes, the least that passes, how many pass; and the list and the sum of a
 -- function's values below a bound. Assumes nothing: these are definitions.
-use Prim.Native.Nat.{ℕ, zero, suc, _+_, _<_}
-use mathlib.Core.Path.{_≡_}
+use Prim.Native.Nat.{ℕ, zero, suc, _+_}
 use mathlib.Core.Bool.{Bool, true, false, cond, _&&_, _||_}
 use mathlib.Core.List.{List, [], _∷_, _++_}
 use lib.Dec.{ltb}
@@ -19,12 +18,6 @@ any (suc n) p = p n || any n p
 unfoldable pub least : ℕ → (ℕ → Bool) → ℕ
 least zero p = zero
 least (suc n) p = cond (ltb (least n p) n) (least n p) (cond (p n) n (suc n))
-
--- i is the first number below n that fails p
-pub record FirstFailing (n : ℕ) (p : ℕ → Bool) (i : ℕ) : Type 0 where
-  pub within : i < n
-  pub fails : p i ≡ false
-  pub passed : (j : ℕ) → j < i → p j ≡ true
 
 -- how many numbers below n pass p
 unfoldable pub tally : ℕ → (ℕ → Bool) → ℕ

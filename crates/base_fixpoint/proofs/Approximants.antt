@@ -7,8 +7,10 @@ use mathlib.Core.Bool.{Bool, true, _&&_}
 use native.Mathlib.Omega.{arith}
 use Rattle.base_bounded.proofs.Bools.{and-yes, and-left, and-right, same-test}
 use Rattle.base_bounded.proofs.Chains.{Still, same-from}
-use Rattle.base_fixpoint.specs.Pairs.{Pairs, In, Subset, AtMostPairs}
-use Rattle.base_fixpoint.specs.Approximants.{Operator, approximant, Monotone, PostFixed}
+use Rattle.base_fixpoint.specs.Pairs.{Pairs, In, Subset}
+use Rattle.base_fixpoint.specs.Internal.Pairs.{AtMostPairs}
+use Rattle.base_fixpoint.specs.Approximants.{Operator, approximant}
+use Rattle.base_fixpoint.specs.Internal.Approximants.{Monotone, PostFixed}
 
 module _ (F : Operator) (b : Pairs) where
   -- the two equations of the definition

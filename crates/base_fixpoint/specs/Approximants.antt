@@ -1,7 +1,7 @@
 -- Rounds of an operator on a set of pairs. Assumes nothing: these are definitions.
 use Prim.Native.Nat.{ℕ, zero, suc}
 use mathlib.Core.Bool.{_&&_}
-use Rattle.base_fixpoint.specs.Pairs.{Pairs, In, Subset}
+use Rattle.base_fixpoint.specs.Pairs.{Pairs}
 
 -- an operator F: F u s t says whether the pair s, t meets a condition that speaks of the set u
 abbrev pub Operator : Type 0
@@ -12,11 +12,3 @@ Operator = Pairs → Pairs
 unfoldable pub approximant : Operator → Pairs → ℕ → Pairs
 approximant F b zero s t = b s t
 approximant F b (suc k) s t = b s t && F (approximant F b k) s t
-
--- the condition asks no more where the set is larger
-abbrev pub Monotone : Operator → Type 0
-Monotone F = (u v : Pairs) → Subset (In u) (In v) → Subset (In (F u)) (In (F v))
-
--- a set of which each pair meets the condition with any set that holds them all: decidable or not, it keeps itself through a round
-abbrev pub PostFixed : Operator → (ℕ → ℕ → Type 0) → Type 0
-PostFixed F U = (v : Pairs) → Subset U (In v) → Subset U (In (F v))

@@ -1,5 +1,5 @@
 -- Sets of pairs of states. Assumes nothing: these are definitions.
-use Prim.Native.Nat.{ℕ, _<_}
+use Prim.Native.Nat.{ℕ}
 use mathlib.Core.Path.{_≡_}
 use mathlib.Core.Bool.{Bool, true}
 
@@ -14,9 +14,3 @@ In u s t = u s t ≡ true
 -- each pair of the one is a pair of the other
 abbrev pub Subset : (ℕ → ℕ → Type 0) → (ℕ → ℕ → Type 0) → Type 0
 Subset U W = (s t : ℕ) → U s t → W s t
-
--- a set that has at most n pairs: each stands at a place below n
-pub record AtMostPairs (b : Pairs) (n : ℕ) : Type 0 where
-  pub first : ℕ → ℕ
-  pub second : ℕ → ℕ
-  pub place : (s t : ℕ) → b s t ≡ true → (i : ℕ) × (i < n) × (first i ≡ s) × (second i ≡ t)

@@ -8,7 +8,8 @@ use lib.ListN.{length, take, drop, set, getD, length-append, take-append-drop}
 use lib.Seq.{length-take-le, take-suc, take-all, set-at, drop-cons, take-at, take-append-seam, drop-append-add, drop-drop, ext-getD, getD-append-add, getD-drop, drop-length}
 use Rattle.base_bounded.specs.Quantifiers.{tabulate}
 use Rattle.base_bounded.proofs.Quantifiers.{length-tabulate, getD-tabulate}
-use Rattle.base_outputs.specs.Output.{onFront, overAt}
+use Rattle.base_outputs.specs.Output.{onFront}
+use Rattle.base_outputs.specs.Internal.Output.{overAt}
 
 -- one element more
 pub over-more : (at : ℕ) (s old : List ℕ) (v : ℕ) → at + length s < length old → set (overAt at s old) (at + length s) v ≡ overAt at (s ++ (v ∷ [])) old

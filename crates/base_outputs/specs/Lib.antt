@@ -1,1 +1,2 @@
 pub mod Output  -- what a lent output holds afterwards
+pub mod Internal  -- what only private functions and proofs cite

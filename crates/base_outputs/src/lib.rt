@@ -8,7 +8,8 @@
 ghost use mathlib.Core.Path.{_≡_};
 ghost use Prim.Native.Nat.{_+_, _≤_};
 ghost use lib.ListN.{length};
-ghost use Rattle.base_outputs.specs.Output.{onFront, overAt};
+ghost use Rattle.base_outputs.specs.Output.{onFront};
+ghost use Rattle.base_outputs.specs.Internal.Output.{overAt};
 
 // Bytes at a place of the output.
 pub fn put_bytes(out: &mut [u8], at: usize, bytes: &[u8])

@@ -13,7 +13,8 @@ use Rattle.graph.specs.Hops.{count}
 use Rattle.graph.specs.declared.Shape.{Shape}
 use Rattle.base_bounded.proofs.Bools.{decided, eq-or-not}
 use Rattle.base_bounded.proofs.Quantifiers.{any-at}
-use Rattle.base_outputs.specs.Output.{onFront, overAt}
+use Rattle.base_outputs.specs.Output.{onFront}
+use Rattle.base_outputs.specs.Internal.Output.{overAt}
 use Rattle.file_numbers.specs.Numbers.{number}
 use Rattle.file_lines.specs.LineField.{linesLength, anyLine, lineList}
 use Rattle.file_lines.proofs.Laws.{lined, length-lines}

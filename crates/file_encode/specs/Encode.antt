@@ -1,14 +1,13 @@
 -- The file of documents 01 and 02, as it is written (encoded). A bit is set only over what absence
 -- does not mean. Assumes nothing: these are definitions.
-use Prim.Native.Nat.{ℕ, _+_, _≤_}
+use Prim.Native.Nat.{ℕ, _+_}
 use mathlib.Core.Bool.{cond}
 use mathlib.Core.List.{List, [], _∷_, _++_}
 use lib.ListN.{length}
 use lib.Dec.{eqb}
 use Rattle.graph.specs.Hops.{count}
-use Rattle.graph.specs.Answers.{most-hops}
 use Rattle.graph.specs.declared.Shape.{Shape}
-use Rattle.file_numbers.specs.Numbers.{most-number, number}
+use Rattle.file_numbers.specs.Numbers.{number}
 use Rattle.file_lines.specs.LineField.{anyLine, lineList}
 use Rattle.file_hops.specs.Field.{fieldBytes}
 
@@ -36,11 +35,3 @@ headBytes sh bits = bits ∷ (number (sh .states) ++ number (sh .labels))
 -- the lines stand "after the names"
 unfoldable pub encode : Shape → List ℕ → List ℕ → List ℕ
 encode sh hs ns = headBytes sh (bitsOf sh hs ns) ++ (initialBytes sh ++ (hopsBytes hs ++ (ns ++ linesBytes hs)))
-
--- what putting a file asks: its numbers are 16-bit, and the output has room
-pub record Writable (sh : Shape) (hs ns : List ℕ) (capacity : ℕ) : Type 0 where
-  pub states-fit : sh .states ≤ most-number
-  pub labels-fit : sh .labels ≤ most-number
-  pub initial-fits : sh .initial ≤ most-number
-  pub hops-fit : count hs ≤ most-hops
-  pub fits : length (encode sh hs ns) ≤ capacity

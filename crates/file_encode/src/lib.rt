@@ -22,11 +22,13 @@ ghost use mathlib.Core.Bool.{cond};
 ghost use lib.ListN.{length};
 ghost use Rattle.graph.specs.Answers.{most-hops};
 ghost use Rattle.graph.specs.Hops.{count};
-ghost use Rattle.base_outputs.specs.Output.{onFront, overAt};
-ghost use Rattle.file_numbers.specs.Numbers.{most-number};
+ghost use Rattle.base_outputs.specs.Output.{onFront};
+ghost use Rattle.base_outputs.specs.Internal.Output.{overAt};
+ghost use Rattle.file_numbers.specs.Internal.Numbers.{most-number};
 ghost use Rattle.file_fields.specs.Format.{initial-place};
 ghost use Rattle.file_lines.specs.LineField.{anyLine};
-ghost use Rattle.file_encode.specs.Encode.{bitsOf, initialBytes, hopsBytes, linesBytes, headBytes, encode, Writable};
+ghost use Rattle.file_encode.specs.Encode.{bitsOf, initialBytes, hopsBytes, linesBytes, headBytes, encode};
+ghost use Rattle.file_encode.specs.Internal.Encode.{Writable};
 
 // How many bytes the initial state takes.
 fn initial_length(shape: Shape) -> usize

@@ -7,17 +7,17 @@ use native.Mathlib.Nat.{le-refl}
 use native.Mathlib.Omega.{arith}
 use lib.ListN.{length, take, drop, length-drop}
 use lib.Seq.{take-all, getD-drop}
-use Rattle.file_numbers.specs.Numbers.{most-number, numberAt}
-use Rattle.file_numbers.proofs.TwoBytes.{Bytes}
+use Rattle.file_numbers.specs.Internal.Numbers.{most-number}
+use Rattle.file_numbers.specs.Numbers.{numberAt, Bytes}
 use Rattle.file_names.specs.Block.{nameAt}
 use Rattle.file_names.proofs.Blocks.{name-most}
-use Rattle.file_lines.specs.LineField.{linesLength, LinesLie}
+use Rattle.file_lines.specs.LineField.{linesLength}
+use Rattle.file_lines.specs.Internal.LineField.{LinesLie}
 use Rattle.file_lines.specs.declared.Lines.{Lines}
 use Rattle.file_hops.specs.Field.{fieldLength}
 use Rattle.file_hops.proofs.Field.{length-in-field, count-in-field}
 use Rattle.graph.specs.Hops.{numberPlace, count}
-use Rattle.file_fields.specs.Format.{hopListIn, initial-place, hasInitial, hasHops, hasNames, hasLines, labelsIn, initialIn, hopsPlace, hopsIn, namesPlace, namesIn, restOf, linesPlace}
-use Rattle.file_fields.specs.Format.{lineBytesIn, linesIn, neededLength, blockPlace, blockLength}
+use Rattle.file_fields.specs.Format.{hopListIn, initial-place, hasInitial, hasHops, hasNames, hasLines, labelsIn, initialIn, hopsPlace, hopsIn, namesPlace, namesIn, restOf, linesPlace, lineBytesIn, linesIn, neededLength, blockPlace, blockLength}
 
 module _ (b : List ℕ) where
   pub hops-place-most : hopsPlace b ≤ initial-place + 2

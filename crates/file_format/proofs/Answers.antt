@@ -8,10 +8,12 @@ use borrow.Author.Tests.{lt-ltb, le-ltb, le-leb, lt-leb}
 use mathlib.Core.Logic.{inr}
 use lib.ListN.{length, length-drop}
 use Rattle.graph.specs.Answers.{accepted, refused}
-use Rattle.file_names.specs.Block.{most-place, least-name-bytes, nameAt, firstBad, Searchable}
+use Rattle.file_names.specs.Internal.Block.{most-place, least-name-bytes, Searchable}
+use Rattle.file_names.specs.Block.{nameAt, firstBad}
 use Rattle.file_names.proofs.Blocks.{name-less, name-least}
 use Rattle.file_fields.specs.Format.{bitMap, namesPlace, namesIn, restOf, linesPlace, lineBytesIn, neededLength, redundantBit}
-use Rattle.file_format.specs.Rows.{most-bytes, namesAnswer, RestAt, formatAnswer}
+use Rattle.file_format.specs.Rows.{most-bytes, namesAnswer, formatAnswer}
+use Rattle.file_format.specs.Internal.Rows.{RestAt}
 use Rattle.file_fields.proofs.Laws.{names-before-end}
 
 -- "66,536"

@@ -1,7 +1,6 @@
 -- What a file is answered before its graph is checked: rows 11 to 14. Assumes nothing: these are
 -- definitions.
-use Prim.Native.Nat.{ℕ, _+_, _-_, _*_, _<_, _≤_}
-use mathlib.Core.Path.{_≡_}
+use Prim.Native.Nat.{ℕ, _+_, _-_, _*_}
 use mathlib.Core.Bool.{cond}
 use mathlib.Core.List.{List}
 use lib.ListN.{length}
@@ -35,11 +34,3 @@ formatAnswer b =
     (cond (ltb (neededLength b) (length b)) (refused 13 (neededLength b))
     (cond (redundantBit b) (refused 12 0)
     (namesAnswer b)))))
-
--- what is known where the first two have passed and the hops end within the file: `rest` is what follows them
-pub record RestAt (b rest : List ℕ) (place : ℕ) : Type 0 where
-  pub short : length b ≤ most-bytes
-  pub low : bitMap b < 16
-  pub begins : place ≡ namesPlace b
-  pub follows : rest ≡ restOf b
-  pub within : place ≤ length b

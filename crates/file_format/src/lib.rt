@@ -21,7 +21,8 @@ use graph::MOST_LABELS;
 use graph::answers::accept;
 use graph::answers::refuse;
 ghost use mathlib.Core.Path.{_≡_};
-ghost use Rattle.file_format.specs.Rows.{RestAt, formatAnswer};
+ghost use Rattle.file_format.specs.Internal.Rows.{RestAt};
+ghost use Rattle.file_format.specs.Rows.{formatAnswer};
 
 // The longest legal file, 66,536 bytes: the head with an initial state, 4,096 hops, 1,023 names of 32 bytes, and 4,096 lines.
 const MOST_BYTES: usize = INITIAL_PLACE

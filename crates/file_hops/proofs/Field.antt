@@ -9,14 +9,14 @@ use lib.ListN.{length, drop}
 use lib.Seq.{drop-drop}
 use Rattle.graph.specs.Hops.{numbers-a-hop, numberPlace, count, lineAt, linedHop, hopAt}
 use Rattle.graph.specs.declared.Hop.{Hop}
-use Rattle.base_outputs.specs.Output.{overAt}
+use Rattle.base_outputs.specs.Internal.Output.{overAt}
 use Rattle.base_outputs.proofs.Front.{over-then}
-use Rattle.file_numbers.specs.Numbers.{numberAt, number}
+use Rattle.file_numbers.specs.Numbers.{numberAt, number, Bytes}
 use Rattle.file_numbers.specs.Parts.{parts}
 use Rattle.file_lines.specs.LineField.{lineIn, anyLine}
 use Rattle.file_lines.specs.declared.Lines.{Lines}
 use Rattle.file_hops.specs.Field.{bytes-a-hop, fieldLength, hopPlace, hopFrom, hopIn, hopsInField, hopBytes, eachHop, fieldBytes}
-use Rattle.file_numbers.proofs.TwoBytes.{Bytes, number-whole, number-drop, number-again}
+use Rattle.file_numbers.proofs.TwoBytes.{number-whole, number-drop, number-again}
 use Rattle.file_numbers.proofs.Parts.{parts-again, length-parts, part-at, parts-none, parts-more, parts-done}
 use Rattle.file_lines.proofs.Laws.{none-lined, LinesStand}
 use Rattle.file_hops.proofs.Lists.{length-flat-by, count-flat-by, flat-by-at, flat-by}

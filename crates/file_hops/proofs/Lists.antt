@@ -9,7 +9,8 @@ use native.Mathlib.Numerals.{add-one}
 use native.Mathlib.Omega.{arith}
 use lib.ListN.{length, getD, drop, length-append, List·getD-append}
 use lib.Seq.{drop-length, getD-at, set-at, ext-getD}
-use Rattle.graph.specs.Hops.{numbers-a-hop, numberPlace, count, hopAt, noHop, flat, front, over, put}
+use Rattle.graph.specs.Hops.{numbers-a-hop, numberPlace, count, hopAt, flat}
+use Rattle.graph.specs.Internal.Hops.{noHop, front, over, put}
 use Rattle.graph.specs.declared.Hop.{Hop}
 use Rattle.graph.proofs.Fronts.{length-front, getD-front, over-front, front-over, over-over, put-over, length-over}
 use Rattle.graph.proofs.Places.{length-flat, count-flat, flat-at}

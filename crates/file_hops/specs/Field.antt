@@ -1,9 +1,8 @@
 -- The hop field of document 01: "the hop count with six bytes a hop". The field begins at a place
 -- `at` of the bytes, with its count; its hops are counted from 0. A hop's line does not stand here
 -- but in the list of lines. Assumes nothing: these are definitions.
-use Prim.Native.Nat.{ℕ, zero, suc, _+_, _*_, _<_, _≤_}
+use Prim.Native.Nat.{ℕ, zero, suc, _+_, _*_}
 use mathlib.Core.List.{List, [], _∷_, _++_}
-use lib.ListN.{length}
 use Rattle.graph.specs.Hops.{count, linedHop, hopAt, flat}
 use Rattle.graph.specs.declared.Hop.{Hop}
 use Rattle.file_numbers.specs.Numbers.{numberAt, number}
@@ -22,10 +21,6 @@ fieldLength n = 2 + bytes-a-hop * n
 -- where the hop at a place begins
 abbrev pub hopPlace : ℕ → ℕ → ℕ
 hopPlace at i = at + 2 + bytes-a-hop * i
-
--- the first n hops lie within the bytes
-abbrev pub HopsLie : List ℕ → ℕ → ℕ → Type 0
-HopsLie b at n = (i : ℕ) → i < n → hopPlace at (i + 1) ≤ length b
 
 -- the hop whose bytes begin at a place of the file, and whose line is l
 unfoldable pub hopFrom : List ℕ → ℕ → ℕ → Hop

@@ -13,10 +13,12 @@ ghost use mathlib.Core.Path.{_≡_};
 ghost use Prim.Native.Nat.{_+_, _*_, _≤_};
 ghost use lib.ListN.{length};
 ghost use Rattle.graph.specs.Hops.{count};
-ghost use Rattle.base_outputs.specs.Output.{onFront, overAt};
-ghost use Rattle.file_numbers.specs.Numbers.{most-number};
-ghost use Rattle.file_lines.specs.LineField.{LinesLie};
-ghost use Rattle.file_hops.specs.Field.{bytes-a-hop, hopPlace, fieldLength, HopsLie, hopIn, hopsInField, hopBytes, eachHop, fieldBytes};
+ghost use Rattle.base_outputs.specs.Output.{onFront};
+ghost use Rattle.base_outputs.specs.Internal.Output.{overAt};
+ghost use Rattle.file_numbers.specs.Internal.Numbers.{most-number};
+ghost use Rattle.file_lines.specs.Internal.LineField.{LinesLie};
+ghost use Rattle.file_hops.specs.Field.{bytes-a-hop, hopPlace, fieldLength, hopIn, hopsInField, hopBytes, eachHop, fieldBytes};
+ghost use Rattle.file_hops.specs.Internal.Field.{HopsLie};
 
 // The hop count is one number; a hop is three of them, from, label and to. Its line stands elsewhere.
 const COUNT_BYTES: usize = 2;

@@ -13,10 +13,10 @@ use Rattle.base_bounded.specs.Quantifiers.{all, any}
 use Rattle.base_bounded.proofs.Bools.{clash, not-yes}
 use Rattle.base_bounded.proofs.Quantifiers.{any-never, any-no}
 use Rattle.graph.specs.Hops.{count, lineAt}
-use Rattle.base_outputs.specs.Output.{overAt}
-use Rattle.file_numbers.specs.Numbers.{numberAt, number}
+use Rattle.base_outputs.specs.Internal.Output.{overAt}
+use Rattle.file_numbers.specs.Numbers.{numberAt, number, Bytes}
 use Rattle.file_numbers.specs.Parts.{parts}
-use Rattle.file_numbers.proofs.TwoBytes.{Bytes, number-whole, number-drop, number-again}
+use Rattle.file_numbers.proofs.TwoBytes.{number-whole, number-drop, number-again}
 use Rattle.file_numbers.proofs.Parts.{parts-again, length-parts, part-at, parts-none, parts-more, parts-done}
 use Rattle.file_lines.specs.LineField.{bytes-a-line, linesLength, linePlace, lineIn, zeroLines, anyLine, lineList}
 use Rattle.file_lines.specs.declared.Lines.{Lines}

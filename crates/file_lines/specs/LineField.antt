@@ -1,11 +1,9 @@
 -- The list of lines of document 02: "In the file, bit 3 stands for a list of lines, one number a
 -- hop, after the names." The list begins at a place `at` of the bytes, in the order of the hops,
 -- and has no count of its own. Assumes nothing: these are definitions.
-use Prim.Native.Nat.{ℕ, _+_, _*_, _≤_}
-use mathlib.Core.Path.{_≡_}
-use mathlib.Core.Bool.{Bool, true, not, cond}
+use Prim.Native.Nat.{ℕ, _+_, _*_}
+use mathlib.Core.Bool.{Bool, not, cond}
 use mathlib.Core.List.{List}
-use lib.ListN.{length}
 use lib.Dec.{eqb}
 use Rattle.base_bounded.specs.Quantifiers.{all, any}
 use Rattle.graph.specs.Hops.{count, lineAt}
@@ -28,10 +26,6 @@ linePlace at i = at + bytes-a-line * i
 -- the line of the hop at a place: "0 for none", and none where there is no list
 unfoldable pub lineIn : List ℕ → Lines → ℕ → ℕ
 lineIn b ls i = cond (ls .stand) (numberAt b (linePlace (ls .at) i)) 0
-
--- the first n lines of the list, if there is one, lie within the bytes
-abbrev pub LinesLie : List ℕ → Lines → ℕ → Type 0
-LinesLie b ls n = ls .stand ≡ true → linePlace (ls .at) n ≤ length b
 
 -- the n lines from a place on are "lines all 0"; no lines are all 0
 unfoldable pub zeroLines : List ℕ → ℕ → ℕ → Bool

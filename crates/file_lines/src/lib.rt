@@ -10,8 +10,9 @@ ghost use mathlib.Core.Path.{_≡_};
 ghost use Prim.Native.Nat.{_+_, _<_, _≤_};
 ghost use lib.ListN.{length};
 ghost use Rattle.graph.specs.Hops.{count};
-ghost use Rattle.base_outputs.specs.Output.{overAt};
-ghost use Rattle.file_lines.specs.LineField.{linesLength, linePlace, lineIn, LinesLie, zeroLines, anyLine, lineList};
+ghost use Rattle.base_outputs.specs.Internal.Output.{overAt};
+ghost use Rattle.file_lines.specs.LineField.{linesLength, linePlace, lineIn, zeroLines, anyLine, lineList};
+ghost use Rattle.file_lines.specs.Internal.LineField.{LinesLie};
 
 // A line is one number.
 const BYTES_A_LINE: usize = 2;

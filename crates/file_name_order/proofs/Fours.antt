@@ -6,8 +6,8 @@ use mathlib.Core.Logic.{⊎-elim}
 use native.Mathlib.Omega.{arith}
 use lib.ListN.{getD}
 use Rattle.base_bounded.proofs.Bools.{eq-or-not, lt-or-le}
-use Rattle.file_numbers.proofs.TwoBytes.{Bytes}
-use Rattle.file_name_order.specs.Pair.{Agree, fourAt}
+use Rattle.file_numbers.specs.Numbers.{Bytes}
+use Rattle.file_name_order.specs.Internal.Pair.{Agree, fourAt}
 
 -- the lowest byte of a number, and the rest
 digit : (x y u v : ℕ) → x < 256 → u < 256 → x + 256 * y ≡ u + 256 * v → (x ≡ u) × (y ≡ v)

@@ -8,7 +8,7 @@ use native.Mathlib.Numerals.{add-one}
 use native.Mathlib.Omega.{arith}
 use lib.ListN.{length, drop, length-append}
 use lib.Seq.{drop-at}
-use Rattle.base_outputs.specs.Output.{overAt}
+use Rattle.base_outputs.specs.Internal.Output.{overAt}
 use Rattle.base_outputs.proofs.Front.{over-none, over-then}
 use Rattle.file_numbers.specs.Parts.{parts}
 

@@ -1,18 +1,14 @@
 -- Laws of 16-bit numbers among bytes. Assumes nothing.
-use Prim.Native.Nat.{ℕ, suc, _+_, _*_, _/_, _%_, _<_, _≤_}
+use Prim.Native.Nat.{ℕ, suc, _+_, _*_, _/_, _%_, _≤_}
 use mathlib.Core.Path.{_≡_, ap, _∙_}
 use mathlib.Core.List.{List, [], _∷_, _++_}
 use native.Mathlib.Numerals.{add-one}
 use native.Mathlib.Omega.{arith}
 use lib.ListN.{length, getD, drop, set}
 use lib.Seq.{drop-cons, getD-drop, set-split}
-use Rattle.base_outputs.specs.Output.{overAt}
+use Rattle.base_outputs.specs.Internal.Output.{overAt}
 use Rattle.base_outputs.proofs.Front.{over-more}
-use Rattle.file_numbers.specs.Numbers.{numberAt, number}
-
--- bytes are below 256
-abbrev pub Bytes : List ℕ → Type 0
-Bytes b = (i : ℕ) → getD b i 0 < 256
+use Rattle.file_numbers.specs.Numbers.{numberAt, number, Bytes}
 
 -- a number is read from the two bytes that it was written as
 pub number-whole : (n : ℕ) → n % 256 + 256 * (n / 256) ≡ n

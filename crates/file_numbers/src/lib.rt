@@ -6,8 +6,9 @@
 ghost use mathlib.Core.Path.{_≡_};
 ghost use Prim.Native.Nat.{_+_, _*_, _≤_};
 ghost use lib.ListN.{length, getD};
-ghost use Rattle.base_outputs.specs.Output.{overAt};
-ghost use Rattle.file_numbers.specs.Numbers.{most-number, numberAt, number};
+ghost use Rattle.base_outputs.specs.Internal.Output.{overAt};
+ghost use Rattle.file_numbers.specs.Internal.Numbers.{most-number};
+ghost use Rattle.file_numbers.specs.Numbers.{numberAt, number};
 
 // The byte at a place, or 0 past the end.
 pub fn byte_at(bytes: &[u8], i: usize) -> u8

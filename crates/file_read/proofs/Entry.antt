@@ -18,7 +18,8 @@ use Rattle.base_bounded.proofs.Bools.{and-no-left, and-no-right, not-no, decide
 use Rattle.graph_check.proofs.Checked.{check-counts, check-admitted}
 use Rattle.graph.proofs.Accepts.{both-accept, second-accepts, capacity-accepts}
 use Rattle.file_lines.specs.declared.Lines.{Lines}
-use Rattle.file_hops.specs.Field.{HopsLie, hopsInField}
+use Rattle.file_hops.specs.Internal.Field.{HopsLie}
+use Rattle.file_hops.specs.Field.{hopsInField}
 use Rattle.file_fields.specs.Format.{hasHops, hopsPlace, hopsIn, namesPlace, linesIn, shapeIn, hopListIn}
 use Rattle.file_fields.proofs.Laws.{hops-on, hops-off, length-hop-list, count-hop-list}
 use Rattle.file_format.specs.Rows.{formatAnswer}

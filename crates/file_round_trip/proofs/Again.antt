@@ -14,19 +14,17 @@ use Rattle.graph.specs.Hops.{count}
 use Rattle.base_bounded.proofs.Bools.{decided}
 use Rattle.file_names.specs.Block.{nameAt}
 use Rattle.file_names.proofs.Blocks.{name-first, name-later}
-use Rattle.file_numbers.specs.Numbers.{number}
-use Rattle.file_numbers.proofs.TwoBytes.{Bytes, number-again}
+use Rattle.file_numbers.specs.Numbers.{number, Bytes}
+use Rattle.file_numbers.proofs.TwoBytes.{number-again}
 use Rattle.file_lines.specs.LineField.{linePlace, zeroLines, anyLine, lineList}
 use Rattle.file_lines.proofs.Laws.{LinesStand, lines-again, zero-lines}
 use Rattle.file_hops.specs.Field.{fieldBytes}
 use Rattle.file_hops.proofs.Field.{field-again, lines-in-field, no-lines-in-field}
-use Rattle.file_fields.specs.Format.{states-place, labels-place, initial-place, bitMap, hasInitial, hasHops, hasNames, hasLines, statesIn, labelsIn, initialIn, hopsPlace, hopsIn}
-use Rattle.file_fields.specs.Format.{namesPlace, namesIn, restOf, linesPlace, linesIn, neededLength, shapeIn, hopListIn, blockIn}
+use Rattle.file_fields.specs.Format.{states-place, labels-place, initial-place, bitMap, hasInitial, hasHops, hasNames, hasLines, statesIn, labelsIn, initialIn, hopsPlace, hopsIn, namesPlace, namesIn, restOf, linesPlace, linesIn, neededLength, shapeIn, hopListIn, blockIn}
 use Rattle.file_read.specs.Read.{readAnswer}
 use Rattle.file_encode.specs.Encode.{bitsOf, initialBytes, hopsBytes, linesBytes, headBytes, encode}
 use Rattle.file_encode.proofs.Encoded.{initial-none, initial-some, hops-none, hops-some, lines-none, lines-some}
-use Rattle.file_fields.proofs.Laws.{names-place-least, hops-before-names, names-before-lines, initial-on, initial-off, hops-on, hops-off, names-on, names-off}
-use Rattle.file_fields.proofs.Laws.{lines-on, lines-off, count-hop-list}
+use Rattle.file_fields.proofs.Laws.{names-place-least, hops-before-names, names-before-lines, initial-on, initial-off, hops-on, hops-off, names-on, names-off, lines-on, lines-off, count-hop-list}
 use Rattle.file_format.proofs.Sound.{Sound, names-within, initial-there, hops-there, names-there, lines-there}
 use Rattle.file_read.proofs.Entry.{accepted-sound}
 

@@ -29,16 +29,17 @@ use Rattle.file_hops.proofs.Field.{length-in-field, count-back, field-back}
 use Rattle.file_fields.specs.Format.{initial-place, bitMap, hasInitial, hasHops, hasNames, hasLines, statesIn, labelsIn, initialIn, hopsPlace, hopsIn, namesPlace, namesIn, restOf}
 use Rattle.file_fields.specs.Format.{linesPlace, lineBytesIn, linesIn, neededLength, shapeIn, hopListIn, blockPlace, blockLength, blockIn, redundantBit}
 use Rattle.file_format.specs.Rows.{most-names, most-bytes, formatAnswer}
-use Rattle.file_read.specs.Read.{readAnswer, contentsOf}
+use Rattle.file_read.specs.Read.{readAnswer}
 use Rattle.file_encode.specs.Encode.{bitsOf, initialBytes, hopsBytes, linesBytes, headBytes, encode}
 use Rattle.file_write.specs.Write.{blockAnswer, namesGiven, givenAnswer}
-use Rattle.file_round_trip.specs.RoundTrip.{blockStart, sameGraph}
+use Rattle.file_round_trip.specs.RoundTrip.{blockStart}
 use Rattle.file_encode.proofs.Encoded.{initial-none, initial-some, initial-most, hops-none, hops-some, length-hops-some, hop-bytes-most, lines-none, lines-some, length-lines-some}
 use Rattle.file_encode.proofs.Encoded.{line-bytes-most, length-head, length-encode}
 use Rattle.file_fields.proofs.Laws.{initial-on, initial-off, hops-on, hops-off, names-on, names-off, lines-on, lines-off}
 use Rattle.file_format.proofs.Answers.{names-good}
 use Rattle.file_read.proofs.Entry.{none-speaks}
 use Rattle.file_format.proofs.Sound.{past}
+use Rattle.file_round_trip.specs.RoundTrip.{ReadBack}
 
 -- a bit is set over each field that is there, and no higher bit
 abbrev mapOf : Bool → Bool → Bool → Bool → ℕ
@@ -277,13 +278,6 @@ pub longest-at-limits : (sh : Shape) (hs ns : List ℕ) → (sh .initial ≡ 0 �
     length (encode sh hs ns) ≡ most-bytes
 longest-at-limits sh hs ns i h e n =
     omega (arith, length-encode sh hs ns, ap length (initial-some sh i), length-hops-some hs (λ z. omega arith), length-lines-some hs e)
-
--- what is read of a file that was written
-pub record ReadBack (sh : Shape) (hs ns b : List ℕ) (capacity : ℕ) : Type 0 where
-  pub accepts : readAnswer b capacity ≡ accepted
-  pub same-graph : contentsOf b ≡ sameGraph sh hs ns
-  pub same-hops : hopListIn b ≡ hs
-  pub same-block : blockIn b ≡ ns
 
 pub encode-decode : (sh : Shape) (hs ns : List ℕ) (capacity : ℕ) → givenAnswer sh hs ns .number ≡ 0 → length hs ≤ capacity → ReadBack sh hs ns (encode sh hs ns) capacity
 encode-decode sh hs ns capacity e m =

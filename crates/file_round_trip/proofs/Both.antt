@@ -26,16 +26,16 @@ use Rattle.file_fields.specs.Format.{hasNames, labelsIn, hopsIn, namesIn, restO
 use Rattle.file_read.specs.Read.{readAnswer, refusedContents, contentsOf, readOf, readHops}
 use Rattle.file_encode.specs.Encode.{encode}
 use Rattle.file_write.specs.Write.{blockAnswer, namesGiven, givenAnswer, writeAnswer, refusedWritten, writeOf, writeBytes}
-use Rattle.file_round_trip.specs.RoundTrip.{copyAnswer, copyOf, copyBytes, backAnswer, backOf, backBytes, backHops}
+use Rattle.file_round_trip.specs.RoundTrip.{copyAnswer, copyOf, copyBytes, backAnswer, backOf, backBytes, backHops, ReadBack}
 use Rattle.file_read.specs.declared.Contents.{Contents}
 use Rattle.file_write.specs.declared.Written.{Written}
 use Rattle.file_fields.proofs.Laws.{names-before-lines, names-on, names-off}
 use Rattle.file_read.proofs.Entry.{hops-part, graph-accepts, hops-most, accepted-sound}
 use Rattle.file_write.proofs.Given.{block-good}
 use Rattle.file_format.proofs.Sound.{Sound}
-use Rattle.file_numbers.proofs.TwoBytes.{Bytes}
+use Rattle.file_numbers.specs.Numbers.{Bytes}
 use Rattle.file_round_trip.proofs.Again.{block-again, block-ends, block-some, block-none, decode-encode}
-use Rattle.file_round_trip.proofs.Back.{ReadBack, encode-decode}
+use Rattle.file_round_trip.proofs.Back.{encode-decode}
 
 -- what the entries' results say of their answers
 module _ (b : List ℕ) (capacity : ℕ) {c : Contents} (e : c ≡ readOf b capacity) where

@@ -9,11 +9,13 @@ use Rattle.graph.specs.Answers.{most-numbers, accepted, andThen, capacityAnswer
 use Rattle.graph.specs.declared.Shape.{Shape}
 use Rattle.graph.specs.declared.Answer.{Answer}
 use Rattle.base_outputs.specs.Output.{written}
-use Rattle.file_read.specs.Read.{readAnswer, refusedContents}
+use Rattle.file_read.specs.Read.{readAnswer, refusedContents, contentsOf}
 use Rattle.file_read.specs.declared.Contents.{Contents}
 use Rattle.file_encode.specs.Encode.{linesBytes, encode}
 use Rattle.file_write.specs.Write.{givenAnswer, refusedWritten}
 use Rattle.file_write.specs.declared.Written.{Written}
+use mathlib.Core.Path.{_≡_}
+use Rattle.file_fields.specs.Format.{hopListIn, blockIn}
 
 -- "A file read and written again has the same bytes": it is read into room for the hops of every graph
 unfoldable pub copyAnswer : List ℕ → ℕ → Answer
@@ -43,3 +45,10 @@ backBytes sh hs ns old hopCapacity = written (backAnswer sh hs ns (length old) h
 
 unfoldable pub backHops : Shape → List ℕ → List ℕ → ℕ → List ℕ → List ℕ
 backHops sh hs ns capacity old = written (backAnswer sh hs ns capacity (length old) .number) hs old
+
+-- what is read of a file that was written
+pub record ReadBack (sh : Shape) (hs ns b : List ℕ) (capacity : ℕ) : Type 0 where
+  pub accepts : readAnswer b capacity ≡ accepted
+  pub same-graph : contentsOf b ≡ sameGraph sh hs ns
+  pub same-hops : hopListIn b ≡ hs
+  pub same-block : blockIn b ≡ ns

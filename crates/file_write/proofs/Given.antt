@@ -14,10 +14,12 @@ use Rattle.graph.specs.declared.Shape.{Shape}
 use Rattle.graph.specs.declared.Answer.{Answer}
 use Rattle.graph_check.proofs.Checked.{check-admitted, admitted-check}
 use Rattle.graph.proofs.Accepts.{both-accept, second-accepts, capacity-accepts}
-use Rattle.file_names.specs.Block.{nameAt, firstBad, Searchable}
+use Rattle.file_names.specs.Block.{nameAt, firstBad}
+use Rattle.file_names.specs.Internal.Block.{Searchable}
 use Rattle.file_names.proofs.Blocks.{name-less, name-least}
 use Rattle.base_outputs.specs.Output.{onFront}
-use Rattle.file_encode.specs.Encode.{encode, Writable}
+use Rattle.file_encode.specs.Encode.{encode}
+use Rattle.file_encode.specs.Internal.Encode.{Writable}
 use Rattle.file_write.specs.Write.{blockAnswer, namesGiven, givenAnswer, writeAnswer, refusedWritten, writeOf, writeBytes}
 use Rattle.file_write.specs.declared.Written.{Written}
 

@@ -9,7 +9,8 @@ use native.Mathlib.Numerals.{add-one}
 use native.Mathlib.Omega.{arith}
 use lib.ListN.{length, getD, set, drop, length-append, length-drop, length-set, List·getD-append}
 use lib.Seq.{drop-cons, drop-drop, drop-append-add, getD-at, getD-set-same, getD-set-other, take-at, ext-getD}
-use Rattle.graph.specs.Hops.{count, from, label, to, lineAt, linedHop, hopAt, noHop, Alike, flat, put, front, over, between, numberPlace}
+use Rattle.graph.specs.Hops.{count, from, label, to, lineAt, linedHop, hopAt, Alike, flat, between, numberPlace}
+use Rattle.graph.specs.Internal.Hops.{noHop, put, front, over}
 use Rattle.graph.specs.declared.Hop.{Hop}
 use Rattle.graph.proofs.Places.{length-flat, count-flat, flat-at}
 

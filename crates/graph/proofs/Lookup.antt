@@ -12,8 +12,9 @@ use lib.Dec.{ltb, eqb}
 use Rattle.base_bounded.specs.Quantifiers.{any, all}
 use Rattle.graph.specs.Hops.{count, from, hopOf, hopAt, Alike, is, has}
 use Rattle.graph.specs.Order.{before, Ascending}
-use Rattle.graph.specs.Sum.{sumOf, Narrow}
-use Rattle.graph.specs.Search.{lower, Bracket, AbsentFrom, found, placed, isAt, foundPlace, firstOf, pastOf}
+use Rattle.graph.specs.Internal.Sum.{sumOf, Narrow}
+use Rattle.graph.specs.Search.{lower, firstOf, pastOf}
+use Rattle.graph.specs.Internal.Search.{Bracket, AbsentFrom, found, placed, isAt, foundPlace}
 use Rattle.graph.specs.declared.Hop.{Hop}
 use Rattle.graph.specs.declared.Found.{Found}
 use Rattle.graph.specs.declared.Found.the-variants.{At, Gap}

@@ -8,7 +8,8 @@ use native.Mathlib.Omega.{arith}
 use borrow.Author.Tests.{eq-eqb, eqb-true}
 use lib.ListN.{length, getD}
 use lib.Dec.{eqb}
-use Rattle.graph.specs.Hops.{count, from, label, to, linedHop, hopOf, hopAt, noHop, Alike, same, numberPlace, flat, is, labelled, has}
+use Rattle.graph.specs.Hops.{count, from, label, to, linedHop, hopOf, hopAt, Alike, same, numberPlace, flat, is, labelled, has}
+use Rattle.graph.specs.Internal.Hops.{noHop}
 use Rattle.graph.specs.declared.Hop.{Hop}
 use Rattle.base_bounded.proofs.Bools.{and-yes, and-left, and-right}
 use Rattle.base_bounded.proofs.Quantifiers.{any-found, any-at}

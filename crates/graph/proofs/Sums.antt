@@ -10,7 +10,7 @@ use lib.Dec.{ltb, eqb}
 use Rattle.base_bounded.proofs.Bools.{same-test, decided}
 use Rattle.graph.specs.Hops.{hopOf, Alike, same}
 use Rattle.graph.specs.Order.{before}
-use Rattle.graph.specs.Sum.{sumOf, Narrow}
+use Rattle.graph.specs.Internal.Sum.{sumOf, Narrow}
 use Rattle.graph.specs.declared.Hop.{Hop}
 use Rattle.graph.proofs.Places.{same-alike, alike-same}
 use Rattle.graph.proofs.Ordered.{Below, before-below, before-total}

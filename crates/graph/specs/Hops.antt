@@ -2,11 +2,11 @@
 -- hop", seen by places that count hops from 0. Hops are looked at through this file, the accessors
 -- and their laws; elsewhere four stands only where the documents say it: in the length that an
 -- output needs. Assumes nothing: these are definitions.
-use Prim.Native.Nat.{ℕ, zero, suc, _+_, _-_, _*_, _/_, _%_}
+use Prim.Native.Nat.{ℕ, _+_, _-_, _*_, _/_, _%_}
 use mathlib.Core.Path.{_≡_}
 use mathlib.Core.Bool.{Bool, _&&_}
-use mathlib.Core.List.{List, [], _∷_, _++_}
-use lib.ListN.{length, getD, set, take, drop}
+use mathlib.Core.List.{List, [], _∷_}
+use lib.ListN.{length, getD, take, drop}
 use lib.Dec.{eqb}
 use denote.Ref.{RefT, ptr}
 use Rattle.base_bounded.specs.Quantifiers.{any}
@@ -52,10 +52,6 @@ hopOf s a t = linedHop s a t 0
 abbrev pub hopAt : List ℕ → ℕ → Hop
 hopAt hs i = linedHop (from hs i) (label hs i) (to hs i) (lineAt hs i)
 
--- what stands past the end of a list of hops
-abbrev pub noHop : Hop
-noHop = hopOf 0 0 0
-
 -- "Order and equality go by the first three": two hops are alike that have the same from, label and to. Order, search and meaning look at no more of a hop
 pub record Alike (a b : Hop) : Type 0 where
   pub same-from : a .from ≡ b .from
@@ -70,20 +66,6 @@ same a b = eqb (a .from) (b .from) && (eqb (a .label) (b .label) && eqb (a .to) 
 unfoldable pub flat : List Hop → List ℕ
 flat [] = []
 flat (h ∷ hs) = h .from ∷ h .label ∷ h .to ∷ h .line ∷ flat hs
-
--- the list with h for the hop at place i
-abbrev pub put : List ℕ → ℕ → Hop → List ℕ
-put hs i h =
-    set (set (set (set hs (numberPlace i) (h .from)) (numberPlace i + 1) (h .label)) (numberPlace i + 2) (h .to)) (numberPlace i + 3) (h .line)
-
--- the first n hops of a list
-unfoldable pub front : ℕ → List ℕ → List Hop
-front zero hs = []
-front (suc n) hs = front n hs ++ (hopAt hs n ∷ [])
-
--- the list with the hops xs written at its front
-unfoldable pub over : List Hop → List ℕ → List ℕ
-over xs hs = flat xs ++ drop (length (flat xs)) hs
 
 -- the hop at place i is s, a, t
 unfoldable pub is : List ℕ → ℕ → ℕ → ℕ → ℕ → Bool

@@ -10,7 +10,8 @@ use super::order::is_same;
 ghost use mathlib.Core.Path.{_≡_};
 ghost use Prim.Native.Nat.{_<_, _≤_};
 ghost use denote.Ref.{ptr};
-ghost use Rattle.graph.specs.Hops.{count, whole, from, label, to, lineAt, linedHop, hopOf, hopAt, put, is, between, partAddress, numberPlace};
+ghost use Rattle.graph.specs.Hops.{count, whole, from, label, to, lineAt, linedHop, hopOf, hopAt, is, between, partAddress, numberPlace};
+ghost use Rattle.graph.specs.Internal.Hops.{put};
 ghost use Rattle.graph.specs.Answers.{most-hops};
 
 // How many hops the list holds.

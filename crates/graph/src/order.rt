@@ -7,7 +7,7 @@ ghost use mathlib.Core.Path.{_≡_};
 ghost use lib.Dec.{ltb};
 ghost use Rattle.graph.specs.Hops.{same};
 ghost use Rattle.graph.specs.Order.{before};
-ghost use Rattle.graph.specs.Sum.{sumOf, Narrow};
+ghost use Rattle.graph.specs.Internal.Sum.{sumOf, Narrow};
 
 // A hop's sum. That it tells the order rests on the width of a hop's numbers, so that is said too.
 pub fn sum_of(h: Hop) -> u64

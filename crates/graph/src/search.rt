@@ -15,7 +15,8 @@ ghost use mathlib.Core.Path.{_≡_};
 ghost use Prim.Native.Nat.{_<_, _≤_};
 ghost use Rattle.graph.specs.Hops.{count};
 ghost use Rattle.graph.specs.Order.{Ascending};
-ghost use Rattle.graph.specs.Search.{lower, Bracket, AbsentFrom, found, placed, isAt, foundPlace, firstOf, pastOf};
+ghost use Rattle.graph.specs.Search.{lower, firstOf, pastOf};
+ghost use Rattle.graph.specs.Internal.Search.{Bracket, AbsentFrom, found, placed, isAt, foundPlace};
 
 // The first place whose hop is not before h, searched for by halving between two places that bracket it.
 pub fn lower_between(hops: &[u16], h: Hop, first: usize, past: usize) -> usize

@@ -9,7 +9,7 @@ use borrow.Author.Tests.{ne-eqb}
 use lib.Dec.{ltb}
 use Rattle.base_bounded.specs.Quantifiers.{least}
 use Rattle.graph.specs.Hops.{count, hopAt}
-use Rattle.graph.specs.Sum.{sumOf, Narrow}
+use Rattle.graph.specs.Internal.Sum.{sumOf, Narrow}
 use Rattle.graph.specs.declared.Hop.{Hop}
 use Rattle.graph_check.specs.Check.{ascendsAt, firstNotAscending}
 use Rattle.base_bounded.proofs.Quantifiers.{least-none, least-more, least-found, least-done}

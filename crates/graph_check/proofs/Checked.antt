@@ -11,7 +11,8 @@ use native.Mathlib.Omega.{arith}
 use borrow.Author.Tests.{ltb-true, ltb-false, leb-true, leb-false, eqb-true, lt-ltb, le-ltb, le-leb, lt-leb, eq-eqb, not-true, not-false}
 use lib.ListN.{length}
 use lib.Dec.{eqb, leb, ltb}
-use Rattle.base_bounded.specs.Quantifiers.{least, FirstFailing}
+use Rattle.base_bounded.specs.Quantifiers.{least}
+use Rattle.base_bounded.specs.Internal.Quantifiers.{FirstFailing}
 use Rattle.graph.specs.Hops.{numbers-a-hop, count, from, label, to, hopAt}
 use Rattle.graph.specs.Order.{before, Ascending}
 use Rattle.graph.specs.Answers.{most-states, most-labels, most-hops, accepted, refused}

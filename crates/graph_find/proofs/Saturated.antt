@@ -13,7 +13,8 @@ use Rattle.graph_check.specs.Check.{Admitted}
 use Rattle.graph.specs.declared.Shape.{Shape}
 use Rattle.base_bounded.proofs.Bools.{lt-or-le}
 use Rattle.base_bounded.proofs.Quantifiers.{any-same, tally-same}
-use Rattle.graph_find.specs.Find.{hopsBefore, saturated}
+use Rattle.graph_find.specs.Find.{hopsBefore}
+use Rattle.graph_find.specs.Internal.Find.{saturated}
 
 -- the ways out of `saturate`
 pub saturate-fits : (x : ℕ) → x < 65535 → x ≡ saturated x

@@ -5,7 +5,7 @@ use mathlib.Core.Bool.{cond}
 use mathlib.Core.List.{List}
 use borrow.Author.Tests.{eq-eqb, ne-eqb}
 use Rattle.graph.specs.Hops.{hopOf, has}
-use Rattle.graph.specs.Search.{placed, isAt, foundPlace}
+use Rattle.graph.specs.Internal.Search.{placed, isAt, foundPlace}
 use Rattle.graph_check.specs.Check.{checkOf, Admitted}
 use Rattle.graph.specs.declared.Shape.{Shape}
 use Rattle.graph.specs.declared.Answer.{Answer}
@@ -14,7 +14,8 @@ use Rattle.graph.specs.declared.Found.{Found}
 use Rattle.graph_check.proofs.Checked.{check-admitted}
 use Rattle.graph.proofs.Lookup.{placed-has, found-lower}
 use Rattle.graph_find.specs.declared.Finding.{Finding}
-use Rattle.graph_find.specs.Find.{hopsBefore, saturated, findOf}
+use Rattle.graph_find.specs.Find.{hopsBefore, findOf}
+use Rattle.graph_find.specs.Internal.Find.{saturated}
 use Rattle.graph_find.proofs.Saturated.{hops-before-saturated, has-saturated}
 use Rattle.graph_find.proofs.Places.{lower-counts}
 

@@ -5,7 +5,7 @@ use mathlib.Core.Path.{_≡_}
 use mathlib.Core.Bool.{true, false, cond, _&&_}
 use mathlib.Core.List.{List}
 use mathlib.Core.Logic.{_⊎_}
-use lib.Dec.{eqb, ltb}
+use lib.Dec.{eqb}
 use Rattle.base_bounded.specs.Quantifiers.{tally}
 use Rattle.graph.specs.Hops.{count, hopOf, hopAt, is, has}
 use Rattle.graph.specs.Order.{before}
@@ -35,7 +35,3 @@ pub record Finds (sh : Shape) (hs : List ℕ) (s a t : ℕ) (f : Finding) : Type
   pub below-before : (i : ℕ) → i < f .place → before (hopAt hs i) (hopOf s a t) ≡ true
   pub above-not : (i : ℕ) → f .place ≤ i → i < count hs → before (hopAt hs i) (hopOf s a t) ≡ false
   pub outside-not : (sh .states ≤ s) ⊎ ((sh .labels ≤ a) ⊎ (sh .states ≤ t)) → f .found ≡ 0
-
--- the number in 16 bits by which x is sought: any from 65,535 on stands behind every number of an admitted graph
-unfoldable pub saturated : ℕ → ℕ
-saturated x = cond (ltb x 65535) x 65535

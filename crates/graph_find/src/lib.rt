@@ -9,7 +9,8 @@ use graph::Shape;
 use graph::hops::hop_of;
 use graph_check::check;
 ghost use mathlib.Core.Path.{_≡_};
-ghost use Rattle.graph_find.specs.Find.{saturated, findOf};
+ghost use Rattle.graph_find.specs.Internal.Find.{saturated};
+ghost use Rattle.graph_find.specs.Find.{findOf};
 
 // What `find` returns: check's answer; 1 or 0, whether the graph has the hop; and the hop's place, or where it would stand (0 and 0 with a refusal).
 pub struct Finding {

@@ -4,10 +4,10 @@ use mathlib.Core.Path.{_≡_}
 use mathlib.Core.List.{List}
 use native.Mathlib.Omega.{arith}
 use lib.ListN.{getD}
-use Rattle.base_bounded.specs.Slots.{slot}
+use Rattle.base_bounded.specs.Internal.Slots.{slot}
 use Rattle.base_bounded.proofs.Slots.{slot-of}
 use Rattle.graph.specs.Hops.{count, to}
-use Rattle.graph_predecessors.specs.PredecessorIndex.{predecessorStart, PredecessorPlaces}
+use Rattle.graph_predecessors.specs.Internal.PredecessorIndex.{predecessorStart, PredecessorPlaces}
 
 pub place-in : (hs ps : List ℕ) → PredecessorPlaces hs (count hs) ps → (s : ℕ) {k : ℕ} → predecessorStart hs s ≤ k → k < predecessorStart hs (s + 1) →
     (getD ps k 0 < count hs) × (to hs (getD ps k 0) ≡ s)

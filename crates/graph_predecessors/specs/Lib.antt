@@ -1,1 +1,1 @@
-pub mod PredecessorIndex  -- the table of places by where their hops end
+pub mod Internal  -- what only private functions and proofs cite

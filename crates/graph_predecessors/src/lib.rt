@@ -14,8 +14,8 @@ ghost use Prim.Native.Nat.{_<_};
 ghost use lib.ListN.{getD};
 ghost use Rattle.graph.specs.Hops.{count};
 ghost use Rattle.graph.specs.Answers.{most-hops};
-ghost use Rattle.graph_successors.specs.SuccessorIndex.{Indexable};
-ghost use Rattle.graph_predecessors.specs.PredecessorIndex.{InDegrees, PredecessorStarts, PredecessorPlaces};
+ghost use Rattle.graph_successors.specs.Internal.SuccessorIndex.{Indexable};
+ghost use Rattle.graph_predecessors.specs.Internal.PredecessorIndex.{InDegrees, PredecessorStarts, PredecessorPlaces};
 
 // The place that stands in the table at k.
 pub fn place_at(places: &[u16; MOST_HOPS], k: usize) -> usize

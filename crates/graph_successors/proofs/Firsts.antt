@@ -15,7 +15,7 @@ use Rattle.graph.specs.Search.{firstOf}
 use Rattle.graph.specs.declared.Shape.{Shape}
 use Rattle.base_bounded.proofs.Bools.{lt-or-le}
 use Rattle.graph.proofs.Lookup.{first-law, first-within}
-use Rattle.graph_successors.specs.SuccessorIndex.{SuccessorIndex, Indexable}
+use Rattle.graph_successors.specs.Internal.SuccessorIndex.{SuccessorIndex, Indexable}
 
 -- an admitted graph has a table
 pub admitted-indexable : {sh : Shape} {hs : List ℕ} → Admitted sh hs → Indexable hs

@@ -10,14 +10,15 @@ use borrow.Author.Tests.{ltb-true, ltb-false, lt-ltb, le-ltb}
 use lib.ListN.{getD}
 use Rattle.graph.specs.Hops.{count, from, label, hopOf, hopAt, is, labelled}
 use Rattle.graph.specs.Order.{before, Ascending}
-use Rattle.graph.specs.Search.{Bracket, AbsentFrom, firstOf, pastOf, labelledFrom, labelledPast}
+use Rattle.graph.specs.Internal.Search.{Bracket, AbsentFrom, labelledFrom, labelledPast}
+use Rattle.graph.specs.Search.{firstOf, pastOf}
 use Rattle.graph.specs.Answers.{most-states}
 use Rattle.graph.specs.declared.Hop.{Hop}
 use Rattle.base_bounded.proofs.Bools.{clash, lt-or-le, no-test}
 use Rattle.graph.proofs.Places.{is-from, labelled-yes, labelled-parts}
 use Rattle.graph.proofs.Ordered.{Below, before-below, below-before}
 use Rattle.graph.proofs.Lookup.{lower-law, lower-within, lower-rises, first-law, first-within, first-past, range-holds}
-use Rattle.graph_successors.specs.SuccessorIndex.{SuccessorIndex}
+use Rattle.graph_successors.specs.Internal.SuccessorIndex.{SuccessorIndex}
 use Rattle.graph_successors.proofs.Firsts.{start-is}
 
 module _ (hs : List ℕ) (up : Ascending hs) where

@@ -18,8 +18,9 @@ ghost use mathlib.Core.Path.{_≡_};
 ghost use Prim.Native.Nat.{_+_, _<_, _≤_};
 ghost use Rattle.graph.specs.Answers.{most-states};
 ghost use lib.ListN.{getD};
-ghost use Rattle.graph.specs.Search.{lower, placed, firstOf, labelledFrom, labelledPast};
-ghost use Rattle.graph_successors.specs.SuccessorIndex.{SuccessorIndex, Indexable};
+ghost use Rattle.graph.specs.Search.{lower, firstOf};
+ghost use Rattle.graph.specs.Internal.Search.{placed, labelledFrom, labelledPast};
+ghost use Rattle.graph_successors.specs.Internal.SuccessorIndex.{SuccessorIndex, Indexable};
 
 // How many places the table has: one for each state that can be, and one past the last.
 pub const STARTS: usize = MOST_STATES + 1;

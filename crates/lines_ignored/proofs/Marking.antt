@@ -11,7 +11,7 @@ use Rattle.lts.specs.Closes.{Reach, nowhere, single, walks, Sense}
 use Rattle.base_fixpoint.specs.Pairs.{Pairs}
 use Rattle.base_fixpoint.specs.Approximants.{approximant}
 use Rattle.mark_confluence.specs.Rounds.{Trials, closing, answer, hopAnswers, answers, tried, closes, silentHops, survives}
-use Rattle.mark_confluence.specs.MarkSet.{markOf, marksOf}
+use Rattle.mark_confluence.specs.Marks.{markOf, marksOf}
 use Rattle.mark_senses.specs.Senses.{inSetAt, reachesBy, hopOrStay, joinsAt, answersTo, answersFrom, answeredIn, closesIn, markedIn, markedBy, senseOf}
 use Rattle.mark_entry.specs.Mark.{marksMade, markAnswer, markOutput}
 use Rattle.lines_ignored.specs.DifferInLines.{DifferInLines}

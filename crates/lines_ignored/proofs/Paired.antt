@@ -5,7 +5,8 @@ use mathlib.Core.Path.{_≡_, refl, sym, ap, _∙_}
 use mathlib.Core.Bool.{Bool, true, false, cond}
 use mathlib.Core.List.{List, [], _∷_}
 use lib.ListN.{length, getD}
-use Rattle.graph.specs.Hops.{numberPlace, noHop, Alike, flat}
+use Rattle.graph.specs.Hops.{numberPlace, Alike, flat}
+use Rattle.graph.specs.Internal.Hops.{noHop}
 use Rattle.graph.specs.Order.{before}
 use Rattle.graph.specs.declared.Hop.{Hop}
 use Rattle.graph.proofs.Places.{length-flat, flat-at}

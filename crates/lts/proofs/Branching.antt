@@ -3,8 +3,8 @@ use Prim.Native.Nat.{ℕ}
 use mathlib.Core.Path.{_≡_, refl, sym, _∙_}
 use mathlib.Core.Logic.{_⊎_, inl, inr}
 use Rattle.lts.specs.Star.{stay, Joined}
-use Rattle.lts.specs.Reduction.{Confluent, NormalForms, MatchedBack, Reduces}
-use Rattle.lts.specs.Branching.{MatchedBy, Simulates, Branching}
+use Rattle.lts.specs.Internal.Reduction.{Confluent, NormalForms, MatchedBack, Reduces}
+use Rattle.lts.specs.Internal.Branching.{MatchedBy, Simulates, Branching}
 use Rattle.lts.proofs.Confluence.{joined→rep, rep→joined}
 use Rattle.lts.proofs.Renumbered.{quotient-renumbered, renumbered-reduces}
 

@@ -2,7 +2,8 @@
 -- set of either is one of R8. Assumes nothing.
 use Prim.Native.Nat.{ℕ}
 use Rattle.lts.specs.Star.{Star, stay}
-use Rattle.lts.specs.Closes.{Reach, Via, here, hop, walk, Sense, r1, r2, r3, r8, Closes, ConfluentIn, Greatest, ReachLe, same, more, most, Implies}
+use Rattle.lts.specs.Closes.{Reach, Via, here, hop, walk, Sense, r1, r2, r3, r8, Closes, ConfluentIn, ReachLe, same, more, most, Implies}
+use Rattle.lts.specs.Internal.Closes.{Greatest}
 use Rattle.lts.proofs.Star.{one, star-mono}
 
 module _ {U W : ℕ → ℕ → Type 0} (f : (s t : ℕ) → U s t → W s t) where

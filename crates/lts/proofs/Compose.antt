@@ -3,8 +3,8 @@ use Prim.Native.Nat.{ℕ}
 use mathlib.Core.Path.{_≡_, refl, ap}
 use mathlib.Core.Logic.{_⊎_, inl, inr}
 use Rattle.lts.specs.Star.{Star, stay, go}
-use Rattle.lts.specs.Sense.{Silent}
-use Rattle.lts.specs.Reduction.{MatchedBack, Reduces}
+use Rattle.lts.specs.Internal.Sense.{Silent}
+use Rattle.lts.specs.Internal.Reduction.{MatchedBack, Reduces}
 use Rattle.lts.proofs.Star.{join}
 
 -- T5. Every hop of graph 1 ends in D1, and f leads from D1 into D2.

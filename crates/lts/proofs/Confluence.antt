@@ -8,8 +8,9 @@ use native.Mathlib.Omega.{arith}
 use mathlib.Core.Path.{_≡_, refl, sym, _∙_, subst}
 use mathlib.Core.Logic.{_⊎_, inl, inr, _↔_}
 use Rattle.lts.specs.Star.{Star, stay, go, Joined, same, fore, back}
-use Rattle.lts.specs.Sense.{Normal, Silent}
-use Rattle.lts.specs.Reduction.{Confluent, NormalForms, StepOrNormal, QuotientHop}
+use Rattle.lts.specs.Sense.{Normal}
+use Rattle.lts.specs.Internal.Sense.{Silent}
+use Rattle.lts.specs.Internal.Reduction.{Confluent, NormalForms, StepOrNormal, QuotientHop}
 use Rattle.lts.proofs.Star.{first, star-mono, star→joined, Joined·join, Joined·sym}
 
 -- a hop of s labelled a to t is answered by none, or by one of `rep s` that is kept

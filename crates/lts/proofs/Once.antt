@@ -5,9 +5,10 @@ use mathlib.Core.Path.{_≡_, refl, sym, _∙_, subst}
 use mathlib.Core.Logic.{_⊎_, inl, inr}
 use Rattle.lts.specs.Star.{Star, stay, go}
 use Rattle.lts.specs.Sense.{HopOrStay}
-use Rattle.lts.specs.Closes.{walk, r8, Answered, Closes, ConfluentIn, Greatest}
-use Rattle.lts.specs.Reduction.{NormalForms}
-use Rattle.lts.specs.Renumbered.{Renumbered}
+use Rattle.lts.specs.Closes.{walk, r8, Answered, Closes, ConfluentIn}
+use Rattle.lts.specs.Internal.Closes.{Greatest}
+use Rattle.lts.specs.Internal.Reduction.{NormalForms}
+use Rattle.lts.specs.Internal.Renumbered.{Renumbered}
 use Rattle.lts.proofs.Star.{join, star-mono}
 use Rattle.lts.proofs.Closes.{via-walk, closes-in-mono}
 

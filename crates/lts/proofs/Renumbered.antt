@@ -5,9 +5,9 @@ use native.Mathlib.Omega.{arith}
 use mathlib.Core.Path.{_≡_, refl, sym, ap, _∙_}
 use mathlib.Core.Logic.{_⊎_, inl, inr}
 use Rattle.lts.specs.Star.{Star, stay, go}
-use Rattle.lts.specs.Sense.{Silent}
-use Rattle.lts.specs.Reduction.{Confluent, NormalForms, QuotientHop, Reduces}
-use Rattle.lts.specs.Renumbered.{Renumbered}
+use Rattle.lts.specs.Internal.Sense.{Silent}
+use Rattle.lts.specs.Internal.Reduction.{Confluent, NormalForms, QuotientHop, Reduces}
+use Rattle.lts.specs.Internal.Renumbered.{Renumbered}
 use Rattle.lts.proofs.Star.{star-mono}
 use Rattle.lts.proofs.Confluence.{Meets, forward, rep-normal, quotient-rank-falls}
 

@@ -9,10 +9,6 @@ use Rattle.lts.specs.Star.{Star}
 abbrev pub Normal : (ℕ → ℕ → Type 0) → ℕ → Type 0
 Normal U n = (t : ℕ) → U n t → ⊥
 
--- the hops of a graph that are silent
-abbrev pub Silent : (ℕ → ℕ → ℕ → Type 0) → ℕ → ℕ → Type 0
-Silent Hop s t = Hop s 0 t
-
 module _ (Hop : ℕ → ℕ → ℕ → Type 0) (U : ℕ → ℕ → Type 0) where
   -- s answers a hop labelled a by one that leads to t, or, if a is silent, by none
   abbrev pub HopOrStay : ℕ → ℕ → ℕ → Type 0

@@ -21,18 +21,19 @@ use Rattle.graph_check.specs.Check.{InRange}
 use Rattle.lts.specs.Closes.{nowhere, Via, here, Sense, Answered, Closes}
 use Rattle.walk_silent.specs.Silent.{HopOf}
 use Rattle.base_fixpoint.specs.Pairs.{Pairs, In}
-use Rattle.mark_confluence.specs.MarkSet.{isMarked, markSet, marksOf}
+use Rattle.mark_confluence.specs.Internal.MarkSet.{isMarked, markSet}
+use Rattle.mark_confluence.specs.Marks.{marksOf}
 use Rattle.mark_confluence.proofs.MarkSet.{mark-set-says, mark-set-yes}
 use Rattle.mark_senses.specs.Senses.{closesIn, markedIn}
 use Rattle.mark_senses.proofs.Tests.{closes-says, closes-yes}
 use Rattle.mark_senses.proofs.Marked.{in-kept, in-same}
-use Rattle.mark_sweeps.specs.Sweep.{markCount, Marking, Swept}
+use Rattle.mark_sweeps.specs.Internal.Sweep.{markCount, Marking, Swept}
 use Rattle.mark_sweeps.proofs.Fixpoint.{fixpoint-marks}
-use Rattle.base_bitset.specs.Bits.{bitIn, word-bits}
-use Rattle.mark_batch_spread.specs.Spread.{SpreadBack, SpreadForth}
-use Rattle.mark_batch_tables.specs.BatchTables.{KeyTable, AnswerTable}
-use Rattle.mark_batch_filter.specs.Filtered.{fits, Filtered}
-use Rattle.mark_batch.specs.Batch.{NothingKnown, AnsweredAt, TriedIn}
+use Rattle.base_bitset.specs.Internal.Bits.{bitIn, word-bits}
+use Rattle.mark_batch_spread.specs.Internal.Spread.{SpreadBack, SpreadForth}
+use Rattle.mark_batch_tables.specs.Internal.BatchTables.{KeyTable, AnswerTable}
+use Rattle.mark_batch_filter.specs.Internal.Filtered.{fits, Filtered}
+use Rattle.mark_batch.specs.Internal.Batch.{NothingKnown, AnsweredAt, TriedIn}
 
 -- a reach that leads nowhere leaves a table as it is
 pub back-nowhere : (U : ℕ → ℕ → Type 0) (ws : List ℕ) → SpreadBack U nowhere ws ws

@@ -1,1 +1,1 @@
-pub mod Batch  -- what is known of marks once hops have been tried
+pub mod Internal  -- what only private functions and proofs cite

@@ -22,15 +22,15 @@ use mark_batch_tables::put_labels;
 ghost use Prim.Native.Nat.{_+_, _<_, _≤_};
 ghost use lib.ListN.{length};
 ghost use Rattle.graph.specs.Hops.{count};
-ghost use Rattle.graph_successors.specs.SuccessorIndex.{Indexable};
+ghost use Rattle.graph_successors.specs.Internal.SuccessorIndex.{Indexable};
 ghost use Rattle.base_fixpoint.specs.Pairs.{In};
-ghost use Rattle.mark_confluence.specs.MarkSet.{markSet};
-ghost use Rattle.mark_sweeps.specs.Sweep.{Marking, Swept};
+ghost use Rattle.mark_confluence.specs.Internal.MarkSet.{markSet};
+ghost use Rattle.mark_sweeps.specs.Internal.Sweep.{Marking, Swept};
 ghost use Rattle.mark_senses.specs.Senses.{senseOf, markedBy};
-ghost use Rattle.base_bitset.specs.Bits.{word-bits};
-ghost use Rattle.walk_topological_order.specs.TopologicalOrder.{TopologicalOrder};
-ghost use Rattle.mark_batch_spread.specs.Spread.{SpreadBack, SpreadForth};
-ghost use Rattle.mark_batch.specs.Batch.{SweepInput, TriedIn};
+ghost use Rattle.base_bitset.specs.Internal.Bits.{word-bits};
+ghost use Rattle.walk_topological_order.specs.Internal.TopologicalOrder.{TopologicalOrder};
+ghost use Rattle.mark_batch_spread.specs.Internal.Spread.{SpreadBack, SpreadForth};
+ghost use Rattle.mark_batch.specs.Internal.Batch.{SweepInput, TriedIn};
 
 // The closing: who is s4 for an end s3, by at most one marked hop or by a walk.
 fn closing_table(

@@ -14,8 +14,8 @@ use Rattle.base_bounded.specs.Quantifiers.{tally}
 use Rattle.base_bounded.proofs.Bools.{clash, eq-or-not, not-yes, not-no, and-yes, and-left, and-no-left, and-no-right}
 use Rattle.base_bounded.proofs.Quantifiers.{tally-less, tally-within}
 use Rattle.graph.specs.Hops.{count}
-use Rattle.mark_confluence.specs.MarkSet.{isMarked}
-use Rattle.mark_batch_filter.specs.Filtered.{fits, fails, Filtered}
+use Rattle.mark_confluence.specs.Internal.MarkSet.{isMarked}
+use Rattle.mark_batch_filter.specs.Internal.Filtered.{fits, fails, Filtered}
 
 -- when a hop falls, and when not
 module _ (hs ms froms answers : List ℕ) (i : ℕ) where

@@ -14,8 +14,8 @@ ghost use mathlib.Core.Bool.{cond};
 ghost use Prim.Native.Nat.{_<_, _≤_};
 ghost use lib.ListN.{length, set};
 ghost use Rattle.graph.specs.Hops.{count};
-ghost use Rattle.graph_successors.specs.SuccessorIndex.{Indexable};
-ghost use Rattle.mark_batch_filter.specs.Filtered.{fits, fails, Filtered};
+ghost use Rattle.graph_successors.specs.Internal.SuccessorIndex.{Indexable};
+ghost use Rattle.mark_batch_filter.specs.Internal.Filtered.{fits, fails, Filtered};
 
 // Whether every bit of where the hop at place i begins is where it ends.
 fn fits_at(hops: &[u16], froms: &[u64; MOST_STATES], answers: &[u64; MOST_STATES], i: usize) -> bool

@@ -13,13 +13,13 @@ use Rattle.graph.specs.Hops.{from, to}
 use Rattle.graph.proofs.Places.{is-yes, is-from, is-label, is-to}
 use Rattle.base_fixpoint.specs.Pairs.{In}
 use Rattle.lts.specs.Closes.{Reach, single, walks}
-use Rattle.mark_confluence.specs.MarkSet.{isMarked, markSet}
+use Rattle.mark_confluence.specs.Internal.MarkSet.{isMarked, markSet}
 use Rattle.mark_confluence.proofs.MarkSet.{mark-set-says, mark-set-yes}
-use Rattle.walk_topological_order.specs.TopologicalOrder.{TopologicalOrder}
-use Rattle.base_bitset.specs.Bits.{bitIn}
+use Rattle.walk_topological_order.specs.Internal.TopologicalOrder.{TopologicalOrder}
+use Rattle.base_bitset.specs.Internal.Bits.{bitIn}
 use Rattle.base_bitset.proofs.Laws.{table-or, word-of}
-use Rattle.mark_batch_spread.specs.Spread.{SpreadBack, SpreadForth}
-use Rattle.mark_batch_spread.specs.Step.{spreadTo}
+use Rattle.mark_batch_spread.specs.Internal.Spread.{SpreadBack, SpreadForth}
+use Rattle.mark_batch_spread.specs.Internal.Step.{spreadTo}
 use Rattle.mark_batch_spread.proofs.Steps.{More, SpreadStep, forth-none, forth-same, forth-back, walks-more, single-more}
 
 -- a step at a place from lo up to hi is one from x to y

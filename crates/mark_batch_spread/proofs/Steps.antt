@@ -12,8 +12,8 @@ use Rattle.lts.specs.Star.{Star, stay, go}
 use Rattle.lts.specs.Closes.{Reach, single, walks, Via, here, hop, walk}
 use Rattle.lts.proofs.Star.{one, join, star-mono}
 use Rattle.lts.proofs.Closes.{via-mono, via-walk}
-use Rattle.base_bitset.specs.Bits.{bitIn}
-use Rattle.mark_batch_spread.specs.Spread.{SpreadBack, SpreadForth}
+use Rattle.base_bitset.specs.Internal.Bits.{bitIn}
+use Rattle.mark_batch_spread.specs.Internal.Spread.{SpreadBack, SpreadForth}
 
 -- the steps E are D and one more, from g to t
 pub record More (D E : ℕ → ℕ → Type 0) (g t : ℕ) : Type 0 where

@@ -18,13 +18,13 @@ ghost use Prim.Native.Nat.{_<_, _≤_};
 ghost use lib.ListN.{length};
 ghost use Rattle.graph.specs.Hops.{count};
 ghost use Rattle.graph.specs.Answers.{most-states, most-hops};
-ghost use Rattle.graph_successors.specs.SuccessorIndex.{Indexable};
+ghost use Rattle.graph_successors.specs.Internal.SuccessorIndex.{Indexable};
 ghost use Rattle.base_fixpoint.specs.Pairs.{In};
 ghost use Rattle.lts.specs.Closes.{single, walks};
-ghost use Rattle.mark_confluence.specs.MarkSet.{isMarked, markSet};
-ghost use Rattle.walk_topological_order.specs.TopologicalOrder.{TopologicalOrder};
-ghost use Rattle.mark_batch_spread.specs.Spread.{SpreadBack, SpreadForth};
-ghost use Rattle.mark_batch_spread.specs.Step.{spreadTo};
+ghost use Rattle.mark_confluence.specs.Internal.MarkSet.{isMarked, markSet};
+ghost use Rattle.walk_topological_order.specs.Internal.TopologicalOrder.{TopologicalOrder};
+ghost use Rattle.mark_batch_spread.specs.Internal.Spread.{SpreadBack, SpreadForth};
+ghost use Rattle.mark_batch_spread.specs.Internal.Step.{spreadTo};
 
 // The line behind a reference is as long as its type says: see `base_bitset::sized`.
 fn sized_order(sorted: &[u16; MOST_HOPS])

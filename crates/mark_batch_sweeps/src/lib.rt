@@ -26,13 +26,13 @@ ghost use lib.ListN.{length};
 ghost use Rattle.base_outputs.specs.Output.{onFront};
 ghost use Rattle.graph.specs.Hops.{count};
 ghost use Rattle.graph.specs.Answers.{most-hops};
-ghost use Rattle.graph_successors.specs.SuccessorIndex.{Indexable, Indexed};
+ghost use Rattle.graph_successors.specs.Internal.SuccessorIndex.{Indexable, Indexed};
 ghost use Rattle.walk_silent.specs.Silent.{ringAnswer};
-ghost use Rattle.mark_confluence.specs.MarkSet.{marksOf};
-ghost use Rattle.mark_sweeps.specs.Sweep.{Marking, Swept};
+ghost use Rattle.mark_confluence.specs.Marks.{marksOf};
+ghost use Rattle.mark_sweeps.specs.Internal.Sweep.{Marking, Swept};
 ghost use Rattle.mark_senses.specs.Senses.{senseOf, markedBy};
-ghost use Rattle.base_bitset.specs.Bits.{word-bits};
-ghost use Rattle.mark_batch.specs.Batch.{NothingKnown, SweepInput, TriedIn};
+ghost use Rattle.base_bitset.specs.Internal.Bits.{word-bits};
+ghost use Rattle.mark_batch.specs.Internal.Batch.{NothingKnown, SweepInput, TriedIn};
 
 // Every bit: all batches, or all places of a word.
 const ALL_BATCHES: u64 = 18446744073709551615;

@@ -17,9 +17,9 @@ use Rattle.base_bounded.proofs.Quantifiers.{any-found, any-at}
 use Rattle.graph.specs.Hops.{count, from, label, to}
 use Rattle.graph.proofs.Places.{has-place, place-has}
 use Rattle.walk_silent.specs.Silent.{HopOf}
-use Rattle.base_bitset.specs.Bits.{bitIn, bitAt}
+use Rattle.base_bitset.specs.Internal.Bits.{bitIn, bitAt}
 use Rattle.base_bitset.proofs.Laws.{bit-and, table-or, table-out, word-of, or-nothing}
-use Rattle.mark_batch_tables.specs.BatchTables.{StayTable, AnswerTable}
+use Rattle.mark_batch_tables.specs.Internal.BatchTables.{StayTable, AnswerTable}
 
 -- two words cut, as tables have them
 cut-of : (xs ys : List ℕ) (s t b : ℕ) → bitAt (bitAnd (getD xs s 0) (getD ys t 0)) b ≡ (bitIn xs s b && bitIn ys t b)

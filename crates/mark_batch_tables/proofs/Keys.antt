@@ -10,9 +10,9 @@ use lib.Bits.{bitOr}
 use lib.Dec.{eqb, ltb}
 use lib.ListN.{length, getD, set, replicate, length-set}
 use Rattle.base_bounded.proofs.Bools.{lt-or-le, eq-or-not}
-use Rattle.base_bitset.specs.Bits.{bitIn}
+use Rattle.base_bitset.specs.Internal.Bits.{bitIn}
 use Rattle.base_bitset.proofs.Laws.{bit-one, table-none, table-or, or-nothing}
-use Rattle.mark_batch_tables.specs.BatchTables.{KeyTable}
+use Rattle.mark_batch_tables.specs.Internal.BatchTables.{KeyTable}
 
 eqb-swap : (a b : ℕ) → eqb a b ≡ eqb b a
 eqb-swap a b = go (eq-or-not a b) where

@@ -23,9 +23,9 @@ ghost use lib.ListN.{getD, set, replicate};
 ghost use Rattle.graph.specs.Hops.{count, from, label, to};
 ghost use Rattle.graph.specs.Answers.{most-states};
 ghost use Rattle.graph_check.specs.Check.{Admitted};
-ghost use Rattle.graph_successors.specs.SuccessorIndex.{Indexable};
-ghost use Rattle.base_bitset.specs.Bits.{word-bits};
-ghost use Rattle.mark_batch_tables.specs.BatchTables.{KeyTable, StayTable, AnswerTable};
+ghost use Rattle.graph_successors.specs.Internal.SuccessorIndex.{Indexable};
+ghost use Rattle.base_bitset.specs.Internal.Bits.{word-bits};
+ghost use Rattle.mark_batch_tables.specs.Internal.BatchTables.{KeyTable, StayTable, AnswerTable};
 
 // No bit anywhere.
 pub fn clear(words: &mut [u64; MOST_STATES])

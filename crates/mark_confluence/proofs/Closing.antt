@@ -14,7 +14,8 @@ use Rattle.graph.proofs.Places.{labelled-yes, labelled-parts, has-at, has-place
 use Rattle.graph.proofs.Lookup.{any-range}
 use Rattle.base_bounded.proofs.Quantifiers.{all-at, all-yes, any-at, any-found}
 use Rattle.base_fixpoint.specs.Pairs.{Pairs, In}
-use Rattle.mark_confluence.specs.Rounds.{FirstPoint, closing, answer, hopAnswers, answers, answered, tried, closes}
+use Rattle.mark_confluence.specs.Rounds.{FirstPoint, closing, answer, hopAnswers, answers, tried, closes}
+use Rattle.mark_confluence.specs.Internal.Rounds.{answered}
 
 -- "there is an s4 such that ..": a hop labelled a to s3 is answered from s2
 abbrev pub Answered : List ℕ → (ℕ → ℕ → Type 0) → ℕ → ℕ → ℕ → Type 0

@@ -5,14 +5,14 @@ use mathlib.Core.Bool.{true, false}
 use mathlib.Core.List.{List}
 use Rattle.graph.specs.Hops.{count, hopOf, is, has}
 use Rattle.graph.specs.Order.{Ascending}
-use Rattle.graph.specs.Search.{placed}
+use Rattle.graph.specs.Internal.Search.{placed}
 use Rattle.graph.specs.declared.Hop.{Hop}
 use Rattle.graph.specs.declared.Found.{Found}
 use Rattle.graph.specs.declared.Found.the-variants.{At, Gap}
 use Rattle.base_bounded.proofs.Bools.{clash, and-yes, and-left, and-right, same-test, no-test}
 use Rattle.base_bounded.proofs.Quantifiers.{any-at, any-found}
 use Rattle.graph.proofs.Lookup.{one-place, at-place, gap-has}
-use Rattle.mark_confluence.specs.MarkSet.{isMarked, markSetAt, markSet}
+use Rattle.mark_confluence.specs.Internal.MarkSet.{isMarked, markSetAt, markSet}
 
 module _ (hs ms : List ℕ) where
   -- a place of the hop s to t that is marked

@@ -9,7 +9,7 @@ use Rattle.graph.specs.Hops.{count, has}
 use Rattle.base_bounded.proofs.Bools.{and-left, and-right}
 use Rattle.walk_silent.specs.Silent.{HopOf}
 use Rattle.base_fixpoint.specs.Pairs.{Pairs, In, Subset}
-use Rattle.base_fixpoint.specs.Approximants.{PostFixed}
+use Rattle.base_fixpoint.specs.Internal.Approximants.{PostFixed}
 use Rattle.base_fixpoint.proofs.Approximants.{approximant-fixed, post-fixed-approximant, approximant-post-fixed, approximant-every, approximant-same}
 use Rattle.mark_confluence.specs.Rounds.{Trials, closing, answers, closes, Solution, silentHops, survives, marked, ConfluentSet}
 use Rattle.mark_confluence.proofs.Closing.{closes-says, closes-yes, closed-mono, closing-mono, answers-mono}

@@ -17,7 +17,8 @@ use Rattle.graph.specs.Hops.{count, from, label, to, has}
 use Rattle.graph.proofs.Places.{is-yes, is-from, is-to, has-place, place-has}
 use Rattle.base_fixpoint.specs.Pairs.{Pairs, In, Subset}
 use Rattle.mark_confluence.specs.Rounds.{silentHops}
-use Rattle.mark_confluence.specs.MarkSet.{isMarked, markSet, markOf, marksOf, everyPair}
+use Rattle.mark_confluence.specs.Internal.MarkSet.{isMarked, markSet, everyPair}
+use Rattle.mark_confluence.specs.Marks.{markOf, marksOf}
 use Rattle.mark_confluence.proofs.MarkSet.{mark-set-says, mark-set-yes}
 
 -- a list that is written from the front keeps its length

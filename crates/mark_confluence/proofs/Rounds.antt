@@ -5,8 +5,8 @@ use mathlib.Core.Bool.{true, _&&_}
 use mathlib.Core.List.{List}
 use Rattle.graph.specs.Hops.{count, from, to, has}
 use Rattle.graph.proofs.Places.{has-place}
-use Rattle.base_fixpoint.specs.Pairs.{AtMostPairs}
-use Rattle.base_fixpoint.specs.Approximants.{Monotone}
+use Rattle.base_fixpoint.specs.Internal.Pairs.{AtMostPairs}
+use Rattle.base_fixpoint.specs.Internal.Approximants.{Monotone}
 use Rattle.base_fixpoint.proofs.Approximants.{approximant-none, approximant-more, approximant-within}
 use Rattle.mark_confluence.specs.Rounds.{closes, silentHops, survives}
 use Rattle.mark_confluence.proofs.Closing.{closes-mono}

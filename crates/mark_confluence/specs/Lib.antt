@@ -1,2 +1,3 @@
 pub mod Rounds  -- confluent sets, the equations X, Y and Z, the rounds and the marked set
-pub mod MarkSet  -- the set that marks are, and the marks of a set
+pub mod Marks  -- the marks of a set of silent hops
+pub mod Internal  -- what only private functions and proofs cite

@@ -43,17 +43,9 @@ pub record Solution (hs : List ℕ) (X : Pairs) (Y : Trials) (Z : Pairs) : Type 
   pub y-is : (s2 a s3 : ℕ) → Y s2 a s3 ≡ answers hs Z s2 a s3
   pub z-is : (s3 s4 : ℕ) → Z s3 s4 ≡ closing X s3 s4
 
--- the condition of a confluent set, with u for U. The hop at place i is answered from s2:
-unfoldable pub answered : List ℕ → Pairs → ℕ → ℕ → Bool
-answered hs u s2 i = answers hs (closing u) s2 (label hs i) (to hs i)
-
 -- and each hop from s1 is. With `has` beside it this is X over u: Y and Z are put in.
 unfoldable pub closes : List ℕ → Pairs → Pairs
 closes hs u s1 s2 = all (count hs) (tried hs (answers hs (closing u)) s1 s2)
-
--- the same of the hop at place i
-abbrev pub closesAt : List ℕ → Pairs → ℕ → Bool
-closesAt hs u i = closes hs u (from hs i) (to hs i)
 
 -- the pairs that have a silent hop
 abbrev pub silentHops : List ℕ → Pairs

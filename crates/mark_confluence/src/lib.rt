@@ -14,7 +14,8 @@ ghost use Prim.Native.Nat.{_≤_};
 ghost use lib.ListN.{length};
 ghost use Rattle.base_outputs.specs.Output.{onFront};
 ghost use Rattle.graph.specs.Hops.{count};
-ghost use Rattle.mark_confluence.specs.MarkSet.{marksOf, everyPair};
+ghost use Rattle.mark_confluence.specs.Marks.{marksOf};
+ghost use Rattle.mark_confluence.specs.Internal.MarkSet.{everyPair};
 
 // 1 for each silent hop, 0 for each visible one.
 pub fn start_marks(hops: &[u16], marks: &mut [u8])

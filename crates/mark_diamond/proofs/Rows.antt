@@ -12,7 +12,8 @@ use borrow.Author.Count.{below-more}
 use lib.Dec.{eqb}
 use Rattle.graph.specs.Hops.{count, from, label, to, hopOf, hopAt, has}
 use Rattle.graph.specs.Order.{before, Ascending}
-use Rattle.graph.specs.Search.{placed, isAt, foundPlace, firstOf, pastOf}
+use Rattle.graph.specs.Internal.Search.{placed, isAt, foundPlace}
+use Rattle.graph.specs.Search.{firstOf, pastOf}
 use Rattle.graph.specs.declared.Hop.{Hop}
 use Rattle.graph.specs.declared.Found.{Found}
 use Rattle.base_bounded.proofs.Bools.{and-left, and-right, lt-or-le}
@@ -20,12 +21,13 @@ use Rattle.base_bounded.proofs.Quantifiers.{all-yes, all-fails}
 use Rattle.graph.proofs.Ordered.{Below, before-below, below-before, ascending-lt}
 use Rattle.graph.proofs.Lookup.{placed-has, found-lower, Onward, onward, first-within, range-holds, range-only}
 use Rattle.base_fixpoint.specs.Pairs.{Pairs}
-use Rattle.mark_confluence.specs.Rounds.{closing, hopAnswers, answers, answered, tried, closes}
+use Rattle.mark_confluence.specs.Rounds.{closing, hopAnswers, answers, tried, closes}
+use Rattle.mark_confluence.specs.Internal.Rounds.{answered}
 use Rattle.graph_successors.proofs.Firsts.{first-below, first-next}
 use Rattle.graph_successors.proofs.Rows.{row-bracket}
-use Rattle.mark_diamond_merge.specs.Row.{Row}
+use Rattle.mark_diamond_merge.specs.Internal.Row.{Row}
 use Rattle.mark_diamond_merge.proofs.Rows.{ascending-label}
-use Rattle.mark_diamond.specs.Skipped.{Skipped}
+use Rattle.mark_diamond.specs.Internal.Skipped.{Skipped}
 use Rattle.mark_confluence.proofs.Closing.{answers-still, answers-else, answers-yes, answered-at, answered-itself, tried-own, tried-other}
 
 module _ (hs : List ℕ) (up : Ascending hs) where

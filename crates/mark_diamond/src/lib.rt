@@ -29,11 +29,11 @@ ghost use lib.Dec.{eqb};
 ghost use mathlib.Core.Bool.{_&&_};
 ghost use Rattle.graph.specs.Hops.{count, label, to, has};
 ghost use Rattle.graph.specs.Answers.{most-states};
-ghost use Rattle.mark_confluence.specs.Rounds.{answered, closesAt};
-ghost use Rattle.mark_confluence.specs.MarkSet.{markSet};
-ghost use Rattle.graph_successors.specs.SuccessorIndex.{SuccessorIndex, Indexable};
-ghost use Rattle.mark_diamond_merge.specs.Row.{Row};
-ghost use Rattle.mark_diamond.specs.Skipped.{Skipped};
+ghost use Rattle.mark_confluence.specs.Internal.Rounds.{answered, closesAt};
+ghost use Rattle.mark_confluence.specs.Internal.MarkSet.{markSet};
+ghost use Rattle.graph_successors.specs.Internal.SuccessorIndex.{SuccessorIndex, Indexable};
+ghost use Rattle.mark_diamond_merge.specs.Internal.Row.{Row};
+ghost use Rattle.mark_diamond.specs.Internal.Skipped.{Skipped};
 
 // The first place from `at` on whose label is not below a, or `past`.
 fn skip(hops: &[u16], at: usize, past: usize, a: Label) -> usize

@@ -7,7 +7,8 @@ use mathlib.Core.Logic.{inl, inr}
 use native.Mathlib.Omega.{arith}
 use Rattle.graph.specs.Hops.{count, label, to, hopOf, hopAt}
 use Rattle.graph.specs.Order.{Ascending}
-use Rattle.graph.specs.Search.{placed, foundPlace, firstOf}
+use Rattle.graph.specs.Internal.Search.{placed, foundPlace}
+use Rattle.graph.specs.Search.{firstOf}
 use Rattle.graph.specs.declared.Hop.{Hop}
 use Rattle.graph.specs.declared.Found.{Found}
 use Rattle.graph.specs.declared.Found.the-variants.{At, Gap}
@@ -15,11 +16,11 @@ use Rattle.graph.proofs.Ordered.{Below, before-below, below-before, ascending-l
 use Rattle.graph.proofs.Lookup.{found-lower, Onward, onward}
 use Rattle.graph_successors.proofs.Rows.{row-bracket}
 use Rattle.mark_confluence.specs.Rounds.{closing}
-use Rattle.mark_confluence.specs.MarkSet.{markSet}
+use Rattle.mark_confluence.specs.Internal.MarkSet.{markSet}
 use Rattle.mark_confluence.proofs.Closing.{closing-other}
 use Rattle.mark_confluence.proofs.MarkSet.{mark-set-found, mark-set-missing}
-use Rattle.mark_diamond_merge.specs.Row.{Row}
-use Rattle.mark_diamond_merge.specs.Found.{foundMarked}
+use Rattle.mark_diamond_merge.specs.Internal.Row.{Row}
+use Rattle.mark_diamond_merge.specs.Internal.Found.{foundMarked}
 
 -- m and `end` bracket the silent hop from s3 to the end of each hop labelled a from k on
 abbrev pub Along : List ℕ → ℕ → ℕ → ℕ → ℕ → ℕ → ℕ → Type 0

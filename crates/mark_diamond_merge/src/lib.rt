@@ -23,10 +23,10 @@ ghost use Rattle.graph.specs.Hops.{count};
 ghost use Rattle.graph.specs.Answers.{most-states};
 ghost use Rattle.graph.specs.declared.Found.the-variants.{At};
 ghost use Rattle.mark_confluence.specs.Rounds.{closing, hopAnswers};
-ghost use Rattle.mark_confluence.specs.MarkSet.{markSet};
-ghost use Rattle.graph_successors.specs.SuccessorIndex.{SuccessorIndex, Indexable};
-ghost use Rattle.mark_diamond_merge.specs.Row.{Row};
-ghost use Rattle.mark_diamond_merge.specs.Found.{foundMarked};
+ghost use Rattle.mark_confluence.specs.Internal.MarkSet.{markSet};
+ghost use Rattle.graph_successors.specs.Internal.SuccessorIndex.{SuccessorIndex, Indexable};
+ghost use Rattle.mark_diamond_merge.specs.Internal.Row.{Row};
+ghost use Rattle.mark_diamond_merge.specs.Internal.Found.{foundMarked};
 
 // The hops of a state from place `at` on; `past` is the place past its last.
 pub struct Rest {

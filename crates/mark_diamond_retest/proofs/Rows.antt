@@ -9,15 +9,16 @@ use native.Mathlib.Omega.{arith}
 use borrow.Author.Tests.{ltb-false, le-ltb}
 use Rattle.graph.specs.Hops.{count, from, label, to, hopOf, hopAt}
 use Rattle.graph.specs.Order.{before, Ascending}
-use Rattle.graph.specs.Search.{firstOf, pastOf, labelledFrom}
+use Rattle.graph.specs.Search.{firstOf, pastOf}
+use Rattle.graph.specs.Internal.Search.{labelledFrom}
 use Rattle.base_bounded.proofs.Bools.{clash, lt-or-le, no-test}
 use Rattle.graph.proofs.Ordered.{Below, before-below, below-before}
 use Rattle.graph.proofs.Lookup.{lower-law, first-within, range-holds, range-only}
 use Rattle.graph_successors.proofs.Rows.{first-labelled}
-use Rattle.mark_confluence.specs.Rounds.{answered}
-use Rattle.mark_confluence.specs.MarkSet.{markSet, isMarked}
-use Rattle.mark_diamond_merge.specs.Row.{Row}
-use Rattle.mark_diamond_retest.specs.Retest.{CleanAnswered}
+use Rattle.mark_confluence.specs.Internal.Rounds.{answered}
+use Rattle.mark_confluence.specs.Internal.MarkSet.{markSet, isMarked}
+use Rattle.mark_diamond_merge.specs.Internal.Row.{Row}
+use Rattle.mark_diamond_retest.specs.Internal.Retest.{CleanAnswered}
 
 -- the hops of s labelled a or more
 pub labelled-row : (hs : List ℕ) → Ascending hs → (s a : ℕ) → Row hs s a (labelledFrom hs s a) (firstOf hs (s + 1))

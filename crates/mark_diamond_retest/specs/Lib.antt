@@ -1,1 +1,1 @@
-pub mod Retest  -- what need not be tried again
+pub mod Internal  -- what only private functions and proofs cite

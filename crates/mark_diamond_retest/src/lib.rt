@@ -25,10 +25,10 @@ ghost use lib.ListN.{length};
 ghost use mathlib.Core.Bool.{true};
 ghost use Rattle.graph.specs.Hops.{count};
 ghost use Rattle.graph.specs.Answers.{most-states};
-ghost use Rattle.mark_confluence.specs.Rounds.{answered, closesAt};
-ghost use Rattle.mark_confluence.specs.MarkSet.{markSet};
-ghost use Rattle.graph_successors.specs.SuccessorIndex.{SuccessorIndex, Indexable};
-ghost use Rattle.mark_diamond_retest.specs.Retest.{CleanAnswered};
+ghost use Rattle.mark_confluence.specs.Internal.Rounds.{answered, closesAt};
+ghost use Rattle.mark_confluence.specs.Internal.MarkSet.{markSet};
+ghost use Rattle.graph_successors.specs.Internal.SuccessorIndex.{SuccessorIndex, Indexable};
+ghost use Rattle.mark_diamond_retest.specs.Internal.Retest.{CleanAnswered};
 
 // Y of the hop at place j against a silent hop to s2. The walk that `mark_diamond` goes side by side would pass over most of s2's hops here, so the like hop and
 // the place of the label are found by halving.

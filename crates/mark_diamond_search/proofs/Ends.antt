@@ -14,7 +14,7 @@ use Rattle.graph.proofs.Lookup.{range-holds, range-only, past-within}
 use Rattle.graph_successors.proofs.Firsts.{range-more}
 use Rattle.base_fixpoint.specs.Pairs.{Pairs, In}
 use Rattle.mark_confluence.specs.Rounds.{closing, hopAnswers}
-use Rattle.mark_confluence.specs.MarkSet.{isMarked, markSet}
+use Rattle.mark_confluence.specs.Internal.MarkSet.{isMarked, markSet}
 use Rattle.mark_confluence.proofs.Closing.{closing-yes, closing-says, hop-answers, none-answers}
 use Rattle.mark_confluence.proofs.MarkSet.{mark-set-yes, mark-set-says}
 use Rattle.mark_diamond_merge.proofs.Rows.{ascending-label}

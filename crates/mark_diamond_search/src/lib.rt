@@ -25,9 +25,9 @@ ghost use lib.ListN.{length};
 ghost use Rattle.graph.specs.Hops.{count, has};
 ghost use Rattle.graph.specs.Answers.{most-states};
 ghost use Rattle.mark_confluence.specs.Rounds.{closing, hopAnswers};
-ghost use Rattle.mark_confluence.specs.MarkSet.{markSet};
-ghost use Rattle.graph_successors.specs.SuccessorIndex.{SuccessorIndex, Indexable};
-ghost use Rattle.mark_diamond_merge.specs.Row.{Row};
+ghost use Rattle.mark_confluence.specs.Internal.MarkSet.{markSet};
+ghost use Rattle.graph_successors.specs.Internal.SuccessorIndex.{SuccessorIndex, Indexable};
+ghost use Rattle.mark_diamond_merge.specs.Internal.Row.{Row};
 
 // Whether the silent hop from x to y is marked.
 fn holds(hops: &[u16], starts: &[u16; STARTS], marks: &[u8], x: OldState, y: OldState) -> bool

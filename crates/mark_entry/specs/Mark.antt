@@ -9,7 +9,7 @@ use Rattle.graph_check.specs.Check.{checkOf}
 use Rattle.graph.specs.declared.Shape.{Shape}
 use Rattle.graph.specs.declared.Answer.{Answer}
 use Rattle.walk_silent.specs.Silent.{ringAnswer}
-use Rattle.mark_confluence.specs.MarkSet.{marksOf}
+use Rattle.mark_confluence.specs.Marks.{marksOf}
 use Rattle.mark_senses.specs.Senses.{markedBy, senseAnswer}
 
 -- the marks of the marked set, in the sense with the number k

@@ -18,9 +18,9 @@ ghost use lib.ListN.{length};
 ghost use Rattle.base_outputs.specs.Output.{onFront};
 ghost use Rattle.graph.specs.Hops.{count};
 ghost use Rattle.graph.specs.Answers.{andThen, capacityAnswer};
-ghost use Rattle.graph_successors.specs.SuccessorIndex.{Indexed};
+ghost use Rattle.graph_successors.specs.Internal.SuccessorIndex.{Indexed};
 ghost use Rattle.walk_silent.specs.Silent.{ringAnswer};
-ghost use Rattle.mark_confluence.specs.MarkSet.{marksOf};
+ghost use Rattle.mark_confluence.specs.Marks.{marksOf};
 ghost use Rattle.mark_senses.specs.Senses.{markedBy};
 ghost use Rattle.mark_entry.specs.Mark.{markAnswer, markOutput};
 

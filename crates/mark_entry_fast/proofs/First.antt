@@ -12,7 +12,7 @@ use Rattle.graph_check.specs.Check.{checkOf}
 use Rattle.walk_silent.specs.Silent.{ringAnswer}
 use Rattle.base_fixpoint.specs.Pairs.{Pairs}
 use Rattle.mark_confluence.specs.Rounds.{marked}
-use Rattle.mark_confluence.specs.MarkSet.{marksOf}
+use Rattle.mark_confluence.specs.Marks.{marksOf}
 use Rattle.mark_senses.specs.Senses.{isSense, senseAnswer}
 use Rattle.mark_senses.proofs.Marked.{marked-by-1}
 use Rattle.mark_senses.proofs.Row.{sense-passes}

@@ -7,9 +7,9 @@ use lib.ListN.{drop}
 use Rattle.graph.specs.Hops.{count}
 use Rattle.graph.specs.Order.{Ascending}
 use Rattle.mark_confluence.specs.Rounds.{marked}
-use Rattle.mark_sweeps.specs.Sweep.{Marking, ClosesUpTo}
+use Rattle.mark_sweeps.specs.Internal.Sweep.{Marking, ClosesUpTo}
 use Rattle.mark_sweeps.proofs.Sweeping.{rested-marks}
-use Rattle.mark_worklist_loop.specs.BetweenRounds.{After}
+use Rattle.mark_worklist_loop.specs.Internal.BetweenRounds.{After}
 use Rattle.mark_worklist_loop.proofs.Rounds.{after-marks}
 
 pub sweeps-same-marks : (hs : List ℕ) → Ascending hs → (out : List ℕ) {ms : List ℕ} → Marking hs (marked hs) ms → ClosesUpTo hs (count hs) ms → drop (count hs) ms ≡ drop (count hs) out →

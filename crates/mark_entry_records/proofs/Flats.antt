@@ -11,7 +11,8 @@ use borrow.Author.Tests.{ltb-true, ltb-false, lt-leb}
 use lib.Dec.{ltb, leb}
 use lib.ListN.{length, take, getD, set}
 use lib.Seq.{length-take-le, take-length, take-suc, set-at}
-use Rattle.graph.specs.Hops.{count, whole, hopAt, noHop, flat, put, front, over}
+use Rattle.graph.specs.Hops.{count, whole, hopAt, flat}
+use Rattle.graph.specs.Internal.Hops.{noHop, put, front, over}
 use Rattle.graph.specs.Answers.{most-states, most-labels, most-hops, refused}
 use Rattle.graph_check.specs.Check.{countsFit, checkOf}
 use Rattle.graph.specs.declared.Hop.{Hop}
@@ -21,7 +22,7 @@ use Rattle.graph_check.proofs.Checked.{check-counts}
 use Rattle.graph.proofs.Fronts.{length-front, over-front, put-over, length-over, front-over, over-over}
 use Rattle.graph.proofs.Places.{count-flat}
 use Rattle.mark_entry.specs.Mark.{markAnswer, markOutput}
-use Rattle.mark_entry_records.specs.Records.{unlessOver}
+use Rattle.mark_entry_records.specs.Internal.Records.{unlessOver}
 
 abbrev pub done : List Hop → List ℕ → ℕ → List ℕ
 done ys xs i = over (take i ys) xs

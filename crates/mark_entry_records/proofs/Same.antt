@@ -7,14 +7,15 @@ use native.Mathlib.Omega.{arith}
 use borrow.Author.Tests.{eqb-true, eq-eqb}
 use lib.ListN.{length, drop}
 use lib.Seq.{drop-length, ext-getD}
-use Rattle.graph.specs.Hops.{numbers-a-hop, noHop, flat, front, over}
+use Rattle.graph.specs.Hops.{numbers-a-hop, flat}
+use Rattle.graph.specs.Internal.Hops.{noHop, front, over}
 use Rattle.graph_check.specs.Check.{checkOf}
 use Rattle.graph.specs.declared.Hop.{Hop}
 use Rattle.graph.specs.declared.Shape.{Shape}
 use Rattle.graph.proofs.Fronts.{length-front, getD-front, over-front}
 use Rattle.graph.proofs.Places.{length-flat, count-flat, flat-at}
 use Rattle.mark_entry.specs.Mark.{markAnswer, markOutput}
-use Rattle.mark_entry_records.specs.Records.{Holds}
+use Rattle.mark_entry_records.specs.Internal.Records.{Holds}
 
 -- the flat list of the records holds them
 pub flat-holds : (ys : List Hop) → Holds (flat ys) ys

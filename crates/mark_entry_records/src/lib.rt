@@ -22,7 +22,7 @@ ghost use Rattle.graph.specs.Hops.{between, flat};
 ghost use Rattle.graph.specs.Answers.{most-hops, refused};
 ghost use Rattle.graph_check.specs.Check.{checkOf};
 ghost use Rattle.mark_entry.specs.Mark.{markAnswer, markOutput};
-ghost use Rattle.mark_entry_records.specs.Records.{unlessOver};
+ghost use Rattle.mark_entry_records.specs.Internal.Records.{unlessOver};
 
 // The flat list of the records at the front of an array. Of more records than a graph may have hops it says nothing.
 fn flat_of(hops: &[Hop]) -> [u16; MOST_NUMBERS]

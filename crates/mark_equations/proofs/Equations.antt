@@ -12,7 +12,8 @@ use Rattle.base_bounded.proofs.Bools.{clash, no-test, eq-or-not}
 use Rattle.base_bounded.proofs.Quantifiers.{all-fails}
 use Rattle.graph.specs.Hops.{count, from, label, to, hopOf, has}
 use Rattle.graph.specs.Order.{Ascending}
-use Rattle.graph.specs.Search.{firstOf, pastOf, labelledFrom, labelledPast, placed}
+use Rattle.graph.specs.Search.{firstOf, pastOf}
+use Rattle.graph.specs.Internal.Search.{labelledFrom, labelledPast, placed}
 use Rattle.graph.specs.declared.Hop.{Hop}
 use Rattle.graph.specs.declared.Found.{Found}
 use Rattle.graph.specs.declared.Found.the-variants.{At, Gap}
@@ -20,7 +21,8 @@ use Rattle.graph.proofs.Places.{has-at, is-from, is-label, is-to}
 use Rattle.graph.proofs.Lookup.{range-holds, range-only, past-within, all-range, at-place, gap-has}
 use Rattle.graph_successors.proofs.Rows.{labelled-holds, labelled-only}
 use Rattle.base_fixpoint.specs.Pairs.{Pairs}
-use Rattle.mark_confluence.specs.Rounds.{closing, hopAnswers, answers, answered, tried, closes, survives}
+use Rattle.mark_confluence.specs.Rounds.{closing, hopAnswers, answers, tried, closes, survives}
+use Rattle.mark_confluence.specs.Internal.Rounds.{answered}
 use Rattle.mark_confluence.proofs.Closing.{closing-is, closing-other, hop-answers, none-answers, answers-hop, answers-else, answers-last, answered-at, tried-own, tried-other}
 use Rattle.mark_confluence.proofs.Rounds.{survives-none, survives-more, survives-silent}
 

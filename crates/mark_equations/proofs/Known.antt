@@ -11,7 +11,7 @@ use Rattle.graph.specs.Hops.{from, to}
 use Rattle.graph.specs.Answers.{most-hops}
 use Rattle.base_bounded.proofs.Bools.{eq-or-not}
 use Rattle.mark_confluence.specs.Rounds.{survives}
-use Rattle.mark_equations.specs.Known.{answerPlace, value, wordFor, Right}
+use Rattle.mark_equations.specs.Internal.Known.{answerPlace, value, wordFor, Right}
 
 value-at : (hs : List ℕ) (k i : ℕ) → i < most-hops → value hs (answerPlace k i) ≡ survives hs k (from hs i) (to hs i)
 unfolding value

@@ -1,1 +1,1 @@
-pub mod Known  -- what the table of answers may hold, and what the equations ask
+pub mod Internal  -- what only private functions and proofs cite

@@ -22,8 +22,9 @@ ghost use mathlib.Core.Path.{_≡_};
 ghost use Prim.Native.Nat.{_<_};
 ghost use Rattle.graph.specs.Hops.{count, from, label, to};
 ghost use Rattle.graph.specs.Answers.{most-states};
-ghost use Rattle.mark_confluence.specs.Rounds.{closing, answered, survives};
-ghost use Rattle.mark_equations.specs.Known.{Right, Prepared};
+ghost use Rattle.mark_confluence.specs.Rounds.{closing, survives};
+ghost use Rattle.mark_confluence.specs.Internal.Rounds.{answered};
+ghost use Rattle.mark_equations.specs.Internal.Known.{Right, Prepared};
 
 // What the table holds of a hop and a number of rounds; 0 says nothing.
 const FALLS: u8 = 1;

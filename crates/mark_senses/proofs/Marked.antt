@@ -9,12 +9,13 @@ use Rattle.base_bounded.proofs.Bools.{same-test}
 use Rattle.graph.specs.Hops.{count}
 use Rattle.graph.specs.declared.Shape.{Shape}
 use Rattle.graph_check.specs.Check.{InRange}
-use Rattle.lts.specs.Closes.{Sense, r1, r2, r3, r8, ConfluentIn, Greatest, Implies}
+use Rattle.lts.specs.Closes.{Sense, r1, r2, r3, r8, ConfluentIn, Implies}
+use Rattle.lts.specs.Internal.Closes.{Greatest}
 use Rattle.lts.proofs.Closes.{r1→r2, r1→r3, implies-r8, confluent-within-greatest}
 use Rattle.lts.proofs.SenseForms.{r1-iff}
 use Rattle.walk_silent.specs.Silent.{HopOf}
 use Rattle.base_fixpoint.specs.Pairs.{Pairs, In, Subset}
-use Rattle.base_fixpoint.specs.Approximants.{Monotone, PostFixed}
+use Rattle.base_fixpoint.specs.Internal.Approximants.{Monotone, PostFixed}
 use Rattle.base_fixpoint.proofs.Approximants.{approximant-within, approximant-greatest, approximant-post-fixed, approximant-same}
 use Rattle.mark_confluence.specs.Rounds.{silentHops, marked, ConfluentSet}
 use Rattle.mark_confluence.proofs.Rounds.{silent-listed}

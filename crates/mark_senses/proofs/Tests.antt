@@ -17,7 +17,8 @@ use Rattle.lts.specs.Star.{Star, stay, go}
 use Rattle.lts.specs.Closes.{Reach, nowhere, single, walks, Via, here, hop, walk, Sense, Answered, Closes}
 use Rattle.lts.specs.Sense.{HopOrStay}
 use Rattle.lts.proofs.Star.{star-mono}
-use Rattle.walk_reach.specs.Reach.{ChosenOf, leadsBy}
+use Rattle.walk_reach.specs.Internal.Reach.{ChosenOf}
+use Rattle.walk_reach.specs.Reach.{leadsBy}
 use Rattle.walk_reach.proofs.Leads.{leads-self, leads-step, leads-cases, leads-walk, walk-leads}
 use Rattle.walk_silent.specs.Silent.{HopOf}
 use Rattle.walk_silent.proofs.Hops.{silent-end}

@@ -15,11 +15,13 @@ use Rattle.base_outputs.specs.Output.{onFront}
 use Rattle.graph.specs.Hops.{count, from, to, is}
 use Rattle.graph.specs.Order.{Ascending}
 use Rattle.graph.proofs.Places.{is-from, is-to}
-use Rattle.mark_confluence.specs.Rounds.{closes, closesAt, marked}
-use Rattle.mark_confluence.specs.MarkSet.{isMarked, markSet, marksOf}
+use Rattle.mark_confluence.specs.Rounds.{closes, marked}
+use Rattle.mark_confluence.specs.Internal.Rounds.{closesAt}
+use Rattle.mark_confluence.specs.Internal.MarkSet.{isMarked, markSet}
+use Rattle.mark_confluence.specs.Marks.{marksOf}
 use Rattle.mark_confluence.proofs.Marked.{marked-kept, marked-same}
 use Rattle.mark_confluence.proofs.MarkSet.{mark-set-says, mark-set-yes}
-use Rattle.mark_sweeps.specs.Sweep.{markCount, Marking, Swept, ClosesIfMarked, ClosesUpTo}
+use Rattle.mark_sweeps.specs.Internal.Sweep.{markCount, Marking, Swept, ClosesIfMarked, ClosesUpTo}
 use Rattle.mark_sweeps.proofs.Fixpoint.{on-or-off, swept-none, fixpoint-marks}
 
 module _ (hs : List ℕ) {ms : List ℕ} (m : Marking hs (marked hs) ms) where

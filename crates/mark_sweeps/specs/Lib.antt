@@ -1,1 +1,1 @@
-pub mod Sweep  -- what marks keep while sweeps run
+pub mod Internal  -- what only private functions and proofs cite

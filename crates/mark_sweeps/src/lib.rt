@@ -17,9 +17,9 @@ ghost use lib.ListN.{length};
 ghost use Rattle.base_outputs.specs.Output.{onFront};
 ghost use Rattle.graph.specs.Hops.{count};
 ghost use Rattle.mark_confluence.specs.Rounds.{marked};
-ghost use Rattle.mark_confluence.specs.MarkSet.{marksOf};
-ghost use Rattle.mark_sweeps.specs.Sweep.{Marking, Swept, ClosesIfMarked, ClosesUpTo};
-ghost use Rattle.graph_successors.specs.SuccessorIndex.{SuccessorIndex, Indexable};
+ghost use Rattle.mark_confluence.specs.Marks.{marksOf};
+ghost use Rattle.mark_sweeps.specs.Internal.Sweep.{Marking, Swept, ClosesIfMarked, ClosesUpTo};
+ghost use Rattle.graph_successors.specs.Internal.SuccessorIndex.{SuccessorIndex, Indexable};
 
 // Takes the mark of the hop at place i if it does not close; returns how many marks went.
 fn test_at(hops: &[u16], starts: &[u16; STARTS], marks: &mut [u8], i: usize) -> usize

@@ -19,18 +19,20 @@ use Rattle.graph.specs.Hops.{count, from, label, to, has}
 use Rattle.graph.specs.Answers.{most-hops}
 use Rattle.graph.proofs.Places.{has-at}
 use Rattle.base_fixpoint.specs.Pairs.{In}
-use Rattle.mark_confluence.specs.Rounds.{answered, closes, survives, marked}
-use Rattle.mark_confluence.specs.MarkSet.{isMarked, markOf, marksOf, everyPair}
+use Rattle.mark_confluence.specs.Internal.Rounds.{answered}
+use Rattle.mark_confluence.specs.Rounds.{closes, survives, marked}
+use Rattle.mark_confluence.specs.Internal.MarkSet.{isMarked, everyPair}
+use Rattle.mark_confluence.specs.Marks.{markOf, marksOf}
 use Rattle.mark_confluence.proofs.Rounds.{survives-none}
 use Rattle.mark_confluence.proofs.Closing.{Answered, answers-yes, closes-says}
-use Rattle.mark_diamond_retest.specs.Retest.{CleanAnswered}
+use Rattle.mark_diamond_retest.specs.Internal.Retest.{CleanAnswered}
 use Rattle.mark_confluence.proofs.Marks.{mark-one, mark-visible, marks-at, marks-capacity, marks-beyond, marks-made}
 use Rattle.mark_worklist.specs.Tests.{fell, stillMarked, affected, testedIn, testsIn, testsUpTo, testsOf}
 use Rattle.mark_worklist.proofs.Tests.{survives-closes, tested-still-marked, fell-yes, fell-place, still-marked-yes, still-marked-silent, still-marked-survives, still-marked-falls, affected-yes, affected-says, untested-survives, Stable, none-stable, stable-marked, tested-early, tests-end}
-use Rattle.mark_worklist_push.specs.Queue.{Among, Leaving, Queue, Pushed, ClosedByAny, PlacesBelow, Unset}
+use Rattle.mark_worklist_push.specs.Internal.Queue.{Among, Leaving, Queue, Pushed, ClosedByAny, PlacesBelow, Unset}
 use Rattle.mark_worklist_push.proofs.Pushing.{flag-no, queue-none}
-use Rattle.mark_worklist_round.specs.Round.{Enumerates, SkipsClean, DirtyStates, Tested, Unmarked, FallenIn}
-use Rattle.mark_worklist_loop.specs.BetweenRounds.{After}
+use Rattle.mark_worklist_round.specs.Internal.Round.{Enumerates, SkipsClean, DirtyStates, Tested, Unmarked, FallenIn}
+use Rattle.mark_worklist_loop.specs.Internal.BetweenRounds.{After}
 use Rattle.mark_worklist_round.proofs.Parts.{held-survives, mark-test, falls-all, marks-next, unmarked-none}
 
 module _ (hs : List ℕ) where

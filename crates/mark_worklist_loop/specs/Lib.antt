@@ -1,1 +1,1 @@
-pub mod BetweenRounds  -- what holds between two rounds
+pub mod Internal  -- what only private functions and proofs cite

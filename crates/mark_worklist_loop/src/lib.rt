@@ -25,11 +25,11 @@ ghost use lib.ListN.{length};
 ghost use Rattle.base_outputs.specs.Output.{onFront};
 ghost use Rattle.graph.specs.Hops.{count};
 ghost use Rattle.mark_confluence.specs.Rounds.{marked};
-ghost use Rattle.mark_confluence.specs.MarkSet.{marksOf};
-ghost use Rattle.graph_successors.specs.SuccessorIndex.{SuccessorIndex, Indexable};
+ghost use Rattle.mark_confluence.specs.Marks.{marksOf};
+ghost use Rattle.graph_successors.specs.Internal.SuccessorIndex.{SuccessorIndex, Indexable};
 ghost use Rattle.mark_worklist.specs.Tests.{testsOf};
-ghost use Rattle.mark_worklist_push.specs.Queue.{Queue};
-ghost use Rattle.mark_worklist_loop.specs.BetweenRounds.{AfterSome};
+ghost use Rattle.mark_worklist_push.specs.Internal.Queue.{Queue};
+ghost use Rattle.mark_worklist_loop.specs.Internal.BetweenRounds.{AfterSome};
 
 // The rounds after the first, in which `lost` hops fell; returns the number of all tests. The table of the hops into a state is made here, since most
 // graphs need none: nothing falls in the first round.

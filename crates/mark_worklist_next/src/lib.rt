@@ -21,8 +21,8 @@ ghost use Prim.Native.Nat.{_<_, _≤_};
 ghost use lib.ListN.{length};
 ghost use Rattle.graph.specs.Hops.{count};
 ghost use Rattle.graph.specs.Answers.{most-hops};
-ghost use Rattle.graph_successors.specs.SuccessorIndex.{Indexable};
-ghost use Rattle.mark_worklist_push.specs.Queue.{Tables, Leaving, Queue, Pushed, Trying, ClosedBy, ClosedByAny, PlacesBelow};
+ghost use Rattle.graph_successors.specs.Internal.SuccessorIndex.{Indexable};
+ghost use Rattle.mark_worklist_push.specs.Internal.Queue.{Tables, Leaving, Queue, Pushed, Trying, ClosedBy, ClosedByAny, PlacesBelow};
 
 // A state with so few hops more than lead to s4 is gone over by its own: that asks for no search where none of them is marked.
 const FEW: usize = 16;

@@ -14,8 +14,8 @@ use Rattle.base_bounded.proofs.Bools.{clash, eq-or-not, lt-or-le}
 use Rattle.base_bounded.proofs.Quantifiers.{tally-within, tally-zero, tally-less}
 use Rattle.base_bounded.proofs.Tallies.{tally-one}
 use Rattle.graph.specs.Hops.{count, from, label}
-use Rattle.mark_confluence.specs.MarkSet.{isMarked}
-use Rattle.mark_worklist_push.specs.Queue.{Among, Queue, Wanted, Pushed, OnlyPlace, Unset}
+use Rattle.mark_confluence.specs.Internal.MarkSet.{isMarked}
+use Rattle.mark_worklist_push.specs.Internal.Queue.{Among, Queue, Wanted, Pushed, OnlyPlace, Unset}
 
 -- flags, as they are set and taken
 pub flag-yes : (fs : List ℕ) (i : ℕ) → getD fs i 0 ≡ 1 → isMarked fs i ≡ true

@@ -7,12 +7,13 @@ use mathlib.Core.List.{List}
 use mathlib.Core.Logic.{_⊎_, inl, inr, ⊎-elim}
 use native.Mathlib.Omega.{arith}
 use lib.ListN.{getD}
-use Rattle.base_bounded.specs.Slots.{slot}
+use Rattle.base_bounded.specs.Internal.Slots.{slot}
 use Rattle.base_bounded.proofs.Bools.{clash, lt-or-le}
 use Rattle.base_bounded.proofs.Slots.{key-start-within, slot-in}
 use Rattle.graph.specs.Hops.{count, from, label, to, hopOf, is, has}
 use Rattle.graph.specs.Order.{Ascending}
-use Rattle.graph.specs.Search.{placed, firstOf, labelledFrom, labelledPast}
+use Rattle.graph.specs.Internal.Search.{placed, labelledFrom, labelledPast}
+use Rattle.graph.specs.Search.{firstOf}
 use Rattle.graph.specs.declared.Hop.{Hop}
 use Rattle.graph.specs.declared.Found.{Found}
 use Rattle.graph.specs.declared.Found.the-variants.{At, Gap}
@@ -21,11 +22,11 @@ use Rattle.graph.proofs.Lookup.{at-place, gap-has, one-place, first-within}
 use Rattle.graph_successors.proofs.Firsts.{start-is}
 use Rattle.graph_successors.proofs.Rows.{labelled-holds, labelled-only, silent-first}
 use Rattle.graph.specs.Answers.{most-states, most-hops}
-use Rattle.graph_predecessors.specs.PredecessorIndex.{predecessorStart, PredecessorStarts, PredecessorPlaces}
+use Rattle.graph_predecessors.specs.Internal.PredecessorIndex.{predecessorStart, PredecessorStarts, PredecessorPlaces}
 use Rattle.graph_predecessors.proofs.PredecessorIndex.{place-in}
 use Rattle.mark_confluence.specs.Rounds.{FirstPoint}
-use Rattle.mark_confluence.specs.MarkSet.{isMarked}
-use Rattle.mark_worklist_push.specs.Queue.{Tables, Leaving, Queue, Wanted, Pushed, OnlyPlace, Joining, Like, AnsweredTo, Trying, Asked, DecidesPoint, ClosedBy, ClosedByAny}
+use Rattle.mark_confluence.specs.Internal.MarkSet.{isMarked}
+use Rattle.mark_worklist_push.specs.Internal.Queue.{Tables, Leaving, Queue, Wanted, Pushed, OnlyPlace, Joining, Like, AnsweredTo, Trying, Asked, DecidesPoint, ClosedBy, ClosedByAny}
 use Rattle.mark_worklist_push.proofs.Pushing.{flag-yes, flag-says, pushed-none, pushed-then, pushed-same}
 
 -- what the steps from lo on and before k bring, if step y brings X y

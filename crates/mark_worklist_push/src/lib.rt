@@ -25,8 +25,8 @@ ghost use Prim.Native.Nat.{_<_, _≤_};
 ghost use lib.ListN.{length};
 ghost use Rattle.graph.specs.Hops.{count, label};
 ghost use Rattle.graph.specs.Answers.{most-states};
-ghost use Rattle.graph_successors.specs.SuccessorIndex.{SuccessorIndex, Indexable};
-ghost use Rattle.mark_worklist_push.specs.Queue.{Tables, Queue, Pushed, OnlyPlace, Joining, Like, AnsweredTo, Trying, Asked, DecidesPoint};
+ghost use Rattle.graph_successors.specs.Internal.SuccessorIndex.{SuccessorIndex, Indexable};
+ghost use Rattle.mark_worklist_push.specs.Internal.Queue.{Tables, Queue, Pushed, OnlyPlace, Joining, Like, AnsweredTo, Trying, Asked, DecidesPoint};
 
 // Queues the silent hop at place i if it is marked, and not queued yet; returns how long the queue is.
 fn push(

@@ -16,15 +16,17 @@ use Rattle.base_bounded.proofs.Quantifiers.{tally-none, tally-more, tally-skip}
 use Rattle.base_outputs.specs.Output.{onFront}
 use Rattle.graph.specs.Hops.{count, from, label, to}
 use Rattle.graph.specs.Answers.{most-hops}
-use Rattle.mark_confluence.specs.Rounds.{closes, closesAt, survives}
-use Rattle.mark_confluence.specs.MarkSet.{isMarked, markSet, markOf, marksOf}
+use Rattle.mark_confluence.specs.Rounds.{closes, survives}
+use Rattle.mark_confluence.specs.Internal.Rounds.{closesAt}
+use Rattle.mark_confluence.specs.Internal.MarkSet.{isMarked, markSet}
+use Rattle.mark_confluence.specs.Marks.{markOf, marksOf}
 use Rattle.mark_confluence.proofs.Rounds.{survives-silent}
 use Rattle.mark_confluence.proofs.Marks.{marks-at, marks-beyond, marks-made, mark-set-set}
 use Rattle.mark_worklist.specs.Tests.{fell, stillMarked, testedIn}
 use Rattle.mark_worklist.proofs.Tests.{survives-closes, survives-yes, still-marked-yes, still-marked-silent, still-marked-survives, still-marked-falls, tested-still-marked, untested-survives}
-use Rattle.mark_worklist_push.specs.Queue.{Among}
+use Rattle.mark_worklist_push.specs.Internal.Queue.{Among}
 use Rattle.mark_worklist_push.proofs.Pushing.{flag-yes, flag-no, flag-here, flag-there}
-use Rattle.mark_worklist_round.specs.Round.{Enumerates, DirtyStates, Tested, Unmarked, FallenIn}
+use Rattle.mark_worklist_round.specs.Internal.Round.{Enumerates, DirtyStates, Tested, Unmarked, FallenIn}
 
 -- a list of places that grows by one
 module _ (xs : List ℕ) (n v : ℕ) where

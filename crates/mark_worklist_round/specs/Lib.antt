@@ -1,1 +1,1 @@
-pub mod Round  -- what listing, testing and taking ask and leave
+pub mod Internal  -- what only private functions and proofs cite

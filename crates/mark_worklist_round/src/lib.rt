@@ -20,13 +20,13 @@ ghost use Prim.Native.Nat.{ℕ, _<_, _≤_};
 ghost use lib.ListN.{length, getD};
 ghost use Rattle.graph.specs.Hops.{count};
 ghost use Rattle.graph.specs.Answers.{most-hops};
-ghost use Rattle.mark_confluence.specs.Rounds.{closesAt};
-ghost use Rattle.mark_confluence.specs.MarkSet.{markSet};
-ghost use Rattle.graph_successors.specs.SuccessorIndex.{SuccessorIndex, Indexable};
-ghost use Rattle.mark_diamond_retest.specs.Retest.{CleanAnswered};
+ghost use Rattle.mark_confluence.specs.Internal.Rounds.{closesAt};
+ghost use Rattle.mark_confluence.specs.Internal.MarkSet.{markSet};
+ghost use Rattle.graph_successors.specs.Internal.SuccessorIndex.{SuccessorIndex, Indexable};
+ghost use Rattle.mark_diamond_retest.specs.Internal.Retest.{CleanAnswered};
 ghost use Rattle.mark_worklist.specs.Tests.{testedIn};
-ghost use Rattle.mark_worklist_push.specs.Queue.{PlacesBelow};
-ghost use Rattle.mark_worklist_round.specs.Round.{Enumerates, SkipsClean, DirtyStates, Tested, Unmarked};
+ghost use Rattle.mark_worklist_push.specs.Internal.Queue.{PlacesBelow};
+ghost use Rattle.mark_worklist_round.specs.Internal.Round.{Enumerates, SkipsClean, DirtyStates, Tested, Unmarked};
 
 // Lists the silent hops: the first round tests them all. Returns how many there are. Each place is put behind the list, and stays in it if it is silent, so
 // that nothing hangs on a branch that cannot be foreseen.

@@ -6,7 +6,8 @@ use native.Mathlib.Omega.{arith}
 use lib.ListN.{length, getD, drop, List·getD-append}
 use Rattle.base_bounded.specs.Quantifiers.{tabulate}
 use Rattle.base_outputs.specs.Output.{onFront}
-use Rattle.graph.specs.Hops.{count, from, to, flat, over}
+use Rattle.graph.specs.Hops.{count, from, to, flat}
+use Rattle.graph.specs.Internal.Hops.{over}
 use Rattle.graph.specs.Map.{mapped}
 use Rattle.graph.specs.Answers.{most-states}
 use Rattle.graph.specs.declared.Hop.{Hop}
@@ -14,14 +15,15 @@ use Rattle.graph.specs.declared.Shape.{Shape}
 use Rattle.base_bounded.proofs.Quantifiers.{tally-within, length-tabulate, getD-tabulate}
 use Rattle.graph_check.specs.Check.{Admitted}
 use Rattle.base_fixpoint.specs.Pairs.{Pairs}
-use Rattle.reduce_representatives.specs.Representative.{Terminating, isNormal, mapOf}
-use Rattle.reduce_representatives.specs.Tables.{NextTable, NewNumbers, newNumber}
+use Rattle.reduce_representatives.specs.Internal.Representative.{Terminating}
+use Rattle.reduce_representatives.specs.Representative.{isNormal, mapOf}
+use Rattle.reduce_representatives.specs.Internal.Tables.{NextTable, NewNumbers, newNumber}
 use Rattle.reduce_representatives.proofs.Mapped.{map-in}
 use Rattle.reduce_representatives.proofs.Tabled.{tabled-new}
 use Rattle.reduce_short_graph.specs.Short.{shortHops, shortShape, mapList}
-use Rattle.reduce_short_graph.specs.Tables.{allShort, AllImaged}
+use Rattle.reduce_short_graph.specs.Internal.Tables.{allShort, AllImaged}
 use Rattle.reduce_short_graph.proofs.Tabled.{tabled-list, tabled-short}
-use Rattle.reduce_by_marks.specs.ByMarks.{shortGraph, shapeBy}
+use Rattle.reduce_by_marks.specs.Internal.ByMarks.{shortGraph, shapeBy}
 use Rattle.reduce_by_marks.specs.declared.ShortGraph.{ShortGraph}
 
 -- the table of next states, the new numbers, the map from old to new and the short hops are at hand

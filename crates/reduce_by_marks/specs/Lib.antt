@@ -1,1 +1,1 @@
-pub mod ByMarks  -- what reducing along marks returns and leaves
+pub mod Internal  -- what only private functions and proofs cite

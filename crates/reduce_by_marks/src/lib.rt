@@ -17,10 +17,10 @@ ghost use Prim.Native.Nat.{_<_, _≤_};
 ghost use lib.ListN.{length};
 ghost use Rattle.graph.specs.Answers.{most-states};
 ghost use Rattle.graph_check.specs.Check.{Admitted};
-ghost use Rattle.mark_confluence.specs.MarkSet.{markSet};
-ghost use Rattle.reduce_representatives.specs.Representative.{Terminating};
-ghost use Rattle.reduce_representatives.specs.Tables.{SilentMarks};
-ghost use Rattle.reduce_by_marks.specs.ByMarks.{shapeBy, shortGraph, mapAfter, shortAfter};
+ghost use Rattle.mark_confluence.specs.Internal.MarkSet.{markSet};
+ghost use Rattle.reduce_representatives.specs.Internal.Representative.{Terminating};
+ghost use Rattle.reduce_representatives.specs.Internal.Tables.{SilentMarks};
+ghost use Rattle.reduce_by_marks.specs.Internal.ByMarks.{shapeBy, shortGraph, mapAfter, shortAfter};
 
 // The short graph besides its hops, and how many these are.
 pub struct ShortGraph {

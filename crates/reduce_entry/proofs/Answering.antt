@@ -19,9 +19,9 @@ use Rattle.graph_check.proofs.Checked.{check-admitted}
 use Rattle.walk_silent.specs.Silent.{ringAnswer}
 use Rattle.graph.proofs.Accepts.{then-first, then-next, both-accept, capacity-accepts}
 use Rattle.mark_senses.specs.Senses.{senseAnswer}
-use Rattle.reduce_representatives.specs.Tables.{Reducible}
+use Rattle.reduce_representatives.specs.Reducible.{Reducible}
 use Rattle.reduce_entry.specs.Reduce.{reduceAnswer, reduction, reduceOf, reducedMap, reducedHops, mapOutput, shortOutput}
-use Rattle.reduce_entry.specs.Refusal.{refusedReduction, laterAnswer}
+use Rattle.reduce_entry.specs.Internal.Refusal.{refusedReduction, laterAnswer}
 
 -- row 6 of both outputs
 abbrev capacity : Shape → List ℕ → ℕ → ℕ → Answer

@@ -10,23 +10,25 @@ use Rattle.graph.specs.Hops.{count, flat}
 use Rattle.graph.specs.Answers.{accepted}
 use Rattle.graph.specs.declared.Answer.{Answer}
 use Rattle.graph.specs.declared.Shape.{Shape}
-use Rattle.lts.specs.Reduction.{Confluent}
+use Rattle.lts.specs.Internal.Reduction.{Confluent}
 use Rattle.lts.specs.Closes.{Sense}
 use Rattle.lts.proofs.SenseForms.{confluent-in-weak}
 use Rattle.walk_silent.specs.Silent.{HopOf}
 use Rattle.walk_silent.proofs.Rings.{rank}
 use Rattle.base_fixpoint.specs.Pairs.{Pairs, In, Subset}
 use Rattle.mark_confluence.specs.Rounds.{silentHops}
-use Rattle.mark_confluence.specs.MarkSet.{marksOf, markSet}
+use Rattle.mark_confluence.specs.Marks.{marksOf}
+use Rattle.mark_confluence.specs.Internal.MarkSet.{markSet}
 use Rattle.mark_confluence.proofs.Marks.{marks-capacity, marks-silent, mark-set-set}
 use Rattle.mark_senses.specs.Senses.{markedIn, senseOf, markedBy}
 use Rattle.mark_senses.proofs.Marked.{in-silent, marked-confluent-in}
-use Rattle.reduce_representatives.specs.Representative.{Terminating}
-use Rattle.reduce_representatives.specs.Tables.{Reducible, SilentMarks}
+use Rattle.reduce_representatives.specs.Internal.Representative.{Terminating}
+use Rattle.reduce_representatives.specs.Reducible.{Reducible}
+use Rattle.reduce_representatives.specs.Internal.Tables.{SilentMarks}
 use Rattle.reduce_representatives.proofs.Marked.{falls, silent-terminating}
 use Rattle.reduce_short_graph.specs.Short.{shortHops, shortShape, mapList}
 use Rattle.reduce_short_graph.proofs.Images.{short-within}
-use Rattle.reduce_by_marks.specs.ByMarks.{shortGraph, mapAfter, shortAfter}
+use Rattle.reduce_by_marks.specs.Internal.ByMarks.{shortGraph, mapAfter, shortAfter}
 use Rattle.reduce_by_marks.specs.declared.ShortGraph.{ShortGraph}
 use Rattle.reduce_entry.specs.Reduce.{reduction, reducedHops}
 use Rattle.reduce_entry.specs.declared.Reduction.{Reduction}

@@ -6,12 +6,12 @@ use Rattle.graph.specs.Hops.{flat}
 use Rattle.graph_check.specs.Check.{Admitted}
 use Rattle.graph.specs.declared.Shape.{Shape}
 use Rattle.lts.specs.Closes.{Sense}
-use Rattle.lts.specs.Reduction.{Reduces}
+use Rattle.lts.specs.Internal.Reduction.{Reduces}
 use Rattle.walk_silent.specs.Silent.{HopOf}
 use Rattle.base_fixpoint.specs.Pairs.{In}
 use Rattle.mark_senses.specs.Senses.{markedIn}
 use Rattle.reduce_representatives.specs.Representative.{mapOf}
-use Rattle.reduce_representatives.specs.Tables.{Reducible}
+use Rattle.reduce_representatives.specs.Reducible.{Reducible}
 use Rattle.reduce_short_graph.specs.Short.{shortHops, shortShape}
 use Rattle.reduce_short_graph.proofs.Reduces as short
 use Rattle.reduce_short_graph.proofs.Again as again

@@ -12,7 +12,7 @@ use Rattle.lts.specs.Closes.{Sense}
 use Rattle.base_fixpoint.specs.Pairs.{In}
 use Rattle.mark_senses.specs.Senses.{markedIn}
 use Rattle.reduce_representatives.specs.Representative.{IsRepresentative, isNormal, nextState, newOf, repOf, mapOf}
-use Rattle.reduce_representatives.specs.Tables.{Reducible}
+use Rattle.reduce_representatives.specs.Reducible.{Reducible}
 use Rattle.reduce_representatives.proofs.NormalForm.{is-normal-iff, is-normal-stays, rep-is-representative}
 use Rattle.reduce_representatives.proofs.Mapped.{map-own}
 use Rattle.reduce_entry.proofs.Marked.{marked-terminating, marked-weakly}

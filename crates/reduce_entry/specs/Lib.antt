@@ -1,2 +1,2 @@
 pub mod Reduce  -- what `reduce` returns and leaves
-pub mod Refusal  -- what it returns with a refusal, and rows 19, 5 and 6
+pub mod Internal  -- what only private functions and proofs cite

@@ -15,13 +15,8 @@ use Rattle.graph.specs.declared.Shape.{Shape}
 use Rattle.graph.specs.declared.Answer.{Answer}
 use Rattle.walk_silent.specs.Silent.{ringAnswer}
 use Rattle.mark_senses.specs.Senses.{markedBy, senseAnswer}
-use Rattle.reduce_representatives.specs.Representative.{mapOf}
 use Rattle.reduce_short_graph.specs.Short.{shortHops, shortShape, mapList}
 use Rattle.reduce_entry.specs.declared.Reduction.{Reduction}
-
--- "The map gives each old state the new number of its representative", along the marked hops: map(s), and the map as a list
-abbrev pub reducedState : Shape → List ℕ → ℕ → ℕ → ℕ
-reducedState sh hs k = mapOf sh hs (markedBy k sh hs)
 
 abbrev pub reducedMap : Shape → List ℕ → ℕ → List ℕ
 reducedMap sh hs k = mapList sh hs (markedBy k sh hs)

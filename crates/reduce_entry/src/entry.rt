@@ -20,13 +20,13 @@ ghost use lib.ListN.{length};
 ghost use Rattle.base_outputs.specs.Output.{onFront};
 ghost use Rattle.graph.specs.Hops.{count, flat};
 ghost use Rattle.graph.specs.Answers.{accepted};
-ghost use Rattle.graph_successors.specs.SuccessorIndex.{SuccessorIndex, Indexed};
+ghost use Rattle.graph_successors.specs.Internal.SuccessorIndex.{SuccessorIndex, Indexed};
 ghost use Rattle.walk_silent.specs.Silent.{ringAnswer};
-ghost use Rattle.mark_confluence.specs.MarkSet.{marksOf};
+ghost use Rattle.mark_confluence.specs.Marks.{marksOf};
 ghost use Rattle.mark_senses.specs.Senses.{markedBy};
-ghost use Rattle.reduce_representatives.specs.Tables.{Reducible};
+ghost use Rattle.reduce_representatives.specs.Reducible.{Reducible};
 ghost use Rattle.reduce_entry.specs.Reduce.{reduceAnswer, reduceOf, mapOutput, shortOutput, reduction, reducedMap, reducedHops};
-ghost use Rattle.reduce_entry.specs.Refusal.{refusedReduction, laterAnswer};
+ghost use Rattle.reduce_entry.specs.Internal.Refusal.{refusedReduction, laterAnswer};
 
 // Rows 19, 5 and 6 of an admitted graph, by its table of first places.
 fn later_answer(

@@ -8,7 +8,7 @@ use native.Mathlib.Omega.{arith}
 use lib.ListN.{length, getD, set, length-set}
 use lib.Seq.{getD-set-same, getD-set-other}
 use Rattle.base_bounded.proofs.Bools.{eq-or-not}
-use Rattle.reduce_representatives.specs.Tables.{ClosedTable, RankFalls, TerminatingTable, Compressed, tableSteps}
+use Rattle.reduce_representatives.specs.Internal.Tables.{ClosedTable, RankFalls, TerminatingTable, Compressed, tableSteps}
 use Rattle.reduce_representatives.proofs.Nexts.{table-steps-rest, table-steps-in}
 
 -- nothing noted yet

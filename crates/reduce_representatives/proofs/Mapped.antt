@@ -7,7 +7,8 @@ use Rattle.base_bounded.specs.Quantifiers.{tally}
 use Rattle.graph_check.specs.Check.{InRange}
 use Rattle.graph.specs.declared.Shape.{Shape}
 use Rattle.base_fixpoint.specs.Pairs.{Pairs}
-use Rattle.reduce_representatives.specs.Representative.{Terminating, isNormal, newOf, repOf, mapOf}
+use Rattle.reduce_representatives.specs.Internal.Representative.{Terminating}
+use Rattle.reduce_representatives.specs.Representative.{isNormal, newOf, repOf, mapOf}
 use Rattle.reduce_representatives.proofs.NormalForm.{rests-next-state, after-steps-rest, after-steps-in, rep-is-normal}
 use Rattle.reduce_representatives.proofs.Numbers.{new-over}
 

@@ -17,10 +17,11 @@ use Rattle.graph.proofs.Places.{is-yes}
 use Rattle.walk_silent.specs.Silent.{HopOf, leads}
 use Rattle.walk_silent.proofs.Rings.{rank, rank-falls-accepted}
 use Rattle.base_fixpoint.specs.Pairs.{Pairs, In}
-use Rattle.mark_confluence.specs.MarkSet.{isMarked, markSet}
+use Rattle.mark_confluence.specs.Internal.MarkSet.{isMarked, markSet}
 use Rattle.mark_confluence.proofs.MarkSet.{mark-set-says, mark-set-at}
-use Rattle.reduce_representatives.specs.Representative.{Terminating}
-use Rattle.reduce_representatives.specs.Tables.{Reducible, Marks, SilentMarks}
+use Rattle.reduce_representatives.specs.Internal.Representative.{Terminating}
+use Rattle.reduce_representatives.specs.Reducible.{Reducible}
+use Rattle.reduce_representatives.specs.Internal.Tables.{Marks, SilentMarks}
 
 -- the set that marks are has its own marks
 pub mark-set-marks : {hs ms : List ℕ} → Ascending hs → SilentMarks hs ms → Marks hs (markSet hs ms) ms

@@ -15,9 +15,9 @@ use Rattle.graph.specs.Hops.{count, from, label, to}
 use Rattle.base_bounded.proofs.Bools.{eq-or-not, not-yes, not-no, and-yes, and-no-left, and-no-right}
 use Rattle.base_bounded.proofs.Quantifiers.{any-no, any-found, least-is}
 use Rattle.base_fixpoint.specs.Pairs.{Pairs}
-use Rattle.mark_confluence.specs.MarkSet.{isMarked}
+use Rattle.mark_confluence.specs.Internal.MarkSet.{isMarked}
 use Rattle.reduce_representatives.specs.Representative.{markedFrom, isNormal, nextState}
-use Rattle.reduce_representatives.specs.Tables.{ClosedTable, withNext, tableSteps}
+use Rattle.reduce_representatives.specs.Internal.Tables.{ClosedTable, withNext, tableSteps}
 use Rattle.reduce_representatives.proofs.NormalForm.{rests-next-state, moves-next-state}
 
 -- none of the places from i on and before k has a hop of s in u

@@ -17,12 +17,13 @@ use Rattle.base_bounded.proofs.Quantifiers.{any-at, any-found, least-passes, le
 use Rattle.graph.proofs.Places.{has-place}
 use Rattle.lts.specs.Star.{Star, stay, go}
 use Rattle.lts.specs.Sense.{Normal}
-use Rattle.lts.specs.Reduction.{Confluent, NormalForms}
+use Rattle.lts.specs.Internal.Reduction.{Confluent, NormalForms}
 use Rattle.lts.proofs.Star.{star→joined}
 use Rattle.lts.proofs.Confluence.{rep-normal, joined→rep}
 use Rattle.walk_silent.specs.Silent.{HopOf}
 use Rattle.base_fixpoint.specs.Pairs.{Pairs, In}
-use Rattle.reduce_representatives.specs.Representative.{Terminating, IsRepresentative, markedFrom, isNormal, nextState, afterSteps, repOf}
+use Rattle.reduce_representatives.specs.Internal.Representative.{Terminating}
+use Rattle.reduce_representatives.specs.Representative.{IsRepresentative, markedFrom, isNormal, nextState, afterSteps, repOf}
 
 module _ (hs : List ℕ) (u : Pairs) (s i : ℕ) where
   marked-from : markedFrom hs u s i ≡ true → from hs i ≡ s

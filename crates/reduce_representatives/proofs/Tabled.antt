@@ -13,8 +13,9 @@ use Rattle.graph.specs.declared.Shape.{Shape}
 use Rattle.base_fixpoint.specs.Pairs.{Pairs}
 use Rattle.base_bounded.proofs.Bools.{decided}
 use Rattle.base_bounded.proofs.Quantifiers.{tally-same}
-use Rattle.reduce_representatives.specs.Representative.{Terminating, isNormal, nextState, afterSteps, newOf, repOf, mapOf}
-use Rattle.reduce_representatives.specs.Tables.{NextTable, ClosedTable, RankFalls, TerminatingTable, NewNumbers, isFixed, tableSteps, newNumber}
+use Rattle.reduce_representatives.specs.Internal.Representative.{Terminating}
+use Rattle.reduce_representatives.specs.Representative.{isNormal, nextState, afterSteps, newOf, repOf, mapOf}
+use Rattle.reduce_representatives.specs.Internal.Tables.{NextTable, ClosedTable, RankFalls, TerminatingTable, NewNumbers, isFixed, tableSteps, newNumber}
 use Rattle.reduce_representatives.proofs.NormalForm.{rests-next-state, next-state-in, next-state-falls, after-steps-in, is-normal-stays}
 
 module _ {sh : Shape} {hs : List ℕ} {u : Pairs} (adm : Admitted sh hs) (sett : Terminating sh hs u) (next : List ℕ) (on : NextTable hs u next) where

@@ -1,7 +1,7 @@
 -- Classes and representatives (normal forms; document 01 "Reducing"; SEN-R0123, section 4), along
 -- any set u of silent hops; document 01's is the marked set. Assumes nothing: these are
 -- definitions.
-use Prim.Native.Nat.{ℕ, zero, suc, _<_, _≤_}
+use Prim.Native.Nat.{ℕ, zero, suc}
 use mathlib.Core.Path.{_≡_}
 use mathlib.Core.Bool.{Bool, true, cond, not, _&&_}
 use mathlib.Core.List.{List}
@@ -11,16 +11,7 @@ use Rattle.graph.specs.Hops.{count, from, label, to}
 use Rattle.graph.specs.declared.Shape.{Shape}
 use Rattle.lts.specs.Star.{Joined}
 use Rattle.lts.specs.Sense.{Normal}
-use Rattle.walk_silent.specs.Silent.{HopOf}
 use Rattle.base_fixpoint.specs.Pairs.{Pairs, In}
-
--- walks along the hops of u come to rest: u is a set of silent hops of the graph, and a rank of at most the state count falls along each, so that they
--- make no ring. This is all that the map and the short graph need to be made
-pub record Terminating (sh : Shape) (hs : List ℕ) (u : Pairs) : Type 0 where
-  pub silent : (s t : ℕ) → In u s t → HopOf hs s 0 t
-  pub rank : ℕ → ℕ
-  pub falls : (s t : ℕ) → In u s t → rank t < rank s
-  pub bound : (s : ℕ) → rank s ≤ sh .states
 
 -- "A class is a set of states joined by marked hops taken either way." "each class has exactly one state that no marked hop leaves: its representative"
 pub record IsRepresentative (u : Pairs) (s r : ℕ) : Type 0 where

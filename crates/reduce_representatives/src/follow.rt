@@ -11,8 +11,8 @@ ghost use Prim.Native.Nat.{_<_, _≤_};
 ghost use lib.ListN.{length};
 ghost use Rattle.graph.specs.Hops.{count, from};
 ghost use Rattle.graph.specs.Answers.{most-states};
-ghost use Rattle.mark_confluence.specs.MarkSet.{markSet};
-ghost use Rattle.reduce_representatives.specs.Tables.{Marks, IdentityTable, FromIn, NextTable, ClosedTable, TerminatingTable, Compressed, withNext, isFixed, tableSteps};
+ghost use Rattle.mark_confluence.specs.Internal.MarkSet.{markSet};
+ghost use Rattle.reduce_representatives.specs.Internal.Tables.{Marks, IdentityTable, FromIn, NextTable, ClosedTable, TerminatingTable, Compressed, withNext, isFixed, tableSteps};
 
 // A table that leads from each state to itself.
 fn identity_table() -> [u16; MOST_STATES]

@@ -12,7 +12,7 @@ ghost use lib.ListN.{length};
 ghost use Rattle.base_bounded.specs.Quantifiers.{tabulate};
 ghost use Rattle.base_outputs.specs.Output.{onFront};
 ghost use Rattle.graph.specs.Answers.{most-states};
-ghost use Rattle.reduce_representatives.specs.Tables.{ClosedTable, TerminatingTable, NewNumbers, newNumber};
+ghost use Rattle.reduce_representatives.specs.Internal.Tables.{ClosedTable, TerminatingTable, NewNumbers, newNumber};
 
 // How many states below s rest, for each s up to the one past the last: the new number of s where s rests.
 pub fn new_numbers(next: &[u16; MOST_STATES]) -> [u16; NUMBERS]

@@ -11,14 +11,15 @@ use Rattle.base_bounded.proofs.Tallies.{tally-full}
 use Rattle.graph.specs.Hops.{flat}
 use Rattle.graph.specs.declared.Shape.{Shape}
 use Rattle.graph_check.specs.Check.{Admitted}
-use Rattle.lts.specs.Reduction.{Confluent}
+use Rattle.lts.specs.Internal.Reduction.{Confluent}
 use Rattle.lts.proofs.Renumbered.{renumbered-acyclic}
 use Rattle.walk_silent.specs.Silent.{HopOf, OnRing}
 use Rattle.walk_silent.proofs.Rings.{ring-answer-iff}
 use Rattle.walk_silent.proofs.Hops.{silent-start}
 use Rattle.base_fixpoint.specs.Pairs.{Pairs, In}
-use Rattle.reduce_representatives.specs.Representative.{Terminating, isNormal, mapOf}
-use Rattle.reduce_representatives.specs.Tables.{Reducible}
+use Rattle.reduce_representatives.specs.Internal.Representative.{Terminating}
+use Rattle.reduce_representatives.specs.Representative.{isNormal, mapOf}
+use Rattle.reduce_representatives.specs.Reducible.{Reducible}
 use Rattle.reduce_representatives.proofs.NormalForm.{is-normal-normal, normal-is-normal, rep-rests}
 use Rattle.reduce_representatives.proofs.Mapped.{map-own}
 use Rattle.reduce_short_graph.specs.Short.{shortHops, shortShape}

@@ -7,7 +7,8 @@ use Rattle.graph.specs.declared.Hop.{Hop}
 use Rattle.graph.specs.declared.Shape.{Shape}
 use Rattle.graph.proofs.Places.{count-flat, flat-at}
 use Rattle.base_fixpoint.specs.Pairs.{Pairs}
-use Rattle.reduce_smallest_line.specs.Lines.{smallestLine, Smallest}
+use Rattle.reduce_smallest_line.specs.Internal.Lines.{smallestLine}
+use Rattle.reduce_smallest_line.specs.Lines.{Smallest}
 use Rattle.reduce_smallest_line.proofs.Lines.{smallest-is}
 use Rattle.reduce_insertion.proofs.Lined.{collected-line}
 use Rattle.reduce_representatives.specs.Representative.{isNormal}

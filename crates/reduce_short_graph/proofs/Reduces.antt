@@ -9,12 +9,13 @@ use Rattle.graph_check.specs.Check.{Admitted}
 use Rattle.graph.specs.declared.Shape.{Shape}
 use Rattle.base_bounded.proofs.Quantifiers.{tally-within}
 use Rattle.graph.proofs.Places.{has-at, has-place, length-flat, count-flat}
-use Rattle.lts.specs.Reduction.{Confluent, Reduces}
-use Rattle.lts.specs.Renumbered.{Renumbered}
+use Rattle.lts.specs.Internal.Reduction.{Confluent, Reduces}
+use Rattle.lts.specs.Internal.Renumbered.{Renumbered}
 use Rattle.lts.proofs.Renumbered.{renumbered-reduces}
 use Rattle.walk_silent.specs.Silent.{HopOf}
 use Rattle.base_fixpoint.specs.Pairs.{Pairs, In}
-use Rattle.reduce_representatives.specs.Representative.{Terminating, isNormal, newOf, repOf, mapOf}
+use Rattle.reduce_representatives.specs.Internal.Representative.{Terminating}
+use Rattle.reduce_representatives.specs.Representative.{isNormal, newOf, repOf, mapOf}
 use Rattle.reduce_representatives.proofs.NormalForm.{rep-is-normal, rep-rests}
 use Rattle.reduce_representatives.proofs.Numbers.{new-over, new-injective}
 use Rattle.reduce_representatives.proofs.Mapped.{rep-own, map-in}

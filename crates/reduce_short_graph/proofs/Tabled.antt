@@ -11,13 +11,14 @@ use Rattle.graph_check.specs.Check.{Admitted}
 use Rattle.graph.specs.declared.Shape.{Shape}
 use Rattle.base_fixpoint.specs.Pairs.{Pairs}
 use Rattle.reduce_insertion.proofs.Same.{collected-below}
-use Rattle.reduce_representatives.specs.Representative.{Terminating, isNormal, mapOf}
-use Rattle.reduce_representatives.specs.Tables.{NextTable, NewNumbers, isFixed, newNumber}
+use Rattle.reduce_representatives.specs.Internal.Representative.{Terminating}
+use Rattle.reduce_representatives.specs.Representative.{isNormal, mapOf}
+use Rattle.reduce_representatives.specs.Internal.Tables.{NextTable, NewNumbers, isFixed, newNumber}
 use Rattle.reduce_representatives.proofs.Mapped.{map-own}
 use Rattle.reduce_representatives.proofs.Tabled.{states-fit, tabled-stays, tabled-map}
 use Rattle.reduce_short_graph.specs.Short.{image, shortUpTo, mapList}
-use Rattle.reduce_sorted_images.specs.Ascending.{imaged}
-use Rattle.reduce_short_graph.specs.Tables.{shortBy}
+use Rattle.reduce_sorted_images.specs.Internal.Ascending.{imaged}
+use Rattle.reduce_short_graph.specs.Internal.Tables.{shortBy}
 
 listed-same : (f g : ℕ → ℕ) (n : ℕ) → ((i : ℕ) → i < n → f i ≡ g i) → tabulate n f ≡ tabulate n g
 unfolding tabulate

@@ -10,7 +10,8 @@ use lib.Dec.{ltb}
 use Rattle.base_bounded.proofs.Bools.{clash, decided, lt-or-le, eq-or-not}
 use Rattle.graph.specs.Hops.{Alike}
 use Rattle.graph.specs.declared.Hop.{Hop}
-use Rattle.reduce_smallest_line.specs.Lines.{lesserLine, mergedHop, smallestLine, Smallest}
+use Rattle.reduce_smallest_line.specs.Lines.{lesserLine, mergedHop, Smallest}
+use Rattle.reduce_smallest_line.specs.Internal.Lines.{smallestLine}
 
 -- of two lines
 pub lesser-none : (b : ℕ) → lesserLine 0 b ≡ b

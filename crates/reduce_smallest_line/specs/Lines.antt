@@ -1,6 +1,6 @@
 -- Which source line is kept where several hops become one: "the smallest nonzero line among the
 -- hops it comes from, else 0". Assumes nothing: these are definitions.
-use Prim.Native.Nat.{ℕ, zero, suc, _<_, _≤_}
+use Prim.Native.Nat.{ℕ, _<_, _≤_}
 use mathlib.Core.Path.{_≡_}
 use mathlib.Core.Bool.{Bool, true, cond}
 use lib.Dec.{eqb, ltb}
@@ -14,11 +14,6 @@ lesserLine a b = cond (eqb a 0) b (cond (eqb b 0) a (cond (ltb b a) b a))
 -- what is kept of two hops that are alike: x, with the lesser of their lines
 abbrev pub mergedHop : Hop → Hop → Hop
 mergedHop x h = linedHop (x .from) (x .label) (x .to) (lesserLine (x .line) (h .line))
-
--- "the smallest nonzero line" among the lines `line i` of the places i below n that pass, "else 0"
-unfoldable pub smallestLine : (ℕ → Bool) → (ℕ → ℕ) → ℕ → ℕ
-smallestLine pass line zero = 0
-smallestLine pass line (suc n) = cond (pass n) (lesserLine (smallestLine pass line n) (line n)) (smallestLine pass line n)
 
 -- What that is to mean: l is one of their lines if it is not 0, and none of them that is not 0 is smaller, nor is there one if l is 0
 pub record Smallest (pass : ℕ → Bool) (line : ℕ → ℕ) (n l : ℕ) : Type 0 where

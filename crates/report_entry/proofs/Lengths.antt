@@ -21,10 +21,11 @@ use Rattle.graph.specs.declared.Shape.{Shape}
 use Rattle.graph.specs.declared.Answer.{Answer}
 use Rattle.base_fixpoint.specs.Pairs.{Pairs}
 use Rattle.mark_confluence.specs.Rounds.{marked}
-use Rattle.mark_confluence.specs.MarkSet.{markOf}
+use Rattle.mark_confluence.specs.Marks.{markOf}
 use Rattle.mark_confluence.proofs.Marked.{marked-confluent}
-use Rattle.reduce_representatives.specs.Representative.{Terminating, markedFrom, isNormal, mapOf}
-use Rattle.reduce_representatives.specs.Tables.{Reducible}
+use Rattle.reduce_representatives.specs.Internal.Representative.{Terminating}
+use Rattle.reduce_representatives.specs.Representative.{markedFrom, isNormal, mapOf}
+use Rattle.reduce_representatives.specs.Reducible.{Reducible}
 use Rattle.reduce_representatives.proofs.Marked.{silent-terminating}
 use Rattle.reduce_short_graph.specs.Short.{shortHops, shortShape}
 use Rattle.reduce_short_graph.proofs.Images.{short-few}

@@ -22,14 +22,15 @@ use Rattle.graph_check.proofs.Checked.{check-admitted, admitted-check}
 use Rattle.walk_silent.specs.Silent.{ringAnswer}
 use Rattle.base_fixpoint.specs.Pairs.{In, Subset}
 use Rattle.mark_confluence.specs.Rounds.{silentHops, marked}
-use Rattle.mark_confluence.specs.MarkSet.{markSet, markOf, marksOf}
+use Rattle.mark_confluence.specs.Internal.MarkSet.{markSet}
+use Rattle.mark_confluence.specs.Marks.{markOf, marksOf}
 use Rattle.mark_confluence.proofs.Marked.{marked-confluent}
 use Rattle.mark_confluence.proofs.Marks.{marks-at}
 use Rattle.reduce_representatives.specs.Representative.{mapOf}
-use Rattle.reduce_representatives.specs.Tables.{Reducible}
+use Rattle.reduce_representatives.specs.Reducible.{Reducible}
 use Rattle.reduce_short_graph.specs.Short.{shortHops, shortShape, mapList}
 use Rattle.reduce_short_graph.proofs.Images.{short-within}
-use Rattle.reduce_by_marks.specs.ByMarks.{shortGraph, mapAfter, shortAfter}
+use Rattle.reduce_by_marks.specs.Internal.ByMarks.{shortGraph, mapAfter, shortAfter}
 use Rattle.reduce_by_marks.specs.declared.ShortGraph.{ShortGraph}
 use Rattle.reduce_entry.proofs.Marked.{after-map, after-short, after-shape, after-hops}
 use Rattle.file_fields.specs.Format.{hopsIn, shapeIn, hopListIn}
@@ -37,7 +38,7 @@ use Rattle.file_fields.proofs.Laws.{length-hop-list, count-hop-list}
 use Rattle.file_format.specs.Rows.{formatAnswer}
 use Rattle.file_read.specs.Read.{readAnswer, readOf, readHops, contentsOf, refusedContents}
 use Rattle.file_read.specs.declared.Contents.{Contents}
-use Rattle.report_text.specs.Text.{TextFits, TextPut}
+use Rattle.report_text.specs.Internal.Text.{TextFits, TextPut}
 use Rattle.report_rows.specs.Rows.{linesOf, refusalOf}
 use Rattle.report_rows.proofs.Parts.{report-same}
 use Rattle.report_entry.specs.Report.{reportOf, unlessRefused, printedGraph, printedFile, most-input, printedOf, most-text, printedIn}

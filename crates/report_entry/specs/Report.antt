@@ -12,7 +12,7 @@ use Rattle.graph.specs.declared.Shape.{Shape}
 use Rattle.graph.specs.declared.Answer.{Answer}
 use Rattle.walk_silent.specs.Silent.{ringAnswer}
 use Rattle.mark_confluence.specs.Rounds.{marked}
-use Rattle.mark_confluence.specs.MarkSet.{markOf}
+use Rattle.mark_confluence.specs.Marks.{markOf}
 use Rattle.reduce_representatives.specs.Representative.{mapOf}
 use Rattle.reduce_short_graph.specs.Short.{shortHops, shortShape}
 use Rattle.file_fields.specs.Format.{shapeIn, hopListIn}

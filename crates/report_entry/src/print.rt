@@ -17,10 +17,10 @@ ghost use mathlib.Core.Path.{_≡_};
 ghost use Prim.Native.Nat.{_≤_};
 ghost use lib.ListN.{length};
 ghost use Rattle.graph_check.specs.Check.{Admitted};
-ghost use Rattle.graph_successors.specs.SuccessorIndex.{SuccessorIndex};
-ghost use Rattle.reduce_representatives.specs.Tables.{Reducible};
+ghost use Rattle.graph_successors.specs.Internal.SuccessorIndex.{SuccessorIndex};
+ghost use Rattle.reduce_representatives.specs.Reducible.{Reducible};
 ghost use Rattle.base_outputs.specs.Output.{onFront};
-ghost use Rattle.report_text.specs.Text.{TextPut};
+ghost use Rattle.report_text.specs.Internal.Text.{TextPut};
 ghost use Rattle.report_entry.specs.Report.{most-text, reportOf, printedGraph, printedFile, printedOf, printedIn};
 
 // The longest input that is looked at.

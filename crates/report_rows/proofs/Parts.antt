@@ -6,9 +6,11 @@ use native.Mathlib.Omega.{arith}
 use borrow.Author.Tests.{eq-eqb, ne-eqb}
 use Rattle.graph.specs.Hops.{count, from, label, to, lineAt}
 use Rattle.graph.specs.declared.Shape.{Shape}
-use Rattle.report_text.specs.Text.{textLine, textLines, in-word, marked-word, map-word, out-word, hop-word, TextFits, TextPut}
+use Rattle.report_text.specs.Text.{textLine, textLines, in-word, marked-word, map-word, out-word, hop-word}
+use Rattle.report_text.specs.Internal.Text.{TextFits, TextPut}
 use Rattle.report_text.proofs.Puts.{put-same, put-then, capacity-same, capacity-first, capacity-rest}
-use Rattle.report_rows.specs.Rows.{byPlace, markedLine, markedLines, mapLine, mapLines, hopLine, hopLines, linesOf, lentLines}
+use Rattle.report_rows.specs.Internal.Rows.{byPlace, markedLines, mapLines, hopLines, lentLines}
+use Rattle.report_rows.specs.Rows.{markedLine, mapLine, hopLine, linesOf}
 
 module _ (hs : List ℕ) (mark : ℕ → ℕ) (i : ℕ) where
   pub mark-yes : mark i ≡ 1 → {f t : ℕ} → f ≡ from hs i → t ≡ to hs i → markedLine hs mark i ≡ textLine marked-word (f ∷ t ∷ [])

@@ -3,7 +3,6 @@
 use Prim.Native.Nat.{ℕ}
 use mathlib.Core.Bool.{cond}
 use mathlib.Core.List.{List, [], _∷_, _++_}
-use lib.ListN.{getD}
 use lib.Dec.{eqb}
 use Rattle.graph.specs.Hops.{count, from, label, to, lineAt}
 use Rattle.graph.specs.declared.Shape.{Shape}
@@ -22,20 +21,6 @@ mapLine map s = textLine map-word (s ∷ map s ∷ [])
 unfoldable pub hopLine : List ℕ → ℕ → List ℕ
 hopLine hs i = textLine hop-word (from hs i ∷ label hs i ∷ to hs i ∷ lineAt hs i ∷ [])
 
--- a lent list, by place
-abbrev pub byPlace : List ℕ → ℕ → ℕ
-byPlace xs i = getD xs i 0
-
--- the lines of the marked hops, of the map of n states and of the short hops, where marks and map are lent as lists
-abbrev pub markedLines : List ℕ → List ℕ → List ℕ
-markedLines hs ms = textLines (count hs) (markedLine hs (byPlace ms))
-
-abbrev pub mapLines : ℕ → List ℕ → List ℕ
-mapLines n m = textLines n (mapLine (byPlace m))
-
-abbrev pub hopLines : List ℕ → List ℕ
-hopLines short = textLines (count short) (hopLine short)
-
 -- "`in`: states, hops", the marked hops, the map, "`out`: new states, hops, initial state", the short hops; marks and map by place
 unfoldable pub linesOf : Shape → List ℕ → (ℕ → ℕ) → (ℕ → ℕ) → Shape → List ℕ → List ℕ
 linesOf sh hs mark map new short =
@@ -43,10 +28,6 @@ linesOf sh hs mark map new short =
     (textLines (count hs) (markedLine hs mark) ++
     (textLines (sh .states) (mapLine map) ++
     (textLine out-word (new .states ∷ count short ∷ new .initial ∷ []) ++ textLines (count short) (hopLine short))))
-
--- the same, where marks and map are lent as lists
-abbrev pub lentLines : Shape → List ℕ → List ℕ → List ℕ → Shape → List ℕ → List ℕ
-lentLines sh hs ms m new short = linesOf sh hs (byPlace ms) (byPlace m) new short
 
 -- "A refusal prints only `no`, number, place."
 unfoldable pub refusalOf : Answer → List ℕ

@@ -18,8 +18,9 @@ ghost use Prim.Native.Nat.{_<_, _≤_};
 ghost use lib.ListN.{length};
 ghost use Rattle.graph.specs.Answers.{most-states};
 ghost use Rattle.graph.specs.Hops.{count};
-ghost use Rattle.report_text.specs.Text.{TextFits, TextPut};
-ghost use Rattle.report_rows.specs.Rows.{byPlace, markedLine, markedLines, mapLines, hopLine, hopLines, lentLines, refusalOf};
+ghost use Rattle.report_text.specs.Internal.Text.{TextFits, TextPut};
+ghost use Rattle.report_rows.specs.Internal.Rows.{byPlace, markedLines, mapLines, hopLines, lentLines};
+ghost use Rattle.report_rows.specs.Rows.{markedLine, hopLine, refusalOf};
 
 // "A refusal prints only `no`, number, place."
 pub fn put_refusal(out: &mut [u8], at: usize, answer: Answer) -> usize

@@ -7,7 +7,8 @@ use native.Mathlib.Omega.{arith}
 use borrow.Author.Tests.{ltb-false}
 use lib.ListN.{length, getD, length-append, List·getD-append}
 use lib.Dec.{ltb}
-use Rattle.report_text.specs.Text.{digits, decimal, digitsValue}
+use Rattle.report_text.specs.Text.{digits, decimal}
+use Rattle.report_text.specs.Internal.Text.{digitsValue}
 
 -- what k digits hold
 limit : ℕ → ℕ

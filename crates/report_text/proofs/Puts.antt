@@ -9,9 +9,10 @@ use native.Mathlib.Omega.{arith}
 use borrow.Author.Tests.{lt-ltb, le-ltb}
 use lib.ListN.{length, getD, set, length-append, length-drop}
 use lib.Seq.{set-split, length-take-le}
-use Rattle.base_outputs.specs.Output.{overAt}
+use Rattle.base_outputs.specs.Internal.Output.{overAt}
 use Rattle.base_outputs.proofs.Front.{over-none, over-then}
-use Rattle.report_text.specs.Text.{digits, decimal, spaced, spacedNumbers, textLine, textLines, TextFits, TextPut}
+use Rattle.report_text.specs.Text.{digits, decimal, spaced, spacedNumbers, textLine, textLines}
+use Rattle.report_text.specs.Internal.Text.{TextFits, TextPut}
 
 length-over : (at : ℕ) (text old : List ℕ) → at + length text ≤ length old → length (overAt at text old) ≡ length old
 length-over at text old l = rw (length-append, length-append, length-drop, length-take-le at old (omega arith)) (omega arith)

@@ -1,12 +1,9 @@
 -- Printed text as bytes: numbers in decimal, lines of a word and numbers, lines one behind the
 -- other, and what it is to put a text into a buffer. Assumes nothing: these are definitions.
-use Prim.Native.Nat.{ℕ, zero, suc, _+_, _-_, _*_, _/_, _%_, _≤_}
-use mathlib.Core.Path.{_≡_}
+use Prim.Native.Nat.{ℕ, zero, suc, _+_, _/_, _%_}
 use mathlib.Core.Bool.{cond}
 use mathlib.Core.List.{List, [], _∷_, _++_}
-use lib.ListN.{length}
 use lib.Dec.{ltb}
-use Rattle.base_outputs.specs.Output.{overAt}
 
 -- the last k digits of a number at most, and no zero in front (48 is the digit 0)
 unfoldable pub digits : ℕ → ℕ → List ℕ
@@ -16,11 +13,6 @@ digits (suc k) n = cond (ltb n 10) ((48 + n) ∷ []) (digits k (n / 10) ++ ((48 
 -- 20 digits hold any 64-bit number
 unfoldable pub decimal : ℕ → List ℕ
 decimal n = digits 20 n
-
--- the number that digits show, read from the left behind a number that stands before them
-unfoldable pub digitsValue : ℕ → List ℕ → ℕ
-digitsValue before [] = before
-digitsValue before (d ∷ ds) = digitsValue (10 * before + (d - 48)) ds
 
 -- a space and a number
 unfoldable pub spaced : ℕ → List ℕ
@@ -58,12 +50,3 @@ hop-word = 104 ∷ 111 ∷ 112 ∷ []
 
 abbrev pub no-word : List ℕ
 no-word = 110 ∷ 111 ∷ []
-
--- the buffer has room for the text from place `at` on
-pub record TextFits (at : ℕ) (text buffer : List ℕ) : Type 0 where
-  pub fits : at + length text ≤ length buffer
-
--- the text was put into the buffer from place `at` on, over what was there and over nothing else; `next` is the place behind it
-pub record TextPut (old : List ℕ) (at : ℕ) (text : List ℕ) (next : ℕ) (new : List ℕ) : Type 0 where
-  pub follows : next ≡ at + length text
-  pub stands : new ≡ overAt at text old

@@ -5,7 +5,8 @@
 // Uses `base_outputs` for what a slice holds afterwards.
 use base_outputs::put_bytes;
 ghost use mathlib.Core.List.{[], _∷_};
-ghost use Rattle.report_text.specs.Text.{digits, spaced, spacedNumbers, textLine, TextFits, TextPut};
+ghost use Rattle.report_text.specs.Text.{digits, spaced, spacedNumbers, textLine};
+ghost use Rattle.report_text.specs.Internal.Text.{TextFits, TextPut};
 
 fn put_byte(out: &mut [u8], at: usize, byte: u8) -> usize
     requires { ⌜ TextFits at (byte ∷ []) (now out) ⌝ }

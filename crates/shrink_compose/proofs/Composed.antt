@@ -8,7 +8,7 @@ use Rattle.graph.specs.declared.Shape.{Shape}
 use Rattle.graph_check.specs.Check.{Admitted}
 use Rattle.lts.proofs.Compose.{reduces-compose, Reduces·refl}
 use Rattle.audit_faults.specs.Faults.{faultsOf}
-use Rattle.audit_admitted.proofs.Admitted.{Audited}
+use Rattle.audit_admitted.specs.Admitted.{Audited}
 use Rattle.audit_entry.specs.Audit.{auditOf, faultless}
 use Rattle.audit_entry.proofs.Meaning.{hop-to, zero-faults-reduces, reduces-zero}
 use Rattle.audit_entry.proofs.Answering.{faultless-iff}

@@ -1,6 +1,6 @@
 -- Composition of maps: maps put one after the other (document 02, wish 13). A map is a list, one
 -- entry a state. Assumes nothing: these are definitions.
-use Prim.Native.Nat.{ℕ, _<_}
+use Prim.Native.Nat.{ℕ}
 use mathlib.Core.List.{List}
 use lib.ListN.{length}
 use Rattle.base_bounded.specs.Quantifiers.{tabulate}
@@ -13,7 +13,3 @@ composed m n = tabulate (length m) (λ (s : ℕ). mapped n (mapped m s))
 -- each state's own number: the map from a graph to itself
 unfoldable pub identityMap : ℕ → List ℕ
 identityMap n = tabulate n (λ (s : ℕ). s)
-
--- each entry of m is below n
-abbrev pub Into : List ℕ → ℕ → Type 0
-Into m n = (s : ℕ) → s < length m → mapped m s < n

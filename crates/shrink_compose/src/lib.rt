@@ -10,7 +10,8 @@ ghost use mathlib.Core.Path.{_≡_};
 ghost use Prim.Native.Nat.{_≤_};
 ghost use lib.ListN.{length};
 ghost use Rattle.graph.specs.Answers.{most-states};
-ghost use Rattle.shrink_compose.specs.Composed.{composed, identityMap, Into};
+ghost use Rattle.shrink_compose.specs.Composed.{composed, identityMap};
+ghost use Rattle.shrink_compose.specs.Internal.Composed.{Into};
 
 // The map from a graph to itself.
 pub fn put_identity(map: &mut [u16])

@@ -12,10 +12,10 @@ use Rattle.graph.specs.declared.Shape.{Shape}
 use Rattle.graph.specs.declared.Answer.{Answer}
 use Rattle.graph.proofs.Fronts.{between-count}
 use Rattle.graph_check.specs.Check.{Admitted}
-use Rattle.reduce_representatives.specs.Tables.{Reducible}
+use Rattle.reduce_representatives.specs.Reducible.{Reducible}
 use Rattle.shrink_iterate.specs.Iterate.{Stage, lastStage}
 use Rattle.shrink_iterate.proofs.Last.{last-staged}
-use Rattle.shrink_step.specs.Progress.{stageOf}
+use Rattle.shrink_step.specs.Internal.Progress.{stageOf}
 use Rattle.shrink_entry.specs.Shrink.{shrinking}
 use Rattle.shrink_step.specs.declared.Progress.{Progress}
 use Rattle.shrink_entry.specs.declared.Shrinking.{Shrinking}

@@ -7,7 +7,7 @@ use lib.ListN.{length, take}
 use lib.Seq.{take-at}
 use Rattle.graph.specs.Hops.{count, between}
 use Rattle.graph.specs.declared.Shape.{Shape}
-use Rattle.reduce_representatives.specs.Tables.{Reducible}
+use Rattle.reduce_representatives.specs.Reducible.{Reducible}
 use Rattle.reduce_entry.specs.Reduce.{reduceAnswer}
 use Rattle.reduce_entry.proofs.Answering.{reduce-reducible}
 use Rattle.audit_entry.specs.Audit.{auditOf, faultless}

@@ -12,15 +12,16 @@ use Rattle.base_bounded.proofs.Bools.{clash, decided}
 use Rattle.graph.specs.Hops.{count, between}
 use Rattle.graph.specs.Answers.{most-states}
 use Rattle.graph.specs.declared.Shape.{Shape}
-use Rattle.reduce_representatives.specs.Tables.{Reducible}
-use Rattle.audit_admitted.proofs.Admitted.{Audited}
+use Rattle.reduce_representatives.specs.Reducible.{Reducible}
+use Rattle.audit_admitted.specs.Admitted.{Audited}
 use Rattle.audit_entry.proofs.Answering.{faultless-iff}
-use Rattle.shrink_compose.specs.Composed.{identityMap, Into}
+use Rattle.shrink_compose.specs.Composed.{identityMap}
+use Rattle.shrink_compose.specs.Internal.Composed.{Into}
 use Rattle.shrink_iterate.specs.Iterate.{Stage, nextStage, marksSome, lastOf, lastStage}
 use Rattle.shrink_iterate.proofs.Stages.{fewer-states, Staged, first-staged, next-staged}
 use Rattle.shrink_iterate.proofs.Last.{last-again, last-still}
 use Rattle.shrink_iterate.proofs.Once.{next-still}
-use Rattle.shrink_step.specs.Progress.{stageOf}
+use Rattle.shrink_step.specs.Internal.Progress.{stageOf}
 use Rattle.shrink_step.specs.declared.Progress.{Progress}
 
 -- the code stands at a stage of the repetition from the graph sh, hs under the sense k

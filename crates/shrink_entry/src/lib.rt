@@ -20,9 +20,9 @@ ghost use lib.ListN.{length};
 ghost use Rattle.base_outputs.specs.Output.{onFront};
 ghost use Rattle.graph.specs.Hops.{count, between};
 ghost use Rattle.graph.specs.Answers.{accepted};
-ghost use Rattle.reduce_representatives.specs.Tables.{Reducible};
+ghost use Rattle.reduce_representatives.specs.Reducible.{Reducible};
 ghost use Rattle.shrink_iterate.specs.Iterate.{lastStage};
-ghost use Rattle.shrink_step.specs.Progress.{stageOf};
+ghost use Rattle.shrink_step.specs.Internal.Progress.{stageOf};
 ghost use Rattle.shrink_entry.specs.Shrink.{refusedShrinking, shrinking, shrinkOf, shrinkMapOutput, shrinkHopsOutput};
 
 // What `shrink` returns: the answer, the last graph's counts and initial state, and the number of reductions that marked something (all 0 with a refusal).

@@ -9,7 +9,7 @@ use native.Mathlib.Omega.{arith}
 use Rattle.base_bounded.proofs.Bools.{decided}
 use Rattle.graph.specs.declared.Shape.{Shape}
 use Rattle.base_fixpoint.specs.Pairs.{In}
-use Rattle.reduce_representatives.specs.Tables.{Reducible}
+use Rattle.reduce_representatives.specs.Reducible.{Reducible}
 use Rattle.audit_entry.specs.Audit.{auditOf, faultless}
 use Rattle.shrink_iterate.specs.Iterate.{Stage, firstStage, nextStage, stageMarked, marksSome, iterated, lastOf, lastStage, EndsIn, still, again}
 use Rattle.shrink_iterate.proofs.Stages.{some-marked, none-marked, fewer-states, Staged, first-staged, next-staged}

@@ -14,7 +14,8 @@ use Rattle.graph.specs.declared.Shape.{Shape}
 use Rattle.graph.proofs.Places.{same-alike, alike-same, has-place, has-at}
 use Rattle.graph.proofs.Ordered.{alike-itself, alike-back, alike-then, ascending-place}
 use Rattle.base_fixpoint.specs.Pairs.{Pairs}
-use Rattle.reduce_smallest_line.specs.Lines.{smallestLine, Smallest}
+use Rattle.reduce_smallest_line.specs.Internal.Lines.{smallestLine}
+use Rattle.reduce_smallest_line.specs.Lines.{Smallest}
 use Rattle.reduce_smallest_line.proofs.Lines.{smallest-is, smallest-only}
 use Rattle.reduce_representatives.specs.Representative.{isNormal, newOf, mapOf}
 use Rattle.reduce_short_graph.specs.Short.{becomes, image, shortHops, comesFrom}

@@ -15,7 +15,7 @@ use Rattle.base_fixpoint.specs.Pairs.{Pairs, In}
 use Rattle.mark_senses.specs.Senses.{markedIn, senseOf}
 use Rattle.mark_senses.proofs.Marked.{marked-confluent-in, marked-greatest-in}
 use Rattle.reduce_representatives.specs.Representative.{mapOf}
-use Rattle.reduce_representatives.specs.Tables.{Reducible}
+use Rattle.reduce_representatives.specs.Reducible.{Reducible}
 use Rattle.reduce_representatives.proofs.NormalForm.{rep-rests}
 use Rattle.reduce_representatives.proofs.Mapped.{map-own}
 use Rattle.reduce_short_graph.specs.Short.{shortHops, shortShape}

@@ -16,7 +16,7 @@ use Rattle.graph.proofs.Places.{has-place, length-flat}
 use Rattle.base_fixpoint.specs.Pairs.{In}
 use Rattle.mark_senses.specs.Senses.{senseOf, inSetAt}
 use Rattle.mark_senses.proofs.Marked.{marked-confluent-in}
-use Rattle.reduce_representatives.specs.Tables.{Reducible}
+use Rattle.reduce_representatives.specs.Reducible.{Reducible}
 use Rattle.reduce_short_graph.proofs.Again.{short-all}
 use Rattle.reduce_entry.specs.Reduce.{reducedHops}
 use Rattle.reduce_entry.proofs.Marked.{marked-within}

@@ -10,10 +10,11 @@ use Rattle.base_outputs.specs.Output.{onFront}
 use Rattle.graph.specs.Hops.{count, from, label, to}
 use Rattle.graph.specs.declared.Shape.{Shape}
 use Rattle.base_fixpoint.specs.Pairs.{Pairs}
-use Rattle.mark_confluence.specs.MarkSet.{isMarked, markOf, marksOf}
+use Rattle.mark_confluence.specs.Internal.MarkSet.{isMarked}
+use Rattle.mark_confluence.specs.Marks.{markOf, marksOf}
 use Rattle.mark_confluence.proofs.Marks.{marks-at}
 use Rattle.mark_senses.specs.Senses.{inSetAt, markedBy}
-use Rattle.reduce_representatives.specs.Tables.{Reducible}
+use Rattle.reduce_representatives.specs.Reducible.{Reducible}
 use Rattle.shrink_iterate.specs.Iterate.{someMarked}
 
 module _ (hs : List ℕ) (u : Pairs) (ms out : List ℕ) (e : ms ≡ onFront (marksOf hs u) out) where

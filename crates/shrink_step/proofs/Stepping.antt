@@ -14,17 +14,19 @@ use Rattle.graph.proofs.Fronts.{flat-front, between-count}
 use Rattle.graph.proofs.Places.{length-flat}
 use Rattle.base_fixpoint.specs.Pairs.{Pairs, In, Subset}
 use Rattle.mark_confluence.specs.Rounds.{silentHops}
-use Rattle.mark_confluence.specs.MarkSet.{marksOf, markSet}
+use Rattle.mark_confluence.specs.Marks.{marksOf}
+use Rattle.mark_confluence.specs.Internal.MarkSet.{markSet}
 use Rattle.mark_senses.specs.Senses.{senseOf, markedBy}
 use Rattle.mark_senses.proofs.Marked.{in-silent}
 use Rattle.reduce_short_graph.specs.Short.{mapList}
-use Rattle.reduce_by_marks.specs.ByMarks.{shortGraph, mapAfter, shortAfter}
+use Rattle.reduce_by_marks.specs.Internal.ByMarks.{shortGraph, mapAfter, shortAfter}
 use Rattle.reduce_by_marks.specs.declared.ShortGraph.{ShortGraph}
-use Rattle.reduce_entry.specs.Reduce.{reducedState, reducedMap, reducedHops, reducedShape}
+use Rattle.reduce_entry.specs.Internal.Reduce.{reducedState}
+use Rattle.reduce_entry.specs.Reduce.{reducedMap, reducedHops, reducedShape}
 use Rattle.reduce_entry.proofs.Marked.{marked-within, after-shape, after-hops, after-map, after-short}
 use Rattle.shrink_compose.specs.Composed.{composed}
 use Rattle.shrink_iterate.specs.Iterate.{Stage, nextStage}
-use Rattle.shrink_step.specs.Progress.{stageOf}
+use Rattle.shrink_step.specs.Internal.Progress.{stageOf}
 use Rattle.shrink_step.specs.declared.Progress.{Progress}
 
 -- where the code stands, the part of the hops that it has marked and reduced, and what that returned

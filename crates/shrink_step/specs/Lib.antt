@@ -1,1 +1,1 @@
-pub mod Progress  -- the stage that the code holds
+pub mod Internal  -- what only private functions and proofs cite

@@ -24,12 +24,13 @@ ghost use Rattle.base_bounded.specs.Quantifiers.{any};
 ghost use Rattle.base_outputs.specs.Output.{onFront};
 ghost use Rattle.graph.specs.Hops.{count, between};
 ghost use Rattle.graph.specs.Answers.{most-states};
-ghost use Rattle.mark_confluence.specs.MarkSet.{isMarked, marksOf};
+ghost use Rattle.mark_confluence.specs.Internal.MarkSet.{isMarked};
+ghost use Rattle.mark_confluence.specs.Marks.{marksOf};
 ghost use Rattle.mark_senses.specs.Senses.{markedBy};
-ghost use Rattle.reduce_representatives.specs.Tables.{Reducible};
-ghost use Rattle.shrink_compose.specs.Composed.{Into};
+ghost use Rattle.reduce_representatives.specs.Reducible.{Reducible};
+ghost use Rattle.shrink_compose.specs.Internal.Composed.{Into};
 ghost use Rattle.shrink_iterate.specs.Iterate.{someMarked, marksSome, nextStage};
-ghost use Rattle.shrink_step.specs.Progress.{stageOf};
+ghost use Rattle.shrink_step.specs.Internal.Progress.{stageOf};
 
 // How far the repetition has come, besides the hops and the map; and whether there may be more to do.
 pub struct Progress {

@@ -7,8 +7,9 @@ use Rattle.graph_check.specs.Check.{checkOf, countsFit, inside, firstOutside, a
 use Rattle.walk_reach.specs.Reach.{leadsBy}
 use Rattle.walk_silent.specs.Silent.{onRing, lowestOnRing, ringAnswer}
 use Rattle.base_fixpoint.specs.Approximants.{approximant}
-use Rattle.mark_confluence.specs.Rounds.{survives, marked, closes, tried, answered, answers, hopAnswers, answer, closing}
-use Rattle.mark_confluence.specs.MarkSet.{marksOf, markOf}
+use Rattle.mark_confluence.specs.Rounds.{survives, marked, closes, tried, answers, hopAnswers, answer, closing}
+use Rattle.mark_confluence.specs.Internal.Rounds.{answered}
+use Rattle.mark_confluence.specs.Marks.{marksOf, markOf}
 use Rattle.mark_senses.specs.Senses.{inSetAt, reachesBy, hopOrStay, joinsAt, answersTo, answersFrom, answeredIn, closesIn, markedIn, isSense, senseOf, senseAnswer}
 use Rattle.mark_entry.specs.Mark.{markAnswer}
 use Rattle.mark_worklist.specs.Tests.{fell, stillMarked, affectedAt, affected, testedIn, testsIn, testsUpTo, testsOf}

@@ -9,7 +9,7 @@ use Rattle.graph.specs.Answers.{accepted, refused}
 use Rattle.graph.specs.declared.Hop.{Hop}
 use Rattle.graph.specs.declared.Shape.{Shape}
 use Rattle.graph.specs.declared.Answer.{Answer}
-use Rattle.mark_confluence.specs.MarkSet.{marksOf}
+use Rattle.mark_confluence.specs.Marks.{marksOf}
 use Rattle.mark_senses.specs.Senses.{markedBy}
 use Rattle.reduce_entry.specs.Reduce.{reduceAnswer, reduceOf, reducedMap, reducedHops}
 use Rattle.reduce_entry.specs.declared.Reduction.{Reduction}

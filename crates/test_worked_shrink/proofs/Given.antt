@@ -17,7 +17,8 @@ use Rattle.walk_silent.specs.Silent.{onRing, lowestOnRing, ringAnswer}
 use Rattle.base_fixpoint.specs.Approximants.{approximant}
 use Rattle.base_fixpoint.specs.Pairs.{Pairs}
 use Rattle.mark_confluence.specs.Rounds.{tried}
-use Rattle.mark_confluence.specs.MarkSet.{isMarked, markSetAt, markSet, markOf, marksOf}
+use Rattle.mark_confluence.specs.Internal.MarkSet.{isMarked, markSetAt, markSet}
+use Rattle.mark_confluence.specs.Marks.{markOf, marksOf}
 use Rattle.mark_senses.specs.Senses.{inSetAt, reachesBy, hopOrStay, joinsAt, answersTo, answersFrom, answeredIn, closesIn, markedIn, isSense, senseOf, senseAnswer}
 use Rattle.reduce_representatives.specs.Representative.{markedFrom, isNormal, nextState, afterSteps, repOf, newOf, mapOf}
 use Rattle.reduce_insertion.specs.Insertion.{insert, collected}

@@ -17,7 +17,7 @@ use Rattle.base_fixpoint.specs.Approximants.{approximant}
 use Rattle.base_fixpoint.proofs.Approximants.{post-fixed-approximant}
 use Rattle.lts.specs.Closes.{Sense}
 use Rattle.mark_confluence.specs.Rounds.{silentHops}
-use Rattle.mark_confluence.specs.MarkSet.{isMarked, markSet}
+use Rattle.mark_confluence.specs.Internal.MarkSet.{isMarked, markSet}
 use Rattle.mark_confluence.proofs.MarkSet.{mark-set-says, mark-set-yes}
 use Rattle.mark_senses.specs.Senses.{closesIn, markedIn}
 use Rattle.mark_senses.proofs.Marked.{in-silent, in-kept, in-same}

@@ -9,7 +9,7 @@ use Rattle.graph.specs.Answers.{accepted, refused}
 use Rattle.graph.specs.declared.Hop.{Hop}
 use Rattle.graph.specs.declared.Shape.{Shape}
 use Rattle.graph.specs.declared.Answer.{Answer}
-use Rattle.mark_confluence.specs.MarkSet.{marksOf}
+use Rattle.mark_confluence.specs.Marks.{marksOf}
 use Rattle.shrink_iterate.specs.Iterate.{Stage, firstStage, nextStage, stageMarked}
 use Rattle.shrink_entry.specs.Shrink.{shrinkOf, shrinkMapOutput, shrinkHopsOutput}
 use Rattle.shrink_entry.specs.declared.Shrinking.{Shrinking}

@@ -10,7 +10,8 @@ use borrow.Author.Tests.{not-true}
 use lib.ListN.{length, set, replicate, getD-replicate}
 use Rattle.graph.specs.Hops.{count, label, to, labelled}
 use Rattle.graph.specs.Order.{Ascending}
-use Rattle.graph.specs.Search.{firstOf, pastOf, labelledPast}
+use Rattle.graph.specs.Search.{firstOf, pastOf}
+use Rattle.graph.specs.Internal.Search.{labelledPast}
 use Rattle.graph_check.specs.Check.{InRange}
 use Rattle.graph.specs.declared.Shape.{Shape}
 use Rattle.base_bounded.proofs.Bools.{clash, decided, lt-or-le, or-left, or-right, or-no, or-yes, not-yes, not-no}
@@ -20,8 +21,8 @@ use Rattle.graph.proofs.Places.{labelled-yes, labelled-parts}
 use Rattle.lts.specs.Star.{stay, go}
 use Rattle.lts.proofs.Star.{one, join}
 use Rattle.walk_silent.specs.Silent.{SilentOf, OnRing, lowestOnRing}
-use Rattle.walk_reach.specs.Frontier.{visited}
-use Rattle.walk_acyclic.specs.Ranks.{endsVisited, OffRings, Ranks, Ranked}
+use Rattle.walk_reach.specs.Internal.Frontier.{visited}
+use Rattle.walk_acyclic.specs.Internal.Ranks.{endsVisited, OffRings, Ranks, Ranked}
 use Rattle.graph_successors.proofs.Rows.{labelled-holds, labelled-only, labelled-past, silent-first}
 use Rattle.walk_reach.proofs.Frontier.{visited-no, visited-set, visited-set-same, visited-set-back}
 use Rattle.walk_silent.proofs.Hops.{silent-place, silent-end}

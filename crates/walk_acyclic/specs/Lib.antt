@@ -1,1 +1,1 @@
-pub mod Ranks  -- ranked states, and how many are gained
+pub mod Internal  -- what only private functions and proofs cite

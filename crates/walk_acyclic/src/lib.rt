@@ -22,8 +22,8 @@ ghost use lib.ListN.{length};
 ghost use Rattle.graph.specs.Answers.{most-states, most-hops};
 ghost use Rattle.graph.specs.Hops.{count};
 ghost use Rattle.graph_check.specs.Check.{Admitted};
-ghost use Rattle.graph_successors.specs.SuccessorIndex.{Indexed};
-ghost use Rattle.walk_acyclic.specs.Ranks.{endsVisited, Ranks, Ranked};
+ghost use Rattle.graph_successors.specs.Internal.SuccessorIndex.{Indexed};
+ghost use Rattle.walk_acyclic.specs.Internal.Ranks.{endsVisited, Ranks, Ranked};
 
 // Whether every silent hop of v leads to a ranked state. The silent hops are the first of its hops.
 pub fn ends_ranked(

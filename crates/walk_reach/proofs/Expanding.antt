@@ -14,8 +14,8 @@ use Rattle.graph_check.specs.Check.{Admitted}
 use Rattle.graph.specs.declared.Shape.{Shape}
 use Rattle.base_bounded.proofs.Bools.{clash, eq-or-not}
 use Rattle.graph.proofs.Lookup.{range-holds, range-only, first-within}
-use Rattle.walk_reach.specs.Reach.{ChosenOf, chosenIn}
-use Rattle.walk_reach.specs.Frontier.{visited, seenWith, queueWith, tailWith, Frontier, Grown, Expanded}
+use Rattle.walk_reach.specs.Internal.Reach.{ChosenOf, chosenIn}
+use Rattle.walk_reach.specs.Internal.Frontier.{visited, seenWith, queueWith, tailWith, Frontier, Grown, Expanded}
 use Rattle.walk_reach.proofs.Frontier.{grown-self, grown-visit, visited-with, visited-kept}
 
 -- the byte of a hop tells whether it is chosen

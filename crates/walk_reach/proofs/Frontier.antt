@@ -12,8 +12,8 @@ use lib.Seq.{drop-cons, set-at, getD-set-same, getD-set-other, drop-set-lt}
 use Rattle.base_bounded.specs.Quantifiers.{tally}
 use Rattle.base_bounded.proofs.Bools.{clash, eq-or-not}
 use Rattle.base_bounded.proofs.Quantifiers.{tally-less, tally-within}
-use Rattle.walk_reach.specs.Reach.{ChosenOf}
-use Rattle.walk_reach.specs.Frontier.{visited, seenWith, queueWith, tailWith, Frontier, Grown}
+use Rattle.walk_reach.specs.Internal.Reach.{ChosenOf}
+use Rattle.walk_reach.specs.Internal.Frontier.{visited, seenWith, queueWith, tailWith, Frontier, Grown}
 
 -- the first i bytes are 0 and the others are as they were
 module _ (l : List ℕ) where

@@ -15,7 +15,8 @@ use Rattle.base_bounded.proofs.Bools.{and-left, and-right, and-yes, or-left, or
 use Rattle.base_bounded.proofs.Quantifiers.{any-at, any-found, any-same}
 use Rattle.base_bounded.proofs.Chains.{Falling, Still, still-at-last}
 use Rattle.lts.specs.Star.{Star, stay, go}
-use Rattle.walk_reach.specs.Reach.{ChosenOf, leadsBy}
+use Rattle.walk_reach.specs.Internal.Reach.{ChosenOf}
+use Rattle.walk_reach.specs.Reach.{leadsBy}
 
 -- one more hop in front: by the chosen hop at place i, and then by at most k
 abbrev step : List ℕ → (ℕ → Bool) → ℕ → ℕ → ℕ → ℕ → Bool

@@ -16,8 +16,9 @@ use Rattle.base_bounded.proofs.Bools.{clash, eq-or-not, no-test}
 use Rattle.base_bounded.proofs.Quantifiers.{length-tabulate, getD-tabulate, tally-within}
 use Rattle.lts.specs.Star.{Star, stay, go}
 use Rattle.lts.proofs.Star.{one, join}
-use Rattle.walk_reach.specs.Reach.{ChosenOf, leadsBy}
-use Rattle.walk_reach.specs.Frontier.{visited, reachedBytes, seenWith, queueWith, tailWith, Frontier, Expanded}
+use Rattle.walk_reach.specs.Internal.Reach.{ChosenOf}
+use Rattle.walk_reach.specs.Reach.{leadsBy}
+use Rattle.walk_reach.specs.Internal.Frontier.{visited, reachedBytes, seenWith, queueWith, tailWith, Frontier, Expanded}
 use Rattle.walk_reach.proofs.Leads.{chosen-end, leads-self, leads-walk, walk-leads}
 use Rattle.walk_reach.proofs.Frontier.{length-cleared, visited-no, visited-one, visited-set-same, visited-set-back, front-new}
 

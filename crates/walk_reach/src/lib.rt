@@ -15,8 +15,8 @@ ghost use mathlib.Core.Bool.{false};
 ghost use mathlib.Core.List.{_++_};
 ghost use Prim.Native.Nat.{_<_, _≤_};
 ghost use lib.ListN.{length, drop, replicate};
-ghost use Rattle.walk_reach.specs.Reach.{chosenIn};
-ghost use Rattle.walk_reach.specs.Frontier.{visited, reachedBytes, seenWith, queueWith, tailWith, Chosen, Space, Frontier, Expanded};
+ghost use Rattle.walk_reach.specs.Internal.Reach.{chosenIn};
+ghost use Rattle.walk_reach.specs.Internal.Frontier.{visited, reachedBytes, seenWith, queueWith, tailWith, Chosen, Space, Frontier, Expanded};
 
 // No state is noted.
 fn clear(seen: &mut [u8], n: usize)

@@ -16,9 +16,9 @@ use Rattle.graph.proofs.Places.{has-place, place-has}
 use Rattle.lts.specs.Star.{stay, go}
 use Rattle.lts.proofs.Star.{one, join}
 use Rattle.walk_silent.specs.Silent.{SilentOf, Leads, OnRing, silentAt, leads, onRing}
-use Rattle.walk_reach.specs.Reach.{chosenIn, Chooses}
-use Rattle.walk_reach.specs.Frontier.{visited, reachedBytes}
-use Rattle.walk_rings.specs.Ring.{leadsBackAt}
+use Rattle.walk_reach.specs.Internal.Reach.{chosenIn, Chooses}
+use Rattle.walk_reach.specs.Internal.Frontier.{visited, reachedBytes}
+use Rattle.walk_rings.specs.Internal.Ring.{leadsBackAt}
 use Rattle.walk_silent.proofs.Leads.{leads-walk, walk-leads, visited-leads}
 use Rattle.walk_silent.proofs.Rings.{ring-walk, walk-ring}
 

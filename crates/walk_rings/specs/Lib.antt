@@ -1,1 +1,1 @@
-pub mod Ring  -- a hop that leads back
+pub mod Internal  -- what only private functions and proofs cite

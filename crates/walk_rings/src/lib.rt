@@ -24,12 +24,12 @@ ghost use lib.ListN.{length};
 ghost use Rattle.base_bounded.specs.Quantifiers.{any};
 ghost use Rattle.graph.specs.Hops.{count};
 ghost use Rattle.graph_check.specs.Check.{Admitted};
-ghost use Rattle.graph_successors.specs.SuccessorIndex.{Indexed};
-ghost use Rattle.walk_reach.specs.Frontier.{Space};
+ghost use Rattle.graph_successors.specs.Internal.SuccessorIndex.{Indexed};
+ghost use Rattle.walk_reach.specs.Internal.Frontier.{Space};
 ghost use Rattle.walk_silent.specs.Silent.{onRing, lowestOnRing, ringAnswer};
-ghost use Rattle.walk_silent.specs.SilentBytes.{SilentChosen};
-ghost use Rattle.walk_acyclic.specs.Ranks.{Ranks};
-ghost use Rattle.walk_rings.specs.Ring.{leadsBackAt};
+ghost use Rattle.walk_silent.specs.Internal.SilentBytes.{SilentChosen};
+ghost use Rattle.walk_acyclic.specs.Internal.Ranks.{Ranks};
+ghost use Rattle.walk_rings.specs.Internal.Ring.{leadsBackAt};
 
 // Whether the hop at the place leads silently from a noted state to s.
 fn returns_at(shape: Shape, hops: &[u16], i: usize, s: OldState, seen: &[u8]) -> bool

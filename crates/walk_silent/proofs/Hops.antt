@@ -9,7 +9,7 @@ use Rattle.graph.specs.Hops.{count, to, labelled}
 use Rattle.graph_check.specs.Check.{InRange}
 use Rattle.graph.specs.declared.Shape.{Shape}
 use Rattle.graph.proofs.Places.{has-place, place-has, labelled-yes, labelled-parts}
-use Rattle.walk_reach.specs.Reach.{ChosenOf}
+use Rattle.walk_reach.specs.Internal.Reach.{ChosenOf}
 use Rattle.walk_reach.proofs.Leads.{chosen-start, chosen-end}
 use Rattle.walk_silent.specs.Silent.{SilentOf, silentAt}
 

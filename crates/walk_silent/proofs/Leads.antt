@@ -7,8 +7,8 @@ use mathlib.Core.Logic.{_↔_}
 use Rattle.graph_check.specs.Check.{InRange}
 use Rattle.graph.specs.declared.Shape.{Shape}
 use Rattle.lts.proofs.Star.{star-mono}
-use Rattle.walk_reach.specs.Reach.{chosenIn, Chooses}
-use Rattle.walk_reach.specs.Frontier.{visited, reachedBytes}
+use Rattle.walk_reach.specs.Internal.Reach.{chosenIn, Chooses}
+use Rattle.walk_reach.specs.Internal.Frontier.{visited, reachedBytes}
 use Rattle.walk_reach.proofs.Leads as by
 use Rattle.walk_reach.proofs.Search.{visited-reached}
 use Rattle.walk_silent.specs.Silent.{Leads, silentAt, leads}

@@ -1,2 +1,2 @@
 pub mod Silent  -- silent hops, what they lead to, rings, and the answer of row 5
-pub mod SilentBytes  -- the silent hops as bytes
+pub mod Internal  -- what only private functions and proofs cite

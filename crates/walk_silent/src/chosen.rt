@@ -7,7 +7,7 @@ ghost use mathlib.Core.Bool.{cond};
 ghost use Prim.Native.Nat.{_<_, _≤_};
 ghost use Rattle.graph.specs.Hops.{count};
 ghost use Rattle.graph.specs.Answers.{most-hops};
-ghost use Rattle.walk_reach.specs.Reach.{Chooses};
+ghost use Rattle.walk_reach.specs.Internal.Reach.{Chooses};
 ghost use Rattle.walk_silent.specs.Silent.{silentAt};
 
 // 1 for a silent hop, 0 for a visible one.

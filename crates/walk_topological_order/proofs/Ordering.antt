@@ -20,12 +20,12 @@ use Rattle.graph_check.specs.Check.{InRange}
 use Rattle.walk_silent.specs.Silent.{ringAnswer}
 use Rattle.walk_silent.proofs.Hops.{silent-here}
 use Rattle.walk_silent.proofs.Rings.{rank, rank-falls-accepted}
-use Rattle.walk_reach.specs.Frontier.{visited}
+use Rattle.walk_reach.specs.Internal.Frontier.{visited}
 use Rattle.walk_reach.proofs.Frontier.{visited-no, visited-set, visited-set-same, visited-set-back, visited-set-other}
-use Rattle.walk_acyclic.specs.Ranks.{endsVisited}
+use Rattle.walk_acyclic.specs.Internal.Ranks.{endsVisited}
 use Rattle.walk_acyclic.proofs.Ranks.{ends-at}
-use Rattle.walk_topological_order.specs.TopologicalOrder.{TopologicalOrder}
-use Rattle.walk_topological_order.specs.Ordering.{passState, RowAppended, isOrdered, OrderedSoFar, Stuck, PlacedOrStuck, more, none, OnlyState}
+use Rattle.walk_topological_order.specs.Internal.TopologicalOrder.{TopologicalOrder}
+use Rattle.walk_topological_order.specs.Internal.Ordering.{passState, RowAppended, isOrdered, OrderedSoFar, Stuck, PlacedOrStuck, more, none, OnlyState}
 use Rattle.walk_topological_order.specs.declared.Counts.{Counts}
 
 -- a silent hop of a placed state

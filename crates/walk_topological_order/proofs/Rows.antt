@@ -13,11 +13,12 @@ use Rattle.base_bounded.proofs.Quantifiers.{tally-more}
 use Rattle.base_bounded.proofs.Tallies.{tally-past}
 use Rattle.graph.specs.Hops.{count, label, labelled}
 use Rattle.graph.specs.Order.{Ascending}
-use Rattle.graph.specs.Search.{firstOf, pastOf, labelledPast}
+use Rattle.graph.specs.Search.{firstOf, pastOf}
+use Rattle.graph.specs.Internal.Search.{labelledPast}
 use Rattle.graph.proofs.Places.{labelled-parts}
 use Rattle.graph_successors.proofs.Firsts.{range-more}
 use Rattle.graph_successors.proofs.Rows.{labelled-holds, labelled-only, labelled-past, silent-first}
-use Rattle.walk_topological_order.specs.Ordering.{RowAppended}
+use Rattle.walk_topological_order.specs.Internal.Ordering.{RowAppended}
 
 -- the places from lo up to i, all of silent hops of v, stand behind the first n of the line, which has r then
 pub record Putting (hs : List ℕ) (v lo : ℕ) (sorted : List ℕ) (n : ℕ) (sorted′ : List ℕ) (i r : ℕ) : Type 0 where

@@ -21,9 +21,9 @@ ghost use lib.ListN.{length};
 ghost use Rattle.graph.specs.Hops.{count, labelled};
 ghost use Rattle.base_bounded.specs.Quantifiers.{tally};
 ghost use Rattle.walk_silent.specs.Silent.{ringAnswer};
-ghost use Rattle.graph_successors.specs.SuccessorIndex.{Indexed};
-ghost use Rattle.walk_topological_order.specs.TopologicalOrder.{TopologicalOrder};
-ghost use Rattle.walk_topological_order.specs.Ordering.{passState, RowAppended, OrderedSoFar, PlacedOrStuck, OnlyState, PassGains};
+ghost use Rattle.graph_successors.specs.Internal.SuccessorIndex.{Indexed};
+ghost use Rattle.walk_topological_order.specs.Internal.TopologicalOrder.{TopologicalOrder};
+ghost use Rattle.walk_topological_order.specs.Internal.Ordering.{passState, RowAppended, OrderedSoFar, PlacedOrStuck, OnlyState, PassGains};
 
 // How far it has come: how many states are placed, and how many places stand in the line.
 pub struct Counts {

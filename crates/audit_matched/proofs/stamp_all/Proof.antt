@@ -5,7 +5,7 @@ use mathlib.Core.Path.{_≡_}
 use native.Mathlib.Omega.{arith}
 use lib.ListN.{length}
 use Rattle.graph.specs.Search.{firstOf}
-use Rattle.audit_matched.specs.Stamps.{StampedUpTo, StampedFrom}
+use Rattle.audit_matched.specs.Internal.Stamps.{StampedUpTo, StampedFrom}
 use Rattle.audit_matched.proofs.Rows.{stamped-first, stamped-last}
 use Rattle.audit_matched.proofs.stamp_all.Statement.{statement}
 use Rattle.audit_matched.proofs.stamp_all.Tie as tie

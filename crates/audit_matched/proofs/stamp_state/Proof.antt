@@ -14,7 +14,7 @@ use Rattle.base_bounded.proofs.Bools.{and-yes, and-left, and-right}
 use Rattle.graph.proofs.Lookup.{first-within}
 use Rattle.graph_successors.proofs.Firsts.{first-next, start-is}
 use Rattle.graph.specs.Map.{mapped}
-use Rattle.audit_matched.specs.Stamps.{StampedFrom}
+use Rattle.audit_matched.specs.Internal.Stamps.{StampedFrom}
 use Rattle.audit_matched.proofs.Rows.{on-none, on-done, state-skipped, state-more}
 use Rattle.audit_matched.proofs.stamp_state.Statement.{statement}
 use Rattle.audit_matched.proofs.stamp_state.Tie as tie

@@ -10,7 +10,7 @@ use Rattle.graph.specs.Search.{firstOf}
 use Rattle.base_bounded.proofs.Quantifiers.{least-more, least-found}
 use Rattle.graph.proofs.Lookup.{first-within}
 use Rattle.graph_successors.proofs.Firsts.{first-next, start-is}
-use Rattle.audit_unmatched.specs.States.{unstamped}
+use Rattle.audit_unmatched.specs.Internal.States.{unstamped}
 use Rattle.audit_unmatched.proofs.Own.{first-begins, first-ends}
 use Rattle.audit_unmatched.proofs.first_unstamped.Statement.{statement}
 use Rattle.audit_unmatched.proofs.first_unstamped.Tie as tie

@@ -10,7 +10,7 @@ use Rattle.base_bounded.specs.Quantifiers.{total}
 use Rattle.base_bounded.proofs.Quantifiers.{total-none, total-more, total-done}
 use Rattle.graph.specs.Hops.{count}
 use Rattle.graph.specs.Answers.{most-states}
-use Rattle.audit_unmatched.specs.States.{Fresh, unmatchedOf}
+use Rattle.audit_unmatched.specs.Internal.States.{Fresh, unmatchedOf}
 use Rattle.audit_unmatched.proofs.Unmatched.{by-states, partial-most}
 use Rattle.audit_unmatched.proofs.Keeping.{Kept, kept-none, kept-before, kept-later, kept-first}
 use Rattle.audit_unmatched.proofs.unmatched_faults.Statement.{statement}

@@ -12,7 +12,7 @@ use Rattle.base_bounded.proofs.Quantifiers.{least-within, tally-more, tally-ski
 use Rattle.base_bounded.proofs.Least.{tally-least}
 use Rattle.graph.proofs.Lookup.{first-within}
 use Rattle.graph_successors.proofs.Firsts.{start-is}
-use Rattle.audit_unmatched.specs.States.{unstamped}
+use Rattle.audit_unmatched.specs.Internal.States.{unstamped}
 use Rattle.audit_unmatched.proofs.Own.{count-ends}
 use Rattle.audit_unmatched.proofs.unstamped_from.Statement.{statement}
 use Rattle.audit_unmatched.proofs.unstamped_from.Tie as tie

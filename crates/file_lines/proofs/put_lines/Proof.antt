@@ -5,7 +5,7 @@ use native.Mathlib.Omega.{arith}
 use borrow.Author.Needs.{needs}
 use lib.ListN.{length}
 use Rattle.graph.specs.Hops.{count}
-use Rattle.base_outputs.specs.Output.{overAt}
+use Rattle.base_outputs.specs.Internal.Output.{overAt}
 use Rattle.file_numbers.specs.Parts.{parts}
 use Rattle.file_lines.specs.LineField.{linePlace}
 use Rattle.file_lines.proofs.Laws.{lineBytes, lines-none, lines-more, lines-done}

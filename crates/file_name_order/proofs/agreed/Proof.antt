@@ -5,8 +5,7 @@ use native.Mathlib.Omega.{arith}
 use borrow.Author.Count.{below-none}
 use borrow.Author.Needs.{needs}
 use lib.ListN.{getD}
-use Rattle.file_name_order.specs.Pair.{Lies}
-use Rattle.file_name_order.specs.Pair.{Agree}
+use Rattle.file_name_order.specs.Internal.Pair.{Lies, Agree}
 use Rattle.file_name_order.proofs.Fours.{agree-more}
 use Rattle.file_name_order.proofs.agreed.Statement.{statement}
 use Rattle.file_name_order.proofs.agreed.Tie as tie

@@ -4,11 +4,11 @@ use mathlib.Core.Path.{_≡_, refl, _∙_}
 use native.Mathlib.Omega.{arith}
 use borrow.Author.Needs.{needs}
 use lib.ListN.{length, getD, length-set, length-replicate, getD-replicate}
-use Rattle.base_bounded.specs.Slots.{keyCount}
+use Rattle.base_bounded.specs.Internal.Slots.{keyCount}
 use Rattle.base_bounded.proofs.Slots.{key-count-none, key-count-within, key-count-step}
 use Rattle.graph.specs.Hops.{count, to}
 use Rattle.graph.specs.Answers.{most-states}
-use Rattle.graph_predecessors.specs.PredecessorIndex.{InDegrees}
+use Rattle.graph_predecessors.specs.Internal.PredecessorIndex.{InDegrees}
 use Rattle.graph_predecessors.proofs.ends_of.Statement.{statement}
 use Rattle.graph_predecessors.proofs.ends_of.Tie as tie
 

@@ -5,12 +5,12 @@ use mathlib.Core.List.{List}
 use native.Mathlib.Omega.{arith}
 use borrow.Author.Needs.{needs}
 use lib.ListN.{length, getD, length-set, length-replicate}
-use Rattle.base_bounded.specs.Slots.{keyCount, slot}
+use Rattle.base_bounded.specs.Internal.Slots.{keyCount, slot}
 use Rattle.base_bounded.proofs.Slots.{key-count-none, key-count-step, slot-next, slot-step}
 use Rattle.graph.specs.Hops.{count, to}
 use Rattle.graph.specs.Answers.{most-states, most-hops}
-use Rattle.graph_successors.specs.SuccessorIndex.{Indexable}
-use Rattle.graph_predecessors.specs.PredecessorIndex.{predecessorStart, PredecessorStarts, PredecessorPlaces}
+use Rattle.graph_successors.specs.Internal.SuccessorIndex.{Indexable}
+use Rattle.graph_predecessors.specs.Internal.PredecessorIndex.{predecessorStart, PredecessorStarts, PredecessorPlaces}
 use Rattle.graph_predecessors.proofs.fill.Statement.{statement}
 use Rattle.graph_predecessors.proofs.fill.Tie as tie
 

@@ -5,12 +5,12 @@ use native.Mathlib.Omega.{arith}
 use borrow.Author.Needs.{needs}
 use lib.ListN.{length, getD, length-set}
 use lib.Seq.{getD-set-other}
-use Rattle.base_bounded.specs.Slots.{keyCount}
+use Rattle.base_bounded.specs.Internal.Slots.{keyCount}
 use Rattle.base_bounded.proofs.Slots.{key-start-zero, key-start-step, key-start-within}
 use Rattle.graph.specs.Hops.{count, to}
 use Rattle.graph.specs.Answers.{most-states}
 use Rattle.graph_successors.proofs.Firsts.{filled-more}
-use Rattle.graph_predecessors.specs.PredecessorIndex.{predecessorStart, InDegrees, PredecessorStarts}
+use Rattle.graph_predecessors.specs.Internal.PredecessorIndex.{predecessorStart, InDegrees, PredecessorStarts}
 use Rattle.graph_predecessors.proofs.predecessor_starts.Statement.{statement}
 use Rattle.graph_predecessors.proofs.predecessor_starts.Tie as tie
 

@@ -2,7 +2,8 @@
 use borrow.Author.Needs.{needs}
 use mathlib.Core.Path.{_∙_}
 use native.Mathlib.Omega.{arith}
-use Rattle.graph.specs.Search.{firstOf, labelledFrom}
+use Rattle.graph.specs.Search.{firstOf}
+use Rattle.graph.specs.Internal.Search.{labelledFrom}
 use Rattle.graph_successors.proofs.Firsts.{start-is}
 use Rattle.graph_successors.proofs.labelled_from.Statement.{statement}
 use Rattle.graph_successors.proofs.labelled_from.Tie as tie

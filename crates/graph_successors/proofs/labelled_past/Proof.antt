@@ -1,6 +1,6 @@
 -- `graph_successors::labelled_past` meets its contract. Assumes nothing.
 use borrow.Author.Needs.{needs}
-use Rattle.graph.specs.Search.{labelledPast}
+use Rattle.graph.specs.Internal.Search.{labelledPast}
 use Rattle.graph_successors.proofs.labelled_past.Statement.{statement}
 use Rattle.graph_successors.proofs.labelled_past.Tie as tie
 

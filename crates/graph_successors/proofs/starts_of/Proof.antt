@@ -6,7 +6,7 @@ use lib.ListN.{length, getD, length-set, length-replicate}
 use Rattle.graph.specs.Search.{firstOf}
 use Rattle.graph.specs.Answers.{most-states}
 use Rattle.graph.proofs.Lookup.{first-within}
-use Rattle.graph_successors.specs.SuccessorIndex.{SuccessorIndex}
+use Rattle.graph_successors.specs.Internal.SuccessorIndex.{SuccessorIndex}
 use Rattle.graph_successors.proofs.Firsts.{first-is, filled-more}
 use Rattle.graph_successors.proofs.starts_of.Statement.{statement}
 use Rattle.graph_successors.proofs.starts_of.Tie as tie

@@ -2,7 +2,7 @@
 use mathlib.Core.Path.{_≡_}
 use mathlib.Core.Bool.{true, false}
 use borrow.Author.Needs.{needs}
-use Rattle.mark_batch_filter.specs.Filtered.{fails}
+use Rattle.mark_batch_filter.specs.Internal.Filtered.{fails}
 use Rattle.mark_batch_filter.proofs.Filtering.{stays-unmarked, stays-fitting, falls-here}
 use Rattle.mark_batch_filter.proofs.filter_at.Statement.{statement}
 use Rattle.mark_batch_filter.proofs.filter_at.Tie as tie

@@ -9,8 +9,8 @@ use Rattle.base_bounded.specs.Quantifiers.{all}
 use Rattle.graph.specs.Answers.{most-states}
 use Rattle.graph.specs.Hops.{from, to}
 use Rattle.graph.specs.declared.Hop.{Hop}
-use Rattle.base_bitset.specs.Bits.{bitAt, bitIn, word-bits}
-use Rattle.mark_batch_filter.specs.Filtered.{fits}
+use Rattle.base_bitset.specs.Internal.Bits.{bitAt, bitIn, word-bits}
+use Rattle.mark_batch_filter.specs.Internal.Filtered.{fits}
 use Rattle.mark_batch_filter.proofs.fits_at.Statement.{statement}
 use Rattle.mark_batch_filter.proofs.fits_at.Tie as tie
 

@@ -1,7 +1,7 @@
 -- `mark_batch_spread::marked_at` meets its contract: the test is the definition. Assumes nothing.
 use mathlib.Core.Path.{refl}
 use borrow.Author.Needs.{needs}
-use Rattle.mark_confluence.specs.MarkSet.{isMarked}
+use Rattle.mark_confluence.specs.Internal.MarkSet.{isMarked}
 use Rattle.mark_batch_spread.proofs.marked_at.Statement.{statement}
 use Rattle.mark_batch_spread.proofs.marked_at.Tie as tie
 

@@ -5,7 +5,7 @@ use lib.ListN.{length-replicate}
 use borrow.Author.Needs.{needs}
 use Rattle.graph.specs.Answers.{most-hops}
 use Rattle.graph_successors.proofs.Firsts.{admitted-indexable}
-use Rattle.mark_confluence.specs.MarkSet.{everyPair}
+use Rattle.mark_confluence.specs.Internal.MarkSet.{everyPair}
 use Rattle.mark_confluence.proofs.Marks.{marks-over}
 use Rattle.mark_sweeps.proofs.Fixpoint.{first-marking}
 use Rattle.mark_senses.specs.Senses.{senseOf, markedBy}

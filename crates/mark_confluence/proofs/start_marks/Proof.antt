@@ -9,7 +9,8 @@ use Rattle.base_bounded.specs.Quantifiers.{tabulate}
 use Rattle.graph.specs.Hops.{count}
 use Rattle.base_outputs.specs.Output.{onFront}
 use Rattle.base_outputs.proofs.Front.{tabulate-none, tabulate-more, tabulate-done}
-use Rattle.mark_confluence.specs.MarkSet.{markOf, marksOf, everyPair}
+use Rattle.mark_confluence.specs.Marks.{markOf, marksOf}
+use Rattle.mark_confluence.specs.Internal.MarkSet.{everyPair}
 use Rattle.mark_confluence.proofs.Marks.{first-silent, first-visible, length-so-far}
 use Rattle.mark_confluence.proofs.start_marks.Statement.{statement}
 use Rattle.mark_confluence.proofs.start_marks.Tie as tie

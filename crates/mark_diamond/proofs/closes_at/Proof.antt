@@ -11,8 +11,8 @@ use borrow.Author.Tests.{not-false}
 use Rattle.graph.specs.Hops.{from, label, to}
 use Rattle.graph.specs.Answers.{most-states}
 use Rattle.mark_confluence.specs.Rounds.{closing, answers, tried}
-use Rattle.mark_confluence.specs.MarkSet.{markSet}
-use Rattle.mark_diamond.specs.Skipped.{Skipped}
+use Rattle.mark_confluence.specs.Internal.MarkSet.{markSet}
+use Rattle.mark_diamond.specs.Internal.Skipped.{Skipped}
 use Rattle.graph_successors.proofs.Firsts.{start-is}
 use Rattle.graph_successors.proofs.Rows.{row-absent}
 use Rattle.mark_diamond.proofs.Rows.{own-in, Walk, walk-start, walk-past, walk-row, walk-skip, walk-pass, likeAt, Beside, beside-start, beside-next, like-has, answered-stays, tried-before, tried-done, tried-fails, tried-next}

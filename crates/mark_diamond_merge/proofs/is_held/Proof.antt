@@ -1,6 +1,6 @@
 -- `mark_diamond_merge::is_held` meets its contract: the code is the definition. Assumes nothing.
 use borrow.Author.Needs.{needs}
-use Rattle.mark_confluence.specs.MarkSet.{isMarked}
+use Rattle.mark_confluence.specs.Internal.MarkSet.{isMarked}
 use Rattle.mark_diamond_merge.proofs.is_held.Statement.{statement}
 use Rattle.mark_diamond_merge.proofs.is_held.Tie as tie
 

@@ -6,7 +6,7 @@ use native.Mathlib.Omega.{arith}
 use borrow.Author.Needs.{needs}
 use Rattle.graph.specs.Hops.{to, hopOf}
 use Rattle.mark_confluence.specs.Rounds.{closing}
-use Rattle.mark_confluence.specs.MarkSet.{markSet}
+use Rattle.mark_confluence.specs.Internal.MarkSet.{markSet}
 use Rattle.graph_successors.proofs.Firsts.{start-is, range-more}
 use Rattle.graph_successors.proofs.Rows.{row-absent}
 use Rattle.mark_confluence.proofs.Closing.{closing-is, closing-same}

@@ -9,7 +9,7 @@ use borrow.Author.Tests.{ne-eqb}
 use Rattle.graph.specs.Hops.{from, to}
 use Rattle.graph.specs.Answers.{most-states}
 use Rattle.mark_confluence.specs.Rounds.{closing, answers, tried}
-use Rattle.mark_confluence.specs.MarkSet.{markSet, isMarked}
+use Rattle.mark_confluence.specs.Internal.MarkSet.{markSet, isMarked}
 use Rattle.graph_successors.proofs.Firsts.{start-is}
 use Rattle.mark_diamond.proofs.Rows.{Own, own-start, own-in, own-from, own-next, tried-before, tried-done, tried-fails, tried-next}
 use Rattle.mark_diamond_retest.proofs.Rows.{clean-at}

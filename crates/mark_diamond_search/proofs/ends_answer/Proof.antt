@@ -5,7 +5,7 @@ use mathlib.Core.Logic.{⊎-elim}
 use native.Mathlib.Omega.{arith}
 use borrow.Author.Needs.{needs}
 use borrow.Author.Tests.{eq-eqb, ne-eqb}
-use Rattle.mark_confluence.specs.MarkSet.{isMarked}
+use Rattle.mark_confluence.specs.Internal.MarkSet.{isMarked}
 use Rattle.base_bounded.proofs.Bools.{clash}
 use Rattle.graph_successors.proofs.Firsts.{start-is}
 use Rattle.mark_diamond_search.proofs.Ends.{leads-is, Passed, itself-answers, passed-start, passed-in, marked-answers, passed-next, passed-ends}

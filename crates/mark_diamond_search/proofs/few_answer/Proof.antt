@@ -6,7 +6,7 @@ use native.Mathlib.Omega.{arith}
 use borrow.Author.Needs.{needs}
 use Rattle.graph.specs.Hops.{to}
 use Rattle.mark_confluence.specs.Rounds.{closing}
-use Rattle.mark_confluence.specs.MarkSet.{markSet}
+use Rattle.mark_confluence.specs.Internal.MarkSet.{markSet}
 use Rattle.graph_successors.proofs.Firsts.{range-more}
 use Rattle.mark_confluence.proofs.Closing.{closing-is}
 use Rattle.mark_diamond_merge.proofs.Rows.{row-answers, row-ends}

@@ -1,7 +1,7 @@
 -- `mark_diamond_search::holds` meets its contract: the search finds the one place where the hop can stand. Assumes nothing.
 use borrow.Author.Needs.{needs}
 use native.Mathlib.Omega.{arith}
-use Rattle.mark_confluence.specs.MarkSet.{isMarked}
+use Rattle.mark_confluence.specs.Internal.MarkSet.{isMarked}
 use Rattle.mark_confluence.proofs.MarkSet.{mark-set-found, mark-set-missing}
 use Rattle.mark_diamond_search.proofs.holds.Statement.{statement}
 use Rattle.mark_diamond_search.proofs.holds.Tie as tie

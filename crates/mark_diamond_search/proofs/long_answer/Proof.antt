@@ -8,7 +8,7 @@ use lib.ListN.{getD}
 use Rattle.graph.specs.Hops.{count}
 use Rattle.graph.specs.Answers.{most-states}
 use Rattle.graph.proofs.Lookup.{first-within}
-use Rattle.graph_successors.specs.SuccessorIndex.{SuccessorIndex, Indexable}
+use Rattle.graph_successors.specs.Internal.SuccessorIndex.{SuccessorIndex, Indexable}
 use Rattle.graph_successors.proofs.Firsts.{start-is}
 use Rattle.mark_diamond_search.proofs.long_answer.Statement.{statement}
 use Rattle.mark_diamond_search.proofs.long_answer.Tie as tie

@@ -48,7 +48,7 @@ use Rattle.graph.proofs.Answer.Laws as R′
 use Rattle.graph.proofs.Shape as S
 use Rattle.graph.proofs.Shape.Laws as S′
 use Rattle.graph.proofs.Hop as T
-use Rattle.mark_entry_records.specs.Records.{unlessOver}
+use Rattle.mark_entry_records.specs.Internal.Records.{unlessOver}
 use Rattle.mark_entry_records.proofs.Flats.{unless-over, check-over}
 use Rattle.mark_entry_records.proofs.Flattening.{records, records-val, Records, Flattened, FlatOf, to-flat-of, goes-flat-of, said-flat-of}
 use Rattle.mark_entry_records.proofs.flat_of as flat-of

@@ -50,7 +50,8 @@ use denote.Triple.Clauses.{ensured, lasts}
 use denote.Triple.Table.{entered, cited}
 use denote.Triple.Walked.{says, Stays, stay-none-slice, walkOf, goes-none-slice, Walks, ends-at, walked, walk-meets}
 use denote.Exit.{yes}
-use Rattle.graph.specs.Hops.{numbers-a-hop, count, between, noHop, flat, over, put as putᴴ}
+use Rattle.graph.specs.Hops.{numbers-a-hop, count, between, flat}
+use Rattle.graph.specs.Internal.Hops.{noHop, over, put as putᴴ}
 use Rattle.graph.specs.Answers.{most-hops, most-numbers}
 use Rattle.graph.specs.declared.Hop.{Hop}
 use Rattle.graph.proofs.Fronts.{over-flat}

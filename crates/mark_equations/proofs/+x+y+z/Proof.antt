@@ -7,14 +7,16 @@ use mathlib.Core.Bool.{true, false}
 use native.Mathlib.Omega.{arith}
 use lib.ListN.{length, length-set}
 use Rattle.graph.specs.Hops.{count, from, label, to}
-use Rattle.graph.specs.Search.{firstOf, pastOf, labelledFrom}
+use Rattle.graph.specs.Search.{firstOf, pastOf}
+use Rattle.graph.specs.Internal.Search.{labelledFrom}
 use Rattle.graph.specs.Answers.{most-states, most-labels}
 use Rattle.graph.proofs.Lookup.{past-within}
 use Rattle.graph_successors.proofs.Firsts.{start-is, range-more}
 use Rattle.graph_successors.proofs.Rows.{labelled-within}
-use Rattle.mark_confluence.specs.Rounds.{closing, answered, survives}
+use Rattle.mark_confluence.specs.Rounds.{closing, survives}
+use Rattle.mark_confluence.specs.Internal.Rounds.{answered}
 use Rattle.mark_confluence.proofs.Closing.{closing-same, closing-is}
-use Rattle.mark_equations.specs.Known.{Right}
+use Rattle.mark_equations.specs.Internal.Known.{Right}
 use Rattle.mark_equations.proofs.Known.{says, write}
 use Rattle.mark_equations.proofs.Equations.{Through, closes-all, closes-not, answered-hop, answered-last, answered-no, passed-answered, found-silent, closing-at, closing-none, no-round, one-round}
 use borrow.Fn.Kinds.{In}

@@ -7,9 +7,9 @@ use lib.ListN.{length}
 use lib.Dec.{ltb}
 use Rattle.base_bounded.specs.Quantifiers.{tally}
 use Rattle.graph.specs.Hops.{count}
-use Rattle.mark_confluence.specs.MarkSet.{isMarked}
-use Rattle.mark_worklist_push.specs.Queue.{Tables, Leaving, Queue, PlacesBelow}
-use Rattle.mark_worklist_loop.specs.BetweenRounds.{AfterSome}
+use Rattle.mark_confluence.specs.Internal.MarkSet.{isMarked}
+use Rattle.mark_worklist_push.specs.Internal.Queue.{Tables, Leaving, Queue, PlacesBelow}
+use Rattle.mark_worklist_loop.specs.Internal.BetweenRounds.{AfterSome}
 use Rattle.mark_worklist_loop.proofs.Rounds.{pushed-lists, pushed-most, pushed-spared, lists-listed, tested-queue, next-falls, after-next, leaving-next, after-less, after-early, after-tests, after-marks, tests-most}
 use Rattle.mark_worklist_loop.proofs.later_rounds.Statement.{statement}
 use Rattle.mark_worklist_loop.proofs.later_rounds.Tie as tie

@@ -7,7 +7,7 @@ use Rattle.base_bounded.proofs.Bools.{clash}
 use Rattle.mark_confluence.specs.Rounds.{survives, marked}
 use Rattle.mark_confluence.proofs.Marks.{marks-over}
 use Rattle.graph.specs.Answers.{most-hops}
-use Rattle.mark_worklist_round.specs.Round.{SkipsClean}
+use Rattle.mark_worklist_round.specs.Internal.Round.{SkipsClean}
 use Rattle.mark_worklist_loop.proofs.Rounds.{after-first, after-still, after-itself, after-tests, after-marks, first-queue, lists-listed, lists-most, tested-inside, zeros-unset}
 use borrow.Author.Needs.{needs}
 use Rattle.mark_worklist_loop.proofs.mark_rounds.Statement.{statement}

@@ -8,8 +8,8 @@ use borrow.Author.Needs.{needs}
 use lib.ListN.{length, length-set, length-replicate}
 use Rattle.graph.specs.Hops.{count, from}
 use Rattle.graph.specs.Answers.{most-states}
-use Rattle.mark_confluence.specs.MarkSet.{isMarked}
-use Rattle.mark_worklist_push.specs.Queue.{Leaving}
+use Rattle.mark_confluence.specs.Internal.MarkSet.{isMarked}
+use Rattle.mark_worklist_push.specs.Internal.Queue.{Leaving}
 use Rattle.mark_worklist_push.proofs.Pushing.{leaving-more, leaving-skip}
 use Rattle.mark_worklist_next.proofs.leaving_of.Statement.{statement}
 use Rattle.mark_worklist_next.proofs.leaving_of.Tie as tie

@@ -4,7 +4,7 @@ use mathlib.Core.Path.{refl}
 use native.Mathlib.Omega.{arith}
 use lib.ListN.{getD}
 use Rattle.graph.specs.Hops.{count}
-use Rattle.mark_worklist_push.specs.Queue.{PlacesBelow, Pushed}
+use Rattle.mark_worklist_push.specs.Internal.Queue.{PlacesBelow, Pushed}
 use Rattle.mark_worklist_push.proofs.Walks.{Walked, walk-none, walk-more, Falls, falls-at, falls-all}
 use Rattle.mark_worklist_next.proofs.next_queue.Statement.{statement}
 use Rattle.mark_worklist_next.proofs.next_queue.Tie as tie

@@ -5,9 +5,9 @@ use native.Mathlib.Omega.{arith}
 use borrow.Author.Needs.{needs}
 use Rattle.base_bounded.proofs.Slots.{key-start-step, key-start-within}
 use Rattle.graph.specs.Hops.{count, to}
-use Rattle.graph_predecessors.specs.PredecessorIndex.{predecessorStart}
+use Rattle.graph_predecessors.specs.Internal.PredecessorIndex.{predecessorStart}
 use Rattle.graph_predecessors.proofs.PredecessorIndex.{place-in}
-use Rattle.mark_worklist_push.specs.Queue.{Pushed}
+use Rattle.mark_worklist_push.specs.Internal.Queue.{Pushed}
 use Rattle.mark_worklist_push.proofs.Walks.{Walked, walk-none, walk-more, Into, into-at, into-all, begin-is}
 use Rattle.mark_worklist_push.proofs.push_answers.Statement.{statement}
 use Rattle.mark_worklist_push.proofs.push_answers.Tie as tie

@@ -4,11 +4,12 @@ use mathlib.Core.Path.{_≡_, refl, _∙_}
 use native.Mathlib.Omega.{arith}
 use borrow.Author.Needs.{needs}
 use Rattle.graph.specs.Hops.{from}
-use Rattle.graph.specs.Search.{firstOf, labelledPast}
+use Rattle.graph.specs.Search.{firstOf}
+use Rattle.graph.specs.Internal.Search.{labelledPast}
 use Rattle.graph.proofs.Places.{labelled-parts}
 use Rattle.graph_successors.proofs.Firsts.{start-is}
 use Rattle.graph_successors.proofs.Rows.{labelled-rising, labelled-only, silent-first}
-use Rattle.mark_worklist_push.specs.Queue.{Pushed, Asked}
+use Rattle.mark_worklist_push.specs.Internal.Queue.{Pushed, Asked}
 use Rattle.mark_worklist_push.proofs.Walks.{Walked, walk-none, walk-more, out-all}
 use Rattle.mark_worklist_push.proofs.push_out.Statement.{statement}
 use Rattle.mark_worklist_push.proofs.push_out.Tie as tie

@@ -6,8 +6,8 @@ use borrow.Author.Needs.{needs}
 use lib.ListN.{length, getD, length-set, length-replicate}
 use Rattle.graph.specs.Hops.{count}
 use Rattle.graph.specs.Answers.{most-states}
-use Rattle.mark_worklist_push.specs.Queue.{PlacesBelow}
-use Rattle.mark_worklist_round.specs.Round.{DirtyStates}
+use Rattle.mark_worklist_push.specs.Internal.Queue.{PlacesBelow}
+use Rattle.mark_worklist_round.specs.Internal.Round.{DirtyStates}
 use Rattle.mark_worklist_round.proofs.Parts.{dirty-more}
 use Rattle.mark_worklist_round.proofs.dirty_of.Statement.{statement}
 use Rattle.mark_worklist_round.proofs.dirty_of.Tie as tie

@@ -6,8 +6,8 @@ use native.Mathlib.Omega.{arith}
 use borrow.Author.Tests.{not-true, not-false}
 use lib.ListN.{getD}
 use Rattle.graph.specs.Hops.{count}
-use Rattle.mark_worklist_push.specs.Queue.{PlacesBelow}
-use Rattle.mark_worklist_round.specs.Round.{SkipsClean, Tested}
+use Rattle.mark_worklist_push.specs.Internal.Queue.{PlacesBelow}
+use Rattle.mark_worklist_round.specs.Internal.Round.{SkipsClean, Tested}
 use Rattle.mark_worklist_round.proofs.Parts.{tested-none, tested-closes, tested-falls}
 use Rattle.mark_worklist_round.proofs.test_queue.Statement.{statement}
 use Rattle.mark_worklist_round.proofs.test_queue.Tie as tie

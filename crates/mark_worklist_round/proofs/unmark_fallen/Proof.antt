@@ -3,7 +3,7 @@ use Prim.Native.Nat.{_-_, _≤_}
 use mathlib.Core.Path.{_≡_, refl}
 use native.Mathlib.Omega.{arith}
 use lib.ListN.{length, length-set}
-use Rattle.mark_worklist_round.specs.Round.{Unmarked}
+use Rattle.mark_worklist_round.specs.Internal.Round.{Unmarked}
 use Rattle.mark_worklist_round.proofs.Parts.{unmarked-none, unmarked-more}
 use Rattle.mark_worklist_round.proofs.unmark_fallen.Statement.{statement}
 use Rattle.mark_worklist_round.proofs.unmark_fallen.Tie as tie

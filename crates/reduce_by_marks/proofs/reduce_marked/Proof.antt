@@ -1,6 +1,6 @@
 -- `reduce_by_marks::reduce_marked` meets its contract: the tables hold what the definitions say. Assumes nothing.
 use native.Mathlib.Omega.{arith}
-use Rattle.reduce_representatives.specs.Tables.{FromIn}
+use Rattle.reduce_representatives.specs.Internal.Tables.{FromIn}
 use Rattle.reduce_representatives.proofs.Marked.{mark-set-marks}
 use Rattle.reduce_representatives.proofs.Tabled.{tabled-closed, tabled-terminating}
 use Rattle.reduce_by_marks.proofs.Tabled.{reduced-map, reduced-images, reduced-short, reduced-returns}

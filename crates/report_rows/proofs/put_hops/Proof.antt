@@ -4,7 +4,8 @@ use mathlib.Core.Path.{_≡_, refl}
 use native.Mathlib.Omega.{arith}
 use lib.ListN.{length}
 use Rattle.graph.specs.Hops.{count}
-use Rattle.report_text.specs.Text.{textLines, TextPut}
+use Rattle.report_text.specs.Text.{textLines}
+use Rattle.report_text.specs.Internal.Text.{TextPut}
 use Rattle.report_rows.specs.Rows.{hopLine}
 use Rattle.report_text.proofs.Puts.{lines-none, lines-capacity, lines-more, lines-done}
 use borrow.Author.Needs.{needs}

@@ -3,8 +3,8 @@ use Prim.Native.Nat.{_-_, _≤_}
 use mathlib.Core.Path.{_≡_, refl, sym}
 use native.Mathlib.Omega.{arith}
 use lib.ListN.{length}
-use Rattle.report_text.specs.Text.{TextPut}
-use Rattle.report_rows.specs.Rows.{mapLines}
+use Rattle.report_text.specs.Internal.Text.{TextPut}
+use Rattle.report_rows.specs.Internal.Rows.{mapLines}
 use Rattle.report_text.proofs.Puts.{put-same, capacity-same, lines-none, lines-capacity, lines-more, lines-done}
 use Rattle.report_rows.proofs.Parts.{map-parts}
 use borrow.Author.Needs.{needs}

@@ -1,7 +1,7 @@
 -- `report_rows::put_mark` meets its contract. Assumes nothing.
 use mathlib.Core.Path.{sym}
 use Rattle.report_text.proofs.Puts.{put-none, put-same, capacity-same}
-use Rattle.report_rows.specs.Rows.{byPlace}
+use Rattle.report_rows.specs.Internal.Rows.{byPlace}
 use Rattle.report_rows.proofs.Parts.{mark-yes, mark-no}
 use borrow.Author.Needs.{needs}
 use Rattle.report_rows.proofs.put_mark.Statement.{statement}

@@ -3,7 +3,8 @@ use Prim.Native.Nat.{_-_, _≤_}
 use mathlib.Core.Path.{_≡_, refl, sym}
 use native.Mathlib.Omega.{arith}
 use lib.ListN.{length}
-use Rattle.report_text.specs.Text.{textLines, TextPut}
+use Rattle.report_text.specs.Text.{textLines}
+use Rattle.report_text.specs.Internal.Text.{TextPut}
 use Rattle.report_text.proofs.Puts.{put-same, capacity-same, spacedAt, numbered-lines, lines-none, lines-capacity, lines-more, lines-done}
 use borrow.Author.Needs.{needs}
 use Rattle.report_text.proofs.put_numbers.Statement.{statement}

@@ -11,7 +11,8 @@ use Rattle.graph.specs.Answers.{most-states}
 use Rattle.graph.specs.Map.{mapped}
 use Rattle.base_outputs.specs.Output.{onFront}
 use Rattle.base_outputs.proofs.Front.{front-past, front-all, tabulate-none, tabulate-more, tabulate-done}
-use Rattle.shrink_compose.specs.Composed.{composed, Into}
+use Rattle.shrink_compose.specs.Composed.{composed}
+use Rattle.shrink_compose.specs.Internal.Composed.{Into}
 use Rattle.shrink_compose.proofs.put_composed.Statement.{statement}
 use Rattle.shrink_compose.proofs.put_composed.Tie as tie
 

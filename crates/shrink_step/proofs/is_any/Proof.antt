@@ -7,7 +7,7 @@ use borrow.Author.Tests.{eq-eqb, ne-eqb}
 use lib.ListN.{length}
 use Rattle.base_bounded.specs.Quantifiers.{any}
 use Rattle.base_bounded.proofs.Quantifiers.{any-none, any-more, any-found, any-done}
-use Rattle.mark_confluence.specs.MarkSet.{isMarked}
+use Rattle.mark_confluence.specs.Internal.MarkSet.{isMarked}
 use Rattle.shrink_step.proofs.is_any.Statement.{statement}
 use Rattle.shrink_step.proofs.is_any.Tie as tie
 

@@ -8,9 +8,9 @@ use Rattle.graph.specs.Hops.{count, label, to}
 use Rattle.graph.specs.Search.{firstOf}
 use Rattle.graph.specs.Answers.{most-states}
 use Rattle.graph_successors.proofs.Firsts.{start-is, range-more}
-use Rattle.walk_reach.specs.Frontier.{visited}
+use Rattle.walk_reach.specs.Internal.Frontier.{visited}
 use Rattle.walk_reach.proofs.Frontier.{visited-yes, visited-no}
-use Rattle.walk_acyclic.specs.Ranks.{endsVisited}
+use Rattle.walk_acyclic.specs.Internal.Ranks.{endsVisited}
 use Rattle.walk_acyclic.proofs.Ranks.{row-within, ends-fails, ends-all}
 use Rattle.walk_acyclic.proofs.ends_ranked.Statement.{statement}
 use Rattle.walk_acyclic.proofs.ends_ranked.Tie as tie

@@ -6,7 +6,7 @@ use native.Mathlib.Nat.{lt-of-lt-of-le, le-of-lt, le-trans}
 use native.Mathlib.Omega.{arith}
 use lib.ListN.{length}
 use Rattle.graph.specs.Hops.{count}
-use Rattle.walk_acyclic.specs.Ranks.{Ranks, Ranked}
+use Rattle.walk_acyclic.specs.Internal.Ranks.{Ranks, Ranked}
 use Rattle.walk_acyclic.proofs.Ranks.{ranked-none, ranks-later, ranked-join, ranked-within}
 use Rattle.walk_acyclic.proofs.rank_from.Statement.{statement}
 use Rattle.walk_acyclic.proofs.rank_from.Tie as tie

@@ -6,7 +6,7 @@ use borrow.Author.Needs.{needs}
 use borrow.Author.Tests.{not-false}
 use lib.ListN.{length, length-set}
 use Rattle.walk_reach.proofs.Frontier.{visited-no}
-use Rattle.walk_acyclic.specs.Ranks.{endsVisited}
+use Rattle.walk_acyclic.specs.Internal.Ranks.{endsVisited}
 use Rattle.walk_acyclic.proofs.Ranks.{ranked-none, ranked-one}
 use Rattle.walk_acyclic.proofs.rank_one.Statement.{statement}
 use Rattle.walk_acyclic.proofs.rank_one.Tie as tie

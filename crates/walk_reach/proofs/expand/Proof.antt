@@ -6,9 +6,9 @@ use native.Mathlib.Omega.{arith}
 use borrow.Author.Needs.{needs}
 use Rattle.graph.specs.Answers.{most-states}
 use Rattle.graph.specs.declared.Shape.{Shape}
-use Rattle.walk_reach.specs.Reach.{chosenIn}
+use Rattle.walk_reach.specs.Internal.Reach.{chosenIn}
 use Rattle.graph_successors.proofs.Firsts.{start-is}
-use Rattle.walk_reach.specs.Frontier.{Frontier}
+use Rattle.walk_reach.specs.Internal.Frontier.{Frontier}
 use Rattle.walk_reach.proofs.Frontier.{front-capacity}
 use Rattle.walk_reach.proofs.Expanding.{chosen-yes, chosen-no, Range, Passed, place-within, end-within, passed-none, passed-more, passed-over, passed-all}
 use Rattle.walk_reach.proofs.expand.Statement.{statement}

@@ -3,7 +3,7 @@ use Prim.Native.Nat.{ℕ, _-_}
 use mathlib.Core.List.{List}
 use native.Mathlib.Omega.{arith}
 use borrow.Author.Needs.{needs}
-use Rattle.walk_reach.specs.Reach.{chosenIn}
+use Rattle.walk_reach.specs.Internal.Reach.{chosenIn}
 use Rattle.walk_reach.proofs.Search.{Search, search-tail, search-starts, search-steps, search-ends}
 use Rattle.walk_reach.proofs.reach.Statement.{statement}
 use Rattle.walk_reach.proofs.reach.Tie as tie

@@ -5,7 +5,7 @@ use native.Mathlib.Omega.{arith}
 use borrow.Author.Needs.{needs}
 use Prim.Native.Nat.{_<_}
 use lib.ListN.{length}
-use Rattle.walk_reach.specs.Frontier.{visited, seenWith, queueWith, tailWith}
+use Rattle.walk_reach.specs.Internal.Frontier.{visited, seenWith, queueWith, tailWith}
 use Rattle.walk_reach.proofs.Frontier.{visited-yes, visited-no}
 use Rattle.walk_reach.proofs.visit.Statement.{statement}
 use Rattle.walk_reach.proofs.visit.Tie as tie

@@ -4,7 +4,7 @@ use borrow.Author.Needs.{needs}
 use Rattle.walk_reach.proofs.Frontier.{visited-yes}
 use Rattle.base_bounded.specs.Quantifiers.{any}
 use Rattle.graph.specs.Hops.{count}
-use Rattle.walk_rings.specs.Ring.{leadsBackAt}
+use Rattle.walk_rings.specs.Internal.Ring.{leadsBackAt}
 use Rattle.walk_silent.proofs.Rings.{no-ring-test}
 use Rattle.walk_rings.proofs.Back.{back-ring}
 use Rattle.walk_rings.proofs.is_on_ring.Statement.{statement}

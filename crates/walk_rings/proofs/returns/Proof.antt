@@ -7,7 +7,7 @@ use borrow.Author.Needs.{needs}
 use Rattle.base_bounded.specs.Quantifiers.{any}
 use Rattle.graph.specs.Hops.{count}
 use Rattle.base_bounded.proofs.Quantifiers.{any-none, any-more, any-found, any-done}
-use Rattle.walk_rings.specs.Ring.{leadsBackAt}
+use Rattle.walk_rings.specs.Internal.Ring.{leadsBackAt}
 use Rattle.walk_rings.proofs.returns.Statement.{statement}
 use Rattle.walk_rings.proofs.returns.Tie as tie
 

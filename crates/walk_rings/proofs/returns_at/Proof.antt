@@ -1,8 +1,8 @@
 -- `walk_rings::returns_at` meets its contract: the code is the definition. Assumes nothing.
 use native.Mathlib.Omega.{arith}
 use borrow.Author.Needs.{needs}
-use Rattle.walk_reach.specs.Frontier.{visited}
-use Rattle.walk_rings.specs.Ring.{leadsBackAt}
+use Rattle.walk_reach.specs.Internal.Frontier.{visited}
+use Rattle.walk_rings.specs.Internal.Ring.{leadsBackAt}
 use Rattle.walk_rings.proofs.returns_at.Statement.{statement}
 use Rattle.walk_rings.proofs.returns_at.Tie as tie
 

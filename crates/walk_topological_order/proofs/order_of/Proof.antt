@@ -5,7 +5,7 @@ use native.Mathlib.Omega.{arith}
 use borrow.Author.Needs.{needs}
 use lib.ListN.{length, length-replicate}
 use Rattle.graph.specs.Answers.{most-states}
-use Rattle.walk_topological_order.specs.Ordering.{OrderedSoFar}
+use Rattle.walk_topological_order.specs.Internal.Ordering.{OrderedSoFar}
 use Rattle.walk_topological_order.proofs.Ordering.{ordered-none, ordered-whole}
 use Rattle.walk_topological_order.proofs.order_of.Statement.{statement}
 use Rattle.walk_topological_order.proofs.order_of.Tie as tie

@@ -4,7 +4,7 @@ use mathlib.Core.Path.{_≡_, refl, _∙_}
 use native.Mathlib.Omega.{arith}
 use borrow.Author.Needs.{needs}
 use lib.ListN.{length}
-use Rattle.walk_topological_order.specs.Ordering.{OrderedSoFar, PlacedOrStuck}
+use Rattle.walk_topological_order.specs.Internal.Ordering.{OrderedSoFar, PlacedOrStuck}
 use Rattle.walk_topological_order.proofs.Ordering.{PassState, placed-or-stuck-none, placed-or-stuck-more, pass-state-below, pass-more}
 use Rattle.walk_topological_order.proofs.place_each.Statement.{statement}
 use Rattle.walk_topological_order.proofs.place_each.Tie as tie

@@ -7,10 +7,10 @@ use native.Mathlib.Omega.{arith}
 use borrow.Author.Needs.{needs}
 use borrow.Author.Tests.{not-true, not-false}
 use lib.ListN.{length, length-set}
-use Rattle.walk_reach.specs.Frontier.{visited}
+use Rattle.walk_reach.specs.Internal.Frontier.{visited}
 use Rattle.walk_reach.proofs.Frontier.{visited-yes, visited-no}
-use Rattle.walk_acyclic.specs.Ranks.{endsVisited}
-use Rattle.walk_topological_order.specs.Ordering.{more}
+use Rattle.walk_acyclic.specs.Internal.Ranks.{endsVisited}
+use Rattle.walk_topological_order.specs.Internal.Ordering.{more}
 use Rattle.walk_topological_order.proofs.Ordering.{placed-or-stuck-placed, placed-or-stuck-unready, ordered-states, row-fits, ordered-one}
 use Rattle.walk_topological_order.proofs.place_one.Statement.{statement}
 use Rattle.walk_topological_order.proofs.place_one.Tie as tie

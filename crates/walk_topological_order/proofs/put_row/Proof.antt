@@ -10,7 +10,7 @@ use Rattle.graph.specs.Answers.{most-states, most-hops}
 use Rattle.graph.proofs.Lookup.{first-within, range-only}
 use Rattle.graph.proofs.Places.{labelled-yes}
 use Rattle.graph_successors.proofs.Firsts.{start-is}
-use Rattle.walk_topological_order.specs.Ordering.{RowAppended}
+use Rattle.walk_topological_order.specs.Internal.Ordering.{RowAppended}
 use Rattle.walk_topological_order.proofs.Rows.{Putting, putting-none, putting-capacity, putting-more, putting-done, row-result, put-result}
 use Rattle.walk_topological_order.proofs.put_row.Statement.{statement}
 use Rattle.walk_topological_order.proofs.put_row.Tie as tie

@@ -5,7 +5,7 @@ use native.Mathlib.Omega.{arith}
 use Rattle.graph.specs.declared.Hop.{Hop}
 use Rattle.graph.specs.declared.Found.{Found}
 use Rattle.graph.specs.declared.Found.the-variants.{At, Gap}
-use Rattle.audit_faults.specs.Images.{placeOf, imageOf}
+use Rattle.audit_faults.specs.Internal.Images.{placeOf, imageOf}
 use Rattle.audit_faults.proofs.Mapping.{found-within, image-result}
 use Rattle.audit_faults.proofs.images.image_at.Statement.{statement}
 use Rattle.audit_faults.proofs.images.image_at.Tie as tie

@@ -6,7 +6,7 @@ use lib.ListN.{length, getD, length-set, length-replicate}
 use Rattle.graph.specs.Hops.{count}
 use Rattle.graph.specs.Answers.{most-hops}
 use Rattle.graph_successors.proofs.Firsts.{filled-more}
-use Rattle.audit_faults.specs.Images.{imageOf, Imaged}
+use Rattle.audit_faults.specs.Internal.Images.{imageOf, Imaged}
 use borrow.Author.Needs.{needs}
 use Rattle.audit_faults.proofs.images.images_of.Statement.{statement}
 use Rattle.audit_faults.proofs.images.images_of.Tie as tie

@@ -3,7 +3,7 @@
 use borrow.Author.Needs.{needs}
 use mathlib.Core.Path.{_≡_, _∙_}
 use native.Mathlib.Omega.{arith}
-use Rattle.audit_faults.specs.Images.{imageOf, Imaged}
+use Rattle.audit_faults.specs.Internal.Images.{imageOf, Imaged}
 use Rattle.audit_faults.proofs.Preserved.{preserved-image, preserved-no-place}
 use Rattle.audit_faults.proofs.lost.is_preserved.Statement.{statement}
 use Rattle.audit_faults.proofs.lost.is_preserved.Tie as tie

@@ -3,9 +3,11 @@ use Prim.Native.Nat.{_-_, _≤_}
 use mathlib.Core.Path.{_≡_, refl, _∙_}
 use native.Mathlib.Omega.{arith}
 use lib.ListN.{length}
-use Rattle.graph.specs.Hops.{count, over}
-use Rattle.file_lines.specs.LineField.{LinesLie}
-use Rattle.file_hops.specs.Field.{HopsLie, hopIn, hopsBy, hopsInField}
+use Rattle.graph.specs.Hops.{count}
+use Rattle.graph.specs.Internal.Hops.{over}
+use Rattle.file_lines.specs.Internal.LineField.{LinesLie}
+use Rattle.file_hops.specs.Internal.Field.{HopsLie}
+use Rattle.file_hops.specs.Field.{hopIn, hopsBy, hopsInField}
 use Rattle.file_hops.proofs.Lists.{by-none, by-more, by-done}
 use borrow.Author.Needs.{needs}
 use Rattle.file_hops.proofs.hops.take_hops.Statement.{statement}

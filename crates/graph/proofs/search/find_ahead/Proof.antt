@@ -6,8 +6,8 @@ use native.Mathlib.Nat.{le-refl}
 use borrow.Author.Needs.{needs}
 use borrow.Author.Tests.{not-true, not-false}
 use Rattle.graph.specs.Hops.{count}
-use Rattle.graph.specs.Sum.{sumOf, Narrow}
-use Rattle.graph.specs.Search.{Bracket}
+use Rattle.graph.specs.Internal.Sum.{sumOf, Narrow}
+use Rattle.graph.specs.Internal.Search.{Bracket}
 use Rattle.graph.specs.declared.Hop.{Hop}
 use Rattle.graph.proofs.Sums.{sums-met}
 use Rattle.graph.proofs.Lookup.{raise, cut, lower-met, sum-bracket, sums-is, find-found, find-end}

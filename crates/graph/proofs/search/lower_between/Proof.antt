@@ -4,8 +4,8 @@ use Prim.Native.Nat.{_-_, _≤_}
 use mathlib.Core.Path.{_≡_, sym}
 use native.Mathlib.Omega.{arith}
 use Rattle.graph.specs.Hops.{count}
-use Rattle.graph.specs.Sum.{sumOf, Narrow}
-use Rattle.graph.specs.Search.{Bracket}
+use Rattle.graph.specs.Internal.Sum.{sumOf, Narrow}
+use Rattle.graph.specs.Internal.Search.{Bracket}
 use Rattle.graph.specs.declared.Hop.{Hop}
 use Rattle.graph.proofs.Sums.{sums-met}
 use Rattle.graph.proofs.Lookup.{raise, cut, lower-met, sum-bracket}

@@ -3,7 +3,7 @@ use Prim.Native.Nat.{_<_, _≤_, _-_}
 use mathlib.Core.Path.{_≡_, sym, _∙_}
 use native.Mathlib.Omega.{arith}
 use lib.ListN.{length}
-use Rattle.reduce_representatives.specs.Tables.{ClosedTable, TerminatingTable, tableSteps}
+use Rattle.reduce_representatives.specs.Internal.Tables.{ClosedTable, TerminatingTable, tableSteps}
 use Rattle.reduce_representatives.proofs.Compressed.{Way, way-starts, way-more, way-compressed}
 use borrow.Author.Needs.{needs}
 use Rattle.reduce_representatives.proofs.follow.compress_path.Statement.{statement}

@@ -1,7 +1,7 @@
 -- `reduce_representatives::follow::enter` meets its contract: the code is the definition. Assumes nothing.
 use borrow.Author.Tests.{eq-eqb, ne-eqb}
-use Rattle.mark_confluence.specs.MarkSet.{isMarked}
-use Rattle.reduce_representatives.specs.Tables.{withNext}
+use Rattle.mark_confluence.specs.Internal.MarkSet.{isMarked}
+use Rattle.reduce_representatives.specs.Internal.Tables.{withNext}
 use borrow.Author.Needs.{needs}
 use Rattle.reduce_representatives.proofs.follow.enter.Statement.{statement}
 use Rattle.reduce_representatives.proofs.follow.enter.Tie as tie

@@ -2,7 +2,7 @@
 use Prim.Native.Nat.{_<_, _≤_, _-_}
 use mathlib.Core.Path.{_≡_, sym, _∙_}
 use native.Mathlib.Omega.{arith}
-use Rattle.reduce_representatives.specs.Tables.{ClosedTable, tableSteps}
+use Rattle.reduce_representatives.specs.Internal.Tables.{ClosedTable, tableSteps}
 use Rattle.reduce_representatives.proofs.Nexts.{table-steps-rest, table-steps-start, table-steps-on, table-steps-done}
 use borrow.Author.Needs.{needs}
 use Rattle.reduce_representatives.proofs.follow.follow.Statement.{statement}

@@ -4,7 +4,7 @@ use mathlib.Core.Path.{_≡_, refl}
 use native.Mathlib.Omega.{arith}
 use lib.ListN.{length, getD, length-set, length-replicate}
 use Rattle.graph.specs.Answers.{most-states}
-use Rattle.reduce_representatives.specs.Tables.{IdentityTable}
+use Rattle.reduce_representatives.specs.Internal.Tables.{IdentityTable}
 use Rattle.graph_successors.proofs.Firsts.{filled-more}
 use Rattle.reduce_representatives.proofs.follow.identity_table.Statement.{statement}
 use Rattle.reduce_representatives.proofs.follow.identity_table.Tie as tie

@@ -5,8 +5,8 @@ use native.Mathlib.Omega.{arith}
 use lib.ListN.{length, getD}
 use Rattle.graph.specs.Hops.{count}
 use Rattle.graph.specs.Answers.{most-states}
-use Rattle.mark_confluence.specs.MarkSet.{markSet}
-use Rattle.reduce_representatives.specs.Tables.{IdentityTable, FromIn, NextTable}
+use Rattle.mark_confluence.specs.Internal.MarkSet.{markSet}
+use Rattle.reduce_representatives.specs.Internal.Tables.{IdentityTable, FromIn, NextTable}
 use Rattle.reduce_representatives.proofs.Nexts.{Ends, ends-none, ends-next-state, entered-ends, length-entered}
 use borrow.Author.Needs.{needs}
 use Rattle.reduce_representatives.proofs.follow.next_states.Statement.{statement}

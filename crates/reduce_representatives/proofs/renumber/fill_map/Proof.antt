@@ -6,7 +6,7 @@ use native.Mathlib.Omega.{arith}
 use lib.ListN.{length, getD, length-set}
 use Rattle.base_bounded.specs.Quantifiers.{tabulate}
 use Rattle.graph.specs.Answers.{most-states}
-use Rattle.reduce_representatives.specs.Tables.{Compressed, newNumber}
+use Rattle.reduce_representatives.specs.Internal.Tables.{Compressed, newNumber}
 use Rattle.base_outputs.specs.Output.{onFront}
 use Rattle.base_outputs.proofs.Front.{tabulate-none, tabulate-more, tabulate-done}
 use Rattle.reduce_representatives.proofs.Nexts.{table-steps-in}

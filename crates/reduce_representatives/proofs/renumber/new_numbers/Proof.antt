@@ -7,7 +7,7 @@ use lib.ListN.{length, getD, length-set, length-replicate, getD-replicate}
 use Rattle.graph.specs.Answers.{most-states}
 use Rattle.base_bounded.specs.Quantifiers.{tally}
 use Rattle.base_bounded.proofs.Quantifiers.{tally-none, tally-more, tally-skip, tally-within}
-use Rattle.reduce_representatives.specs.Tables.{NewNumbers, isFixed}
+use Rattle.reduce_representatives.specs.Internal.Tables.{NewNumbers, isFixed}
 use Rattle.graph_successors.proofs.Firsts.{filled-more}
 use borrow.Author.Needs.{needs}
 use Rattle.reduce_representatives.proofs.renumber.new_numbers.Statement.{statement}

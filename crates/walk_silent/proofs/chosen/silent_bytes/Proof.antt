@@ -8,7 +8,7 @@ use lib.ListN.{length, getD, length-set, length-replicate}
 use Rattle.graph.specs.Hops.{count}
 use Rattle.graph.specs.Answers.{most-hops}
 use Rattle.graph_successors.proofs.Firsts.{filled-more}
-use Rattle.walk_reach.specs.Reach.{chosenIn, Chooses}
+use Rattle.walk_reach.specs.Internal.Reach.{chosenIn, Chooses}
 use Rattle.walk_silent.specs.Silent.{silentAt}
 use Rattle.walk_silent.proofs.Hops.{byte-result}
 use borrow.Author.Needs.{needs}

@@ -1,0 +1,1 @@
+pub mod Stamps  -- what ticks what, and what the ticking has at hand

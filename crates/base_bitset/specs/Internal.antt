@@ -1,0 +1,1 @@
+pub mod Bits  -- the bits of a word, and tables of words

@@ -1,0 +1,1 @@
+pub mod Output  -- what private functions and proofs cite beside it

@@ -1,0 +1,1 @@
+pub mod Encode  -- what private functions and proofs cite beside it

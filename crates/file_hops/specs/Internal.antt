@@ -1,0 +1,1 @@
+pub mod Field  -- what private functions and proofs cite beside it

@@ -1,0 +1,1 @@
+pub mod LineField  -- what private functions and proofs cite beside it

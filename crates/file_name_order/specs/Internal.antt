@@ -1,0 +1,1 @@
+pub mod Pair  -- what private functions and proofs cite beside it

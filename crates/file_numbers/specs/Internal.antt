@@ -1,0 +1,1 @@
+pub mod Numbers  -- what private functions and proofs cite beside it

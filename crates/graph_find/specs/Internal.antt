@@ -1,0 +1,1 @@
+pub mod Find  -- what private functions and proofs cite beside it

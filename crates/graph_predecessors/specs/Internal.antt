@@ -1,0 +1,1 @@
+pub mod PredecessorIndex  -- the table of places by where their hops end

@@ -1,0 +1,1 @@
+pub mod Batch  -- what is known of marks once hops have been tried

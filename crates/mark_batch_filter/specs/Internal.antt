@@ -1,0 +1,1 @@
+pub mod Filtered  -- when a marked hop is answered, and what judging marks leaves

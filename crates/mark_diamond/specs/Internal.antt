@@ -1,0 +1,1 @@
+pub mod Skipped  -- where a walk over a state's hops has come to

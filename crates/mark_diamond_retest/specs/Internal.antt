@@ -1,0 +1,1 @@
+pub mod Retest  -- what need not be tried again

@@ -1,0 +1,1 @@
+pub mod Sweep  -- what marks keep while sweeps run

@@ -1,0 +1,1 @@
+pub mod BetweenRounds  -- what holds between two rounds

@@ -1,0 +1,1 @@
+pub mod Round  -- what listing, testing and taking ask and leave

@@ -1,0 +1,1 @@
+pub mod ByMarks  -- what reducing along marks returns and leaves

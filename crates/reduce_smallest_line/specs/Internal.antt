@@ -1,0 +1,1 @@
+pub mod Lines  -- what private functions and proofs cite beside it

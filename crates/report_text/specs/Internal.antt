@@ -1,0 +1,1 @@
+pub mod Text  -- what private functions and proofs cite beside it

@@ -1,0 +1,1 @@
+pub mod Composed  -- what private functions and proofs cite beside it

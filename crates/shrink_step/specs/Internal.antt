@@ -1,0 +1,1 @@
+pub mod Progress  -- the stage that the code holds

@@ -1,0 +1,1 @@
+pub mod Ranks  -- ranked states, and how many are gained

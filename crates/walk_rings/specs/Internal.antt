@@ -1,0 +1,1 @@
+pub mod Ring  -- a hop that leads back

@@ -1,0 +1,1 @@
+pub mod SilentBytes  -- the silent hops as bytes
