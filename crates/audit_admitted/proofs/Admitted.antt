@@ -1,5 +1,5 @@
--- The ways out of the audit's answer, and what it means: 0 exactly where both graphs and the map are admitted and the label counts agree.
--- Assumes nothing.
+-- The ways out of the audit's answer, and what it means: 0 exactly where both graphs and the map
+-- are admitted and the label counts agree. Assumes nothing.
 use Prim.Native.Nat.{ℕ, _<_, _≤_}
 use mathlib.Core.Path.{_≡_, refl, sym, ap}
 use mathlib.Core.Bool.{Bool, true, false, cond, not}

@@ -22,7 +22,8 @@ pub record AdmittedMap (sh1 sh2 : Shape) (m : List ℕ) : Type 0 where
 abbrev pub sameLabels : Shape → Shape → Answer
 sameLabels sh1 sh2 = cond (eqb (sh1 .labels) (sh2 .labels)) accepted (refused 7 0)
 
--- row 8: "map length not state count 1, else an entry not below state count 2", place "the length, else first such entry"
+-- row 8: "map length not state count 1, else an entry not below state count 2", place "the length,
+-- else first such entry"
 unfoldable pub firstHigh : Shape → List ℕ → ℕ
 firstHigh sh2 m = least (length m) (λ (s : ℕ). not (ltb (mapped m s) (sh2 .states)))
 

@@ -1,4 +1,5 @@
--- The ways out of the entry, in the words of what it returns; and what was admitted can be audited. Assumes nothing.
+-- The ways out of the entry, in the words of what it returns; and what was admitted can be audited.
+-- Assumes nothing.
 use Prim.Native.Nat.{ℕ}
 use mathlib.Core.Path.{_≡_, refl, sym, ap, _∙_}
 use mathlib.Core.List.{List}
@@ -38,7 +39,8 @@ module _ (sh1 sh2 : Shape) (h1 h2 m : List ℕ) {a : Answer} (ea : a ≡ auditAn
   unfolding auditOf
   audit-counts z e n = rw (← ea, eq-eqb _ _ z, e, n)
 
--- the audit accepts and finds no fault exactly where all that was lent is admitted and the count is 0
+-- the audit accepts and finds no fault exactly where all that was lent is admitted and the count is
+-- 0
 pub faultless-iff : (sh1 sh2 : Shape) (h1 h2 m : List ℕ) → (auditOf sh1 sh2 h1 h2 m ≡ faultless) ↔ (Audited sh1 sh2 h1 h2 m × (faultsOf sh1 sh2 h1 h2 m ≡ 0))
 unfolding auditOf
 faultless-iff sh1 sh2 h1 h2 m = (λ e. (audited e, none e), λ (a, z). sym (audit-counts sh1 sh2 h1 h2 m (sym (audited-answer sh1 sh2 h1 h2 m a)) refl (sym z) (no-fault-named sh1 sh2 h1 h2 m z))) where

@@ -1,5 +1,6 @@
--- What a fault count of 0 means: the map loses no hop and makes none up, which is Definition 2.4 for the map taken as a relation, with the
--- initial states joined. Each sum is 0 exactly when each of its tests passes, and each test is read off its definition. Assumes nothing.
+-- What a fault count of 0 means: the map loses no hop and leaves none unmatched, which is
+-- Definition 2.4 for the map taken as a relation, with the initial states joined. Each sum is 0
+-- exactly when each of its tests passes, and each test is read off its definition. Assumes nothing.
 use Prim.Native.Nat.{ℕ, _<_}
 use mathlib.Core.Path.{_≡_, refl, sym, ap, _∙_}
 use mathlib.Core.Bool.{Bool, true, false, cond, not, _&&_}
@@ -24,7 +25,8 @@ use Rattle.audit_faults.specs.Faults.{initialFault, preserved, lostFaults, matc
 use Rattle.audit_admitted.specs.Admitted.{AdmittedMap}
 use Rattle.audit_entry.specs.Bisimulation.{BranchingBisimulation, MapRelation, JoinsInitial}
 
--- the map loses no hop of graph 1 and makes no hop of graph 2 up, and leads from the one initial state to the other
+-- the map loses no hop of graph 1 and leaves no hop of graph 2 unmatched, and leads from the one
+-- initial state to the other
 pub record Faultless (sh1 sh2 : Shape) (h1 h2 m : List ℕ) : Type 0 where
   pub joins : mapped m (sh1 .initial) ≡ sh2 .initial
   pub keeps : Reduces (λ s. s < sh1 .states) (HopOf h1) (HopOf h2) (mapped m)
@@ -76,9 +78,9 @@ module _ (sh1 sh2 : Shape) (h1 h2 m : List ℕ) (ranged : InRange sh1 h1) where
         eqb-true _ _ (and-right (eqb (label h1 i) a) _ g),
       )
 
-  says-backed : (s a q : ℕ) → MatchedBack (HopOf h1) (mapped m) s a q → matchedFrom sh1 h1 m s (mapped m s) a q ≡ true
+  says-matched-from : (s a q : ℕ) → MatchedBack (HopOf h1) (mapped m) s a q → matchedFrom sh1 h1 m s (mapped m s) a q ≡ true
   unfolding matchedFrom matchAt
-  says-backed s a q (u, t, su, c, h, e) =
+  says-matched-from s a q (u, t, su, c, h, e) =
       let p = has-place h1 u a t h in
       any-found (λ (u : ℕ). leads h1 (sh1 .states) s u && matchAt h1 m (mapped m s) a q u) (sh1 .states) (hop-from ranged u a t h)
       (and-yes (leads-iff ranged s u .1 su) (and-yes (eq-eqb _ _ c)
@@ -97,7 +99,7 @@ module _ (sh1 sh2 : Shape) (h1 h2 m : List ℕ) (ranged : InRange sh1 h1) where
         matched sh1 h1 h2 m j s ≡ true
     unfolding matched
     says-matched (inl (a, b)) = or-left _ (and-yes (eq-eqb _ _ a) (eq-eqb _ _ (sym e ∙ b)))
-    says-matched (inr b) = or-right (eqb (label h2 j) 0 && eqb (from h2 j) (to h2 j)) (rw e at (says-backed s _ _ b))
+    says-matched (inr b) = or-right (eqb (label h2 j) 0 && eqb (from h2 j) (to h2 j)) (rw e at (says-matched-from s _ _ b))
 
   -- a pair is no fault exactly when it is matched, where it is a pair at all
   unmade-matched : (j s : ℕ) → mapped m s ≡ from h2 j → unmatched sh1 h1 h2 m j s ≡ false → matched sh1 h1 h2 m j s ≡ true
@@ -198,7 +200,8 @@ module _ (sh1 sh2 : Shape) (h1 h2 m : List ℕ) (ranged : InRange sh1 h1) where
       behind s a q (inl (z, (l, e))) = inl (z, e)
       behind s a q (inr (u, t, su, h, (k, d), (l, e))) = inr (u, t, su, d, h, e)
 
--- the audit's count is 0 exactly when the map is a branching bisimulation that joins the initial states
+-- the audit's count is 0 exactly when the map is a branching bisimulation that joins the initial
+-- states
 pub audit-zero-iff : (sh1 sh2 : Shape) (h1 h2 m : List ℕ) → Admitted sh1 h1 → Admitted sh2 h2 → AdmittedMap sh1 sh2 m →
     (faultsOf sh1 sh2 h1 h2 m ≡ 0) ↔ (BranchingBisimulation sh1 sh2 h1 h2 (MapRelation sh1 m) × JoinsInitial sh1 sh2 (MapRelation sh1 m))
 audit-zero-iff sh1 sh2 h1 h2 m a1 a2 fit = (
@@ -206,7 +209,8 @@ audit-zero-iff sh1 sh2 h1 h2 m a1 a2 fit = (
   λ b. faultless-zero sh1 sh2 h1 h2 m (a1 .range) (bisimulation-faultless sh1 sh2 h1 h2 m (a1 .range) b),
 )
 
--- a map that agrees with one that reduces graph 1 to graph 2, and joins the initial states, has no faults
+-- a map that agrees with one that reduces graph 1 to graph 2, and joins the initial states, has no
+-- faults
 pub reduces-zero : (sh1 sh2 : Shape) (h1 h2 m : List ℕ) → InRange sh1 h1 → {f : ℕ → ℕ} → Reduces (λ s. s < sh1 .states) (HopOf h1) (HopOf h2) f →
     ((s : ℕ) → s < sh1 .states → mapped m s ≡ f s) → mapped m (sh1 .initial) ≡ sh2 .initial → faultsOf sh1 sh2 h1 h2 m ≡ 0
 reduces-zero sh1 sh2 h1 h2 m ranged {f} F same joins =

@@ -1,5 +1,6 @@
--- Definition 2.4 is the theory's: document 01's branching bisimulations of two graphs are those of `lts` between their hops, of pairs of states. Both
--- say the same of a pair; only the order in which a step's parts are named differs. Assumes nothing.
+-- Definition 2.4 is the theory's: document 01's branching bisimulations of two graphs are those of
+-- `lts` between their hops, of pairs of states. Both say the same of a pair; only the order in
+-- which a step's parts are named differs. Assumes nothing.
 use Prim.Native.Nat.{ℕ}
 use mathlib.Core.Path.{_≡_}
 use mathlib.Core.List.{List}

@@ -10,7 +10,8 @@ use Rattle.audit_faults.specs.First.{noFault, firstFault}
 use Rattle.audit_admitted.specs.Admitted.{auditAnswer}
 use Rattle.audit_entry.specs.declared.Audit.{Audit}
 
--- the audit's answer, and with 0 the fault count and the first fault
+-- the audit's answer, and with 0 the fault count and the first fault.
+-- In the field: the check that a function is a branching bisimulation.
 unfoldable pub auditOf : Shape → Shape → List ℕ → List ℕ → List ℕ → Audit
 auditOf sh1 sh2 h1 h2 m = record {
   answer = auditAnswer sh1 sh2 h1 h2 m;

@@ -15,13 +15,15 @@ StatePairs sh1 sh2 B = (s r : ℕ) → B s r → (s < sh1 .states) × (r < sh2 .
 -- "B is a branching bisimulation when for each pair s, r in B .."
 pub record BranchingBisimulation (sh1 sh2 : Shape) (h1 h2 : List ℕ) (B : ℕ → ℕ → Type 0) : Type 0 where
   pub pairs : StatePairs sh1 sh2 B
-  -- "for each hop s, a, t of graph 1, a is silent and t, r is in B, or r leads by zero or more silent hops of graph 2 to some u that has a hop
-  -- labelled a to some v, with s, u and t, v both in B"
+  -- "for each hop s, a, t of graph 1, a is silent and t, r is in B, or r leads by zero or more
+  -- silent hops of graph 2 to some u that has a hop labelled a to some v, with s, u and t, v both
+  -- in B"
   pub there :
       (s r : ℕ) → B s r → (a t : ℕ) → HopOf h1 s a t →
       ((a ≡ 0) × B t r) ⊎ ((u : ℕ) × (v : ℕ) × Leads h2 r u × HopOf h2 u a v × B s u × B t v)
-  -- "for each hop r, a, q of graph 2, a is silent and s, q is in B, or s leads by zero or more silent hops of graph 1 to some u that has a hop
-  -- labelled a to some t, with u, r and t, q both in B"
+  -- "for each hop r, a, q of graph 2, a is silent and s, q is in B, or s leads by zero or more
+  -- silent hops of graph 1 to some u that has a hop labelled a to some t, with u, r and t, q both
+  -- in B"
   pub back :
       (s r : ℕ) → B s r → (a q : ℕ) → HopOf h2 r a q →
       ((a ≡ 0) × B s q) ⊎ ((u : ℕ) × (t : ℕ) × Leads h1 s u × HopOf h1 u a t × B u r × B t q)

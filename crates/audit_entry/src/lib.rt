@@ -7,7 +7,8 @@
 mod counting; // counting.rt: the fault count and the first fault, the tables made once
 pub mod auditing; // auditing.rt: the entry `audit`
 
-// What `audit` returns: the answer, the number of faults (0 with a refusal), and the first fault (none with a refusal).
+// What `audit` returns: the answer, the number of faults (0 with a refusal), and the first fault
+// (none with a refusal).
 pub struct Audit {
     pub answer: graph::Answer,
     pub faults: u32,

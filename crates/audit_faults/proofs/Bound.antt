@@ -1,5 +1,5 @@
--- The fault count fits: at most one for the initial states, one for each hop of graph 1, and one for each pair of a hop of graph 2 and a
--- state of graph 1. Assumes nothing.
+-- The fault count fits: at most one for the initial states, one for each hop of graph 1, and one
+-- for each pair of a hop of graph 2 and a state of graph 1. Assumes nothing.
 use Prim.Native.Nat.{ℕ, _*_, _≤_}
 use mathlib.Core.Bool.{Bool, true, false, cond, not}
 use mathlib.Core.List.{List}

@@ -15,7 +15,7 @@ use Rattle.audit_faults.specs.Internal.Images.{placeOf, imageOf}
 pub found-within : (h2 : List ℕ) (h : Hop) {f : Found} {p : ℕ} → f ≡ placed h2 h → f ≡ At p → p < count h2
 found-within h2 h e d = at-place h2 h (sym e ∙ d) .0
 
--- what the search for the mapped hop tells
+-- what the search for the mapped hop returns
 pub image-result : (h1 h2 m : List ℕ) (i : ℕ) {u r a t q : ℕ} → u ≡ from h1 i → r ≡ mapped m u → a ≡ label h1 i → t ≡ to h1 i → q ≡ mapped m t →
     {h : Hop} → h ≡ hopOf r a q → {f g : Found} → f ≡ placed h2 h → f ≡ g → placeOf g ≡ imageOf h1 h2 m i
 unfolding imageOf

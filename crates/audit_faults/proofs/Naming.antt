@@ -1,4 +1,5 @@
--- What the first fault means: one of the sums counts it, no fault comes before it, and there is none exactly when the count is 0. Assumes nothing.
+-- What the first fault means: one of the sums counts it, no fault comes before it, and there is
+-- none exactly when the count is 0. Assumes nothing.
 use Prim.Native.Nat.{ℕ, _<_, _≤_}
 use mathlib.Core.Path.{_≡_, refl}
 use mathlib.Core.Bool.{Bool, true, false, not, _&&_}
@@ -18,7 +19,8 @@ use Rattle.audit_faults.specs.Faults.{initialFault, preserved, lostFault
 use Rattle.audit_faults.specs.First.{fault, noFault, firstInitial, lostPlace, firstLost, unmatchedPlace, unmatchedState, firstUnmatched, firstFault, IsFault, faultBefore, IsFirst}
 use Rattle.audit_faults.specs.declared.Fault.{Fault}
 
--- a fault whose place is not below p, and at p its state not below t, is not before the fault of that kind with p and t
+-- a fault whose place is not below p, and at p its state not below t, is not before the fault of
+-- that kind with p and t
 not-sooner : (k : ℕ) {i p : ℕ} → p ≤ i → {s t : ℕ} → (i ≡ p → t ≤ s) → faultBefore (fault k i s) (fault k p t) ≡ false
 unfolding faultBefore
 not-sooner k {i} {p} l {s} {t} f =
@@ -96,10 +98,11 @@ module _ (sh1 sh2 : Shape) (h1 h2 m : List ℕ) where
           total-zero (λ (j : ℕ). tally (sh1 .states) (unmatched sh1 h1 h2 m j)) (count h2) (λ j a. tally-zero (unmatched sh1 h1 h2 m j) (sh1 .states) (λ s b. none j s a b)),
         )
 
-  -- a hop that is made up is not before the place of the first, nor, at that place, its state before the first state
-  made-up-not-before : {j s : ℕ} → j < count h2 → s < sh1 .states → unmatched sh1 h1 h2 m j s ≡ true → unmatchedPlace sh1 h1 h2 m ≤ j
+  -- an unmatched hop is not before the place of the first, nor, at that place, its state before the
+  -- first state
+  unmatched-not-before : {j s : ℕ} → j < count h2 → s < sh1 .states → unmatched sh1 h1 h2 m j s ≡ true → unmatchedPlace sh1 h1 h2 m ≤ j
   unfolding unmatchedPlace
-  made-up-not-before {j} {s} a b d =
+  unmatched-not-before {j} {s} a b d =
       ⊎-elim (λ l. clash (any-found (unmatched sh1 h1 h2 m j) (sh1 .states) b d) (least-before made (count h2) l)) (λ l. l) (lt-or-le j (least (count h2) made))
 
   state-not-before : {j s : ℕ} → s < sh1 .states → unmatched sh1 h1 h2 m j s ≡ true → j ≡ unmatchedPlace sh1 h1 h2 m → unmatchedState sh1 h1 h2 m ≤ s
@@ -154,9 +157,9 @@ module _ (sh1 sh2 : Shape) (h1 h2 m : List ℕ) where
     before g (inr (inl (i, a, d, q))) = rw q (not-sooner 2 (lost-not-before a d) (λ _. omega arith))
     before g (inr (inr (j, s, _, _, _, q))) = rw q (higher _ _ (omega arith))
 
-  when-made-up : Joined → Kept → MadeUp → IsFirst sh1 sh2 h1 h2 m (firstFault sh1 sh2 h1 h2 m)
+  when-unmatched : Joined → Kept → MadeUp → IsFirst sh1 sh2 h1 h2 m (firstFault sh1 sh2 h1 h2 m)
   unfolding Joined Kept MadeUp firstFault faultsOf
-  when-made-up (c, e, z) (k, f, y) (l, h, x) = rw (e, f, h) (record {
+  when-unmatched (c, e, z) (k, f, y) (l, h, x) = rw (e, f, h) (record {
     none = (λ q. absurd (omega arith), λ q. absurd (x (omega arith)));
     none-at-all = λ q. absurd (omega arith);
     a-fault = λ _. inr (inr (is-made l));
@@ -165,7 +168,7 @@ module _ (sh1 sh2 : Shape) (h1 h2 m : List ℕ) where
     before : (g : Fault) → IsFault sh1 sh2 h1 h2 m g → faultBefore g (fault 3 (unmatchedPlace sh1 h1 h2 m) (unmatchedState sh1 h1 h2 m)) ≡ false
     before g (inl (d, q)) = absurd (d c)
     before g (inr (inl (i, a, d, q))) = clash (k i a) d
-    before g (inr (inr (j, s, a, b, d, q))) = rw q (not-sooner 3 (made-up-not-before a b d) (state-not-before b d))
+    before g (inr (inr (j, s, a, b, d, q))) = rw q (not-sooner 3 (unmatched-not-before a b d) (state-not-before b d))
 
   when-none : Joined → Kept → Backed → IsFirst sh1 sh2 h1 h2 m (firstFault sh1 sh2 h1 h2 m)
   unfolding Joined Kept Backed firstFault faultsOf
@@ -182,7 +185,7 @@ module _ (sh1 sh2 : Shape) (h1 h2 m : List ℕ) where
 
   -- the fault that is named is the first: for every two graphs and map, admitted or not
   pub first-fault-correct : IsFirst sh1 sh2 h1 h2 m (firstFault sh1 sh2 h1 h2 m)
-  first-fault-correct = ⊎-elim (λ j. ⊎-elim (λ k. ⊎-elim (when-none j k) (when-made-up j k) making) (when-lost j) losing) when-parted initially
+  first-fault-correct = ⊎-elim (λ j. ⊎-elim (λ k. ⊎-elim (when-none j k) (when-unmatched j k) making) (when-lost j) losing) when-parted initially
 
   -- no fault is counted, and none is named
   pub no-fault-named : faultsOf sh1 sh2 h1 h2 m ≡ 0 → noFault ≡ firstFault sh1 sh2 h1 h2 m

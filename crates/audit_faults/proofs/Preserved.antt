@@ -1,4 +1,5 @@
--- The ways out of the tests of the first two sums, in the words of their definitions. Assumes nothing.
+-- The ways out of the tests of the first two sums, in the words of their definitions. Assumes
+-- nothing.
 use Prim.Native.Nat.{ℕ, _<_, _≤_}
 use mathlib.Core.Path.{_≡_, refl, sym, ap, _∙_}
 use mathlib.Core.Bool.{Bool, true, false, _&&_, _||_}
@@ -29,7 +30,7 @@ module _ (sh1 sh2 : Shape) (m : List ℕ) {r : ℕ} (e : r ≡ mapped m (sh1 .in
   unfolding initialFault firstInitial
   initial-parted d = rw (ne-eqb _ _ (λ q. d (e ∙ q))) (refl, refl)
 
--- the place of the mapped hop tells whether graph 2 has it
+-- the place of the mapped hop says whether graph 2 has it
 module _ (h1 h2 m : List ℕ) (ready : Indexable h2) (i : ℕ) {p : ℕ} (e : p ≡ imageOf h1 h2 m i) where
   abbrev has-it : Bool
   has-it = has h2 (mapped m (from h1 i)) (label h1 i) (mapped m (to h1 i))

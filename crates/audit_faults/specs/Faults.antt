@@ -15,7 +15,8 @@ use Rattle.walk_silent.specs.Silent.{leads}
 unfoldable pub initialFault : Shape → Shape → List ℕ → ℕ
 initialFault sh1 sh2 m = cond (eqb (mapped m (sh1 .initial)) (sh2 .initial)) 0 1
 
--- the hop at place i of graph 1: "a is silent and map(s) = map(t), or graph 2 has the hop map(s), a, map(t)"
+-- the hop at place i of graph 1: "a is silent and map(s) = map(t), or graph 2 has the hop map(s),
+-- a, map(t)"
 unfoldable pub preserved : List ℕ → List ℕ → List ℕ → ℕ → Bool
 preserved h1 h2 m i =
     (eqb (label h1 i) 0 && eqb (mapped m (from h1 i)) (mapped m (to h1 i))) ||
@@ -48,5 +49,6 @@ unfoldable pub unmatchedFaults : Shape → List ℕ → List ℕ → List ℕ �
 unmatchedFaults sh1 h1 h2 m = total (count h2) (λ (j : ℕ). tally (sh1 .states) (unmatched sh1 h1 h2 m j))
 
 -- "the fault count is the sum of .."
+-- In the field: how often the transfer conditions of a branching bisimulation fail.
 unfoldable pub faultsOf : Shape → Shape → List ℕ → List ℕ → List ℕ → ℕ
 faultsOf sh1 sh2 h1 h2 m = initialFault sh1 sh2 m + lostFaults h1 h2 m + unmatchedFaults sh1 h1 h2 m

@@ -13,7 +13,8 @@ use Rattle.graph.specs.declared.Shape.{Shape}
 use Rattle.audit_faults.specs.Faults.{preserved, unmatched, faultsOf}
 use Rattle.audit_faults.specs.declared.Fault.{Fault}
 
--- "its kind 1, 2 or 3 in document 01's order, the hop's place in its graph, and the state for kind 3"
+-- "its kind 1, 2 or 3 in document 01's order, the hop's place in its graph, and the state for kind
+-- 3"
 abbrev pub fault : ℕ → ℕ → ℕ → Fault
 fault k p s = record { kind = k; place = p; state = s }
 
@@ -25,15 +26,16 @@ noFault = fault 0 0 0
 unfoldable pub firstInitial : Shape → Shape → List ℕ → Fault
 firstInitial sh1 sh2 m = cond (eqb (mapped m (sh1 .initial)) (sh2 .initial)) noFault (fault 1 0 0)
 
--- kind 2, the hops of graph 1, which "come in list order": the place of the first that is lost, or the hop count
+-- kind 2, the hops of graph 1, which "come in list order": the place of the first that is lost, or
+-- the hop count
 unfoldable pub lostPlace : List ℕ → List ℕ → List ℕ → ℕ
 lostPlace h1 h2 m = least (count h1) (λ (i : ℕ). not (preserved h1 h2 m i))
 
 unfoldable pub firstLost : List ℕ → List ℕ → List ℕ → Fault
 firstLost h1 h2 m = cond (ltb (lostPlace h1 h2 m) (count h1)) (fault 2 (lostPlace h1 h2 m) 0) noFault
 
--- kind 3, the hops of graph 2 "in list order, then states ascending": the place of the first that is made up for some state, or the hop count, and the
--- first such state
+-- kind 3, the hops of graph 2 "in list order, then states ascending": the place of the first that
+-- is unmatched for some state, or the hop count, and the first such state
 unfoldable pub unmatchedPlace : Shape → List ℕ → List ℕ → List ℕ → ℕ
 unmatchedPlace sh1 h1 h2 m = least (count h2) (λ (j : ℕ). any (sh1 .states) (unmatched sh1 h1 h2 m j))
 
@@ -64,7 +66,8 @@ faultBefore f g =
     ltb (f .kind) (g .kind) ||
     (eqb (f .kind) (g .kind) && (ltb (f .place) (g .place) || (eqb (f .place) (g .place) && ltb (f .state) (g .state))))
 
--- f is the first fault: kind 0 exactly when the count is 0, and then there is none; else it is a fault, and no fault comes before it
+-- f is the first fault: kind 0 exactly when the count is 0, and then there is none; else it is a
+-- fault, and no fault comes before it
 pub record IsFirst (sh1 sh2 : Shape) (h1 h2 m : List ℕ) (f : Fault) : Type 0 where
   pub none : (f .kind ≡ 0) ↔ (faultsOf sh1 sh2 h1 h2 m ≡ 0)
   pub none-at-all : f .kind ≡ 0 → (g : Fault) → IsFault sh1 sh2 h1 h2 m g → ⊥

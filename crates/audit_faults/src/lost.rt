@@ -46,7 +46,8 @@ pub fn initial_fault(shape1: Shape, shape2: Shape, map: &[u16]) -> Share
     }
 }
 
-// Whether the hop at a place of graph 1 is in graph 2, which the table tells, or is silent inside a class.
+// Whether the hop at a place of graph 1 is in graph 2, which the table says, or is silent inside a
+// class.
 fn is_preserved(
     shape1: Shape,
     hops1: &[u16],
@@ -68,7 +69,7 @@ fn is_preserved(
     (label_at(hops1, i).0 == 0) & (r.0 == q.0)
 }
 
-// The place of the first hop of graph 1 that is not kept, or the hop count.
+// The place of the first hop of graph 1 that is not preserved, or the hop count.
 fn first_lost(
     shape1: Shape,
     hops1: &[u16],
@@ -91,7 +92,7 @@ fn first_lost(
     i
 }
 
-// 1 for each hop of graph 1 that is not kept, counted from the first of them on.
+// 1 for each hop of graph 1 that is not preserved, counted from the first of them on.
 fn lost_from(
     shape1: Shape,
     hops1: &[u16],
@@ -117,7 +118,8 @@ fn lost_from(
     faults
 }
 
-// 1 for each hop of graph 1 that is not kept, and the first of them: each is asked once, the first by its own search, the others by the count.
+// 1 for each hop of graph 1 that is not preserved, and the first of them. Hops before the first are
+// tested only by the search for it, and the count begins with the first.
 pub fn lost_faults(
     shape1: Shape,
     hops1: &[u16],

@@ -1,2 +1,2 @@
-pub mod Stamping  -- a stamp stands at a place of graph 2 exactly where some hop of graph 1 ticks it
+pub mod Stamping  -- the stamps stand exactly where hops of graph 1 stamp
 pub mod Rows  -- going over the hops of one state only, by the table of first places

@@ -1,4 +1,5 @@
--- Going over the hops of one state only, by the table of first places: what that ticks. Assumes nothing.
+-- Going over the hops of one state only, by the table of first places: what they stamp. Assumes
+-- nothing.
 use Prim.Native.Nat.{ℕ, _+_, _<_, _≤_}
 use mathlib.Core.Path.{_≡_, sym, ap, _∙_}
 use mathlib.Core.Bool.{Bool, true, false, cond, _&&_}

@@ -1,4 +1,5 @@
--- Ticking: a stamp stands at a place of graph 2 exactly where some hop of graph 1 ticks it. Assumes nothing.
+-- Stamping: a stamp stands at a place of graph 2 exactly where some hop of graph 1 stamps it.
+-- Assumes nothing.
 use Prim.Native.Nat.{ℕ, _+_, _<_, _≤_}
 use mathlib.Core.Path.{_≡_, refl, ap, _∙_}
 use mathlib.Core.Bool.{Bool, true, false, cond, _||_}
@@ -48,7 +49,7 @@ module _ (h2 : List ℕ) (ready : Indexable h2) (h : Hop) (k : ℕ) (stamps : Li
   stamp-at = stamp-found (placed h2 h) refl
 
 module _ (h1 h2 m seen : List ℕ) (r k : ℕ) where
-  -- where the ticking begins
+  -- before the first hop nothing is stamped
   pub stamped-none : (stamps : List ℕ) → StampedUpTo h1 h2 m seen r k 0 stamps stamps
   unfolding StampedUpTo any
   stamped-none stamps j l = refl

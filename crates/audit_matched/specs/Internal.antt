@@ -1,1 +1,1 @@
-pub mod Stamps  -- what ticks what, and what the ticking has at hand
+pub mod Stamps  -- which hop stamps which, and what the stamping requires

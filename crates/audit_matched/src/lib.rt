@@ -21,7 +21,8 @@ ghost use Rattle.graph.specs.Search.{firstOf};
 ghost use Rattle.graph.specs.Answers.{most-hops};
 ghost use Rattle.audit_matched.specs.Internal.Stamps.{StampInput, StampedUpTo, StampedFrom};
 
-// Ticks what the hop at place i of graph 1 is in graph 2, if it is there: the place of one that is not is past the stamps.
+// Stamps the hop of graph 2 that is the image of the hop at place i of graph 1. Where graph 2 has
+// no such hop, its place is past the stamps, and nothing is stamped.
 fn stamp_hop(images: &[u16; MOST_HOPS], stamps: &mut [u16], k: u16, i: usize)
     requires { ⌜ i < most-hops ⌝ }
     ensures { λ _. ⌜ now (stamps .exit) ≡ set (now (stamps .entry)) (getD (now (images .entry)) i 0) k ⌝ }
@@ -32,7 +33,7 @@ fn stamp_hop(images: &[u16; MOST_HOPS], stamps: &mut [u16], k: u16, i: usize)
     }
 }
 
-// Ticks by the hops of the state u of graph 1, if u is seen and its map is r.
+// Stamps the images of the hops of the state u of graph 1, if u is visited and its map is r.
 fn stamp_state(
     shape1: Shape,
     hops1: &[u16],
@@ -65,7 +66,7 @@ fn stamp_state(
     }
 }
 
-// Ticks by the hops of every such state of graph 1.
+// Stamps the images of the hops of every such state of graph 1.
 pub fn stamp_all(
     shape1: Shape,
     hops1: &[u16],

@@ -1,5 +1,6 @@
--- What `reduce` makes of a graph without rings passes the audit, in any sense: the map and the short graph are admitted, and the fault count is 0. So the
--- map is a branching bisimulation that joins the initial states. Assumes nothing.
+-- What `reduce` makes of a graph without rings passes the audit, in any sense: the map and the
+-- short graph are admitted, and the fault count is 0. So the map is a branching bisimulation that
+-- joins the initial states. Assumes nothing.
 use Prim.Native.Nat.{ℕ, _<_}
 use mathlib.Core.Path.{_≡_, refl}
 use mathlib.Core.List.{List}

@@ -1,5 +1,6 @@
--- Demand 3 over the outputs themselves, in the sense asked. The fronts of the two outputs of an accepted `reduce` are the map and the short hops, whatever the outputs
--- held before, so the audit of them is that of `short-audit-zero`. Assumes nothing.
+-- Demand 3 over the outputs themselves, in the sense asked. The fronts of the two outputs of an
+-- accepted `reduce` are the map and the short hops, whatever the outputs held before, so the audit
+-- of them is that of `short-audit-zero`. Assumes nothing.
 use Prim.Native.Nat.{ℕ, _≤_}
 use mathlib.Core.Path.{_≡_, refl, _∙_}
 use mathlib.Core.Bool.{Bool, true, false, cond}
@@ -53,7 +54,8 @@ module _ (sh : Shape) (hs : List ℕ) (k : ℕ) (map short : List ℕ) where
     front-short : between (shortOutput sh hs k map short) 0 (length (reducedHops sh hs k)) ≡ flat (reducedHops sh hs k)
     front-short = rw (← accepted-short sh hs k map short refl zero refl) (flat-front (reducedHops sh hs k) _ refl)
 
-    -- demand 3: the audit of what an accepted `reduce` left, whatever the outputs held before, accepts and finds no fault
+    -- demand 3: the audit of what an accepted `reduce` left, whatever the outputs held before,
+    -- accepts and finds no fault
     pub reduce-audit-zero : auditOfReduce sh hs (reduceOf sh hs k (length map) (length short)) (mapOutput sh hs k map short) (shortOutput sh hs k map short) ≡ faultless
     unfolding auditOfReduce
     reduce-audit-zero = rw (← figures, front-map, front-short) (short-audit-zero (reduce-reducible sh hs k (length map) (length short) zero) (senseOf k))

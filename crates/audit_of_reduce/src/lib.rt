@@ -24,7 +24,8 @@ pub struct AuditedReduction {
     pub audit: Audit,
 }
 
-// The audit of the given graph with the front of the map and the front of the short hops, which are there.
+// The audit of the given graph with the front of the map and the front of the short hops, which are
+// there.
 fn audit_reduction(
     shape: Shape,
     hops: &[u16],

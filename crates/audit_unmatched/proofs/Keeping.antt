@@ -1,5 +1,7 @@
--- Going by states: the smallest place at which a hop is made up for one of the states so far, or the hop count, and for it the first of these states, or 0.
--- A smaller place is kept with its state, and nothing else is; after the last state these are the place and the state of the first fault. Assumes nothing.
+-- Going by states: the smallest place of a hop that is unmatched for one of the states so far, or
+-- the hop count, and the first of these states that has it, or 0. Only a smaller place is kept,
+-- with its state; after the last state these are the place and the state of the first fault.
+-- Assumes nothing.
 use Prim.Native.Nat.{ℕ, _+_, _<_, _≤_}
 use mathlib.Core.Path.{_≡_, refl, sym, _∙_}
 use mathlib.Core.Bool.{Bool, true, false, cond}

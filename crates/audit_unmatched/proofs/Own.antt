@@ -1,4 +1,5 @@
--- The hops of r are all that are unticked for it, so a walk over these finds the first and counts them all. Assumes nothing.
+-- Only hops of r are unstamped for r, so going over these finds the first and counts them all.
+-- Assumes nothing.
 use Prim.Native.Nat.{ℕ, zero, suc, _+_, _<_, _≤_}
 use mathlib.Core.Path.{_≡_, sym, _∙_}
 use mathlib.Core.Bool.{Bool, false, cond}

@@ -1,4 +1,6 @@
--- What is not ticked from s is what s does not back: stamps that begin below k tell by equality with k. And the third sum, by states. Assumes nothing.
+-- The hops that get no stamp from s are those that s does not match: where all stamps are below k
+-- at first, those equal to k afterwards are the new ones. And the third sum, by states. Assumes
+-- nothing.
 use Prim.Native.Nat.{ℕ, _+_, _*_, _<_, _≤_}
 use mathlib.Core.Path.{_≡_, refl, sym, ap, _∙_}
 use mathlib.Core.Bool.{Bool, true, false, cond, not, _&&_, _||_}
@@ -35,10 +37,10 @@ module _ (sh1 : Shape) (h1 h2 m : List ℕ) (ranged : InRange sh1 h1) (bytes : L
   abbrev offer : ℕ → ℕ → Bool
   offer u i = eqb (from h1 i) u && (eqb (label h1 i) (label h2 j) && eqb (mapped m (to h1 i)) (to h2 j))
 
-  -- the hop at place j is ticked exactly when s backs it
-  ticked-backed : any (count h1) (stampsHop h1 h2 m seen-from (mapped m s) j) ≡ matchedFrom sh1 h1 m s (from h2 j) (label h2 j) (to h2 j)
+  -- the hop at place j is stamped exactly when s matches it
+  stamped-matched : any (count h1) (stampsHop h1 h2 m seen-from (mapped m s) j) ≡ matchedFrom sh1 h1 m s (from h2 j) (label h2 j) (to h2 j)
   unfolding stampsHop seenInClass matchedFrom matchAt
-  ticked-backed =
+  stamped-matched =
       same-test (any (count h1) (stampsHop h1 h2 m seen-from (mapped m s) j)) (matchedFrom sh1 h1 m s (from h2 j) (label h2 j) (to h2 j)) there back where
         there : any (count h1) (stampsHop h1 h2 m seen-from (mapped m s) j) ≡ true → matchedFrom sh1 h1 m s (from h2 j) (label h2 j) (to h2 j) ≡ true
         there e =
@@ -74,11 +76,12 @@ unfolding unstamped
 unstamped-hop h2 stamps r k j d e f = rw (d, e, f)
 
 -- a fresh stamp stands where it was set, and nowhere else
-stamp-told : (x : Bool) (k b : ℕ) → b < k → eqb (cond x k b) k ≡ x
-stamp-told true k b l = eq-eqb k k refl
-stamp-told false k b l = ne-eqb b k (λ e. omega arith)
+stamp-result : (x : Bool) (k b : ℕ) → b < k → eqb (cond x k b) k ≡ x
+stamp-result true k b l = eq-eqb k k refl
+stamp-result false k b l = ne-eqb b k (λ e. omega arith)
 
--- r is the map of s, and `seen` what the search from s left: then the count of what is not ticked is the count of the faults of s
+-- r is the map of s, and `seen` what the search from s left: then the count of the unstamped hops
+-- is the count of the faults of s
 module _ (sh1 : Shape) (h1 h2 m : List ℕ) (ranged : InRange sh1 h1) (bytes : List ℕ) (silent : Chooses h1 (silentAt h1) bytes) (s : ℕ) (rest : List ℕ) {r : ℕ}
     (er : r ≡ mapped m s) {seen : List ℕ} (es : seen ≡ reachedBytes h1 (chosenIn bytes) (sh1 .states) s ++ rest) (before after : List ℕ) (ticked : StampedUpTo h1 h2 m seen r (s + 1) (count h1) before after)
     (fresh : Fresh h2 before (s + 1)) where
@@ -92,25 +95,25 @@ module _ (sh1 : Shape) (h1 h2 m : List ℕ) (ranged : InRange sh1 h1) (bytes : L
   unfolding StampedUpTo
   stamped j l = rw (er, es) at (ticked j l)
 
-  unticked-made-up : (j : ℕ) → j < count h2 → unstamped h2 after r (s + 1) j ≡ unmatched sh1 h1 h2 m j s
+  unstamped-unmatched : (j : ℕ) → j < count h2 → unstamped h2 after r (s + 1) j ≡ unmatched sh1 h1 h2 m j s
   unfolding unstamped unmatched matched Fresh
-  unticked-made-up j l = rw er (go (decided (eqb (mapped m s) (from h2 j)))) where
+  unstamped-unmatched j l = rw er (go (decided (eqb (mapped m s) (from h2 j)))) where
     go : (eqb (mapped m s) (from h2 j) ≡ true) ⊎ (eqb (mapped m s) (from h2 j) ≡ false) →
         (eqb (mapped m s) (from h2 j) && not (loop j || eqb (getD after j 0) (s + 1))) ≡
         (eqb (mapped m s) (from h2 j) && not (loop j || matchedFrom sh1 h1 m s (from h2 j) (label h2 j) (to h2 j)))
     go (inl e) =
         ap (λ (x : Bool). eqb (mapped m s) (from h2 j) && not (loop j || x))
-        (ap (λ (b : ℕ). eqb b (s + 1)) (stamped j l) ∙ stamp-told (hits j) (s + 1) (getD before j 0) (fresh j l) ∙
-        ticked-backed sh1 h1 h2 m ranged bytes silent s rest j (eqb-true _ _ e))
+        (ap (λ (b : ℕ). eqb b (s + 1)) (stamped j l) ∙ stamp-result (hits j) (s + 1) (getD before j 0) (fresh j l) ∙
+        stamped-matched sh1 h1 h2 m ranged bytes silent s rest j (eqb-true _ _ e))
     go (inr e) = rw e
 
   pub counted-unmatched : {x : ℕ} → x ≡ tally (count h2) (unstamped h2 after r (s + 1)) → x ≡ unmatchedOf sh1 h1 h2 m s
   unfolding unmatchedOf
-  counted-unmatched e = e ∙ tally-same (unstamped h2 after r (s + 1)) (λ (j : ℕ). unmatched sh1 h1 h2 m j s) (count h2) unticked-made-up
+  counted-unmatched e = e ∙ tally-same (unstamped h2 after r (s + 1)) (λ (j : ℕ). unmatched sh1 h1 h2 m j s) (count h2) unstamped-unmatched
 
   pub first-unmatched : {x : ℕ} → x ≡ least (count h2) (unstamped h2 after r (s + 1)) → x ≡ unmatchedPlaceOf sh1 h1 h2 m s
   unfolding unmatchedPlaceOf
-  first-unmatched e = e ∙ least-same (unstamped h2 after r (s + 1)) (λ (j : ℕ). unmatched sh1 h1 h2 m j s) (count h2) unticked-made-up
+  first-unmatched e = e ∙ least-same (unstamped h2 after r (s + 1)) (λ (j : ℕ). unmatched sh1 h1 h2 m j s) (count h2) unstamped-unmatched
 
   -- the next stamp is fresh
   pub fresh-next : Fresh h2 after (s + 1 + 1)
@@ -131,14 +134,14 @@ module _ (sh1 : Shape) (h1 h2 m : List ℕ) where
   unfolding unmatchedFaults unmatchedOf
   by-states = sym (total-exchange (unmatched sh1 h1 h2 m) (count h2) (sh1 .states))
 
-  made-up-of-most : (s : ℕ) → unmatchedOf sh1 h1 h2 m s ≤ count h2
+  unmatched-of-most : (s : ℕ) → unmatchedOf sh1 h1 h2 m s ≤ count h2
   unfolding unmatchedOf
-  made-up-of-most s = tally-within (λ (j : ℕ). unmatched sh1 h1 h2 m j s) (count h2)
+  unmatched-of-most s = tally-within (λ (j : ℕ). unmatched sh1 h1 h2 m j s) (count h2)
 
   -- a sum over some of the states, and one more, fits
   pub partial-most : (s : ℕ) → s ≤ most-states → count h2 ≤ most-hops →
       total s (unmatchedOf sh1 h1 h2 m) + unmatchedOf sh1 h1 h2 m s ≤ most-states * most-hops + most-hops
   partial-most s l k =
-      let most : total s (unmatchedOf sh1 h1 h2 m) ≤ s * count h2 = total-most (unmatchedOf sh1 h1 h2 m) (count h2) s (λ j h. made-up-of-most j) in
+      let most : total s (unmatchedOf sh1 h1 h2 m) ≤ s * count h2 = total-most (unmatchedOf sh1 h1 h2 m) (count h2) s (λ j h. unmatched-of-most j) in
       let pairs : s * count h2 ≤ most-states * most-hops = mul-le-mul l k in
-      omega (arith, made-up-of-most s)
+      omega (arith, unmatched-of-most s)

@@ -1,1 +1,1 @@
-pub mod States  -- what is not ticked for a state, and what the counting has at hand
+pub mod States  -- what is unstamped for a state, and what the counting requires

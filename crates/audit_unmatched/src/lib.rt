@@ -41,13 +41,15 @@ ghost use Rattle.audit_faults.specs.First.{fault, noFault, firstUnmatched};
 ghost use Rattle.audit_faults.specs.Internal.Images.{Auditable, Imaged};
 ghost use Rattle.audit_unmatched.specs.Internal.States.{CountInput, Workspace, unstamped, Fresh, unmatchedOf, unmatchedPlaceOf};
 
-// What is made up for one state: how many hops of graph 2, and the place of the first, or the hop count.
+// What is unmatched for one state: how many hops of graph 2, and the place of the first, or the hop
+// count.
 pub struct OfState {
     pub faults: u32,
     pub place: usize,
 }
 
-// Whether the hop at place j of graph 2 leaves r, is no silent hop to r itself, and is not ticked.
+// Whether the hop at place j of graph 2 leaves r, is no silent hop to r itself, and does not have
+// the stamp k.
 fn is_unstamped(hops2: &[u16], stamps: &[u16], r: NewState, k: u16, j: usize) -> bool
     requires place { ⌜ j < count (now hops2) ⌝ }
     requires stamps { ⌜ count (now hops2) ≤ length (now stamps) ⌝ }
@@ -59,7 +61,8 @@ fn is_unstamped(hops2: &[u16], stamps: &[u16], r: NewState, k: u16, j: usize) ->
     (r.0 == from.0) & !(((a.0 == 0) & (from.0 == q.0)) | (stamps[j] == k))
 }
 
-// The first place of graph 2 whose hop is so, or its hop count: the hops of r are all that can be.
+// The place of the first such hop of graph 2, or its hop count. Only the hops of r are looked at:
+// no other hop can be one.
 fn first_unstamped(
     hops2: &[u16],
     starts2: &[u16; STARTS],
@@ -85,7 +88,7 @@ fn first_unstamped(
     hop_count(hops2)
 }
 
-// How many hops of graph 2 are so, counted from the first of them on.
+// How many such hops graph 2 has, counted from the first of them on.
 fn unstamped_from(
     hops2: &[u16],
     starts2: &[u16; STARTS],
@@ -177,8 +180,9 @@ fn share_of(faults: u32, place: usize, state: u16, none: usize) -> Share
     }
 }
 
-// The third sum, with the tables of places, and working space for the search and for the stamps, which begin at 0. Going by states meets the faults in another
-// order than theirs, by hops: the smallest place is kept, with the first state that has it.
+// The third sum, by the tables of places, with working space for the search and for the stamps,
+// which begin at 0. The states are passed in order, but the first fault goes by hops: so the
+// smallest place is kept, with the first state that has it.
 fn unmatched_faults(
     shape1: Shape,
     hops1: &[u16],
@@ -229,7 +233,8 @@ fn unmatched_faults(
     share_of(faults, place, state, none)
 }
 
-// The third sum: 1 for each pair of a hop of graph 2 and a state of graph 1 that is a fault, and the first of them.
+// The third sum: 1 for each pair of a hop of graph 2 and a state of graph 1 that is a fault, and
+// the first of them.
 pub fn all_unmatched(
     shape1: Shape,
     hops1: &[u16],

@@ -1,5 +1,6 @@
--- Words of bits, bit by bit: what is in two words joined or cut, in the word of one bit and in none; that two words with the same bits are one; and what a
--- table has after one word of it was written. Assumes nothing.
+-- Words as sets of bits: the bits of a union and of an intersection of two words, of the word with
+-- one bit and of the word with none; that two words with the same bits are equal; and the bits of a
+-- table after one of its words was written. Assumes nothing.
 use Prim.Native.Nat.{ℕ, zero, suc, _+_, _-_, _*_, _/_, _%_, _^_, _<_, _≤_}
 use mathlib.Core.Path.{_≡_, refl, sym, ap, ap₂, _∙_}
 use mathlib.Core.Bool.{Bool, true, false, not, cond, _&&_, _||_}
@@ -46,7 +47,7 @@ digit-same (suc (suc x)) y h l e = absurd (omega arith)
 digit : (x : ℕ) → x % 2 < 2
 digit x = mod-lt x (omega arith)
 
--- joined and cut
+-- union and intersection
 pub bit-or : (x y b : ℕ) → bitAt (bitOr x y) b ≡ (bitAt x b || bitAt y b)
 unfolding bitAt
 bit-or x y b =
@@ -111,7 +112,7 @@ bits-same (suc k) x y h l f =
       lows : x % 2 ≡ y % 2
       lows = digit-same (x % 2) (y % 2) (digit x) (digit y) (sym (bit-first x) ∙ f 0 (omega arith) ∙ bit-first y)
 
--- a word has every bit of another exactly when cutting it by the other leaves the other
+-- a word has every bit of another exactly when its intersection with the other is the other
 has-cut : (w o : Bool) → (not o || w) ≡ true → (w && o) ≡ o
 has-cut true o e = refl
 has-cut false false e = refl
@@ -164,7 +165,7 @@ module _ (ws : List ℕ) (s w : ℕ) where
     go (inl e) = rw (e, eq-eqb s s refl) (table-same b l)
     go (inr n) = rw (ne-eqb t s n) (table-other t b n)
 
--- nothing joined to a test, and a word as a table has it
+-- a test or false is the test; a word of a table has the table's bits
 pub or-nothing : (x : Bool) → (x || false) ≡ x
 or-nothing true = refl
 or-nothing false = refl
@@ -173,7 +174,7 @@ pub word-of : (ws : List ℕ) (s b : ℕ) → bitAt (getD ws s 0) b ≡ bitIn ws
 unfolding bitIn
 word-of ws s b = refl
 
--- a word's bits joined to those at one place
+-- a word's bits added to those at one place
 pub table-or : (ws : List ℕ) (s w t b : ℕ) → s < length ws → bitIn (set ws s (bitOr (getD ws s 0) w)) t b ≡ (bitIn ws t b || (eqb t s && bitAt w b))
 table-or ws s w t b l = go (eq-or-not t s) where
   go : (t ≡ s) ⊎ (t ≡ s → ⊥) → bitIn (set ws s (bitOr (getD ws s 0) w)) t b ≡ (bitIn ws t b || (eqb t s && bitAt w b))

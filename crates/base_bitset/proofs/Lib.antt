@@ -1,1 +1,1 @@
-pub mod Laws  -- joined and cut words bit by bit, one bit alone, words with the same bits, and a table's bits after a write
+pub mod Laws  -- union and intersection, one bit alone, equal words, a table after a write

@@ -29,7 +29,8 @@ pub fn holds(word: u64, other: u64) -> bool
 // How many words a table has: one for each state, or for each label, that can be.
 pub const TABLE: usize = 1024;
 
-// A table behind a reference has them all: what a proof knows of an array's length once the array is seen as a slice. It does nothing.
+// Does nothing but say in its contract that a table behind a reference has all its words: a proof
+// knows the length of an array once the array is seen as a slice.
 pub fn sized(words: &[u64; TABLE])
     ensures { λ r. ⌜ length (now (words .entry)) ≡ table-words ⌝ }
 {

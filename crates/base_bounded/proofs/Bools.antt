@@ -1,4 +1,5 @@
--- Laws of Bool tests: what a joined test says of its parts, and the other way round. Assumes nothing.
+-- Laws of Bool tests: what a joined test says of its parts, and the other way round. Assumes
+-- nothing.
 use Prim.Native.Nat.{ℕ, _<_, _≤_}
 use mathlib.Core.Path.{_≡_, refl, sym, _∙_}
 use mathlib.Core.Bool.{Bool, true, false, not, _&&_, _||_}

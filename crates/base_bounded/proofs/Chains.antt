@@ -1,5 +1,7 @@
--- A chain of sets of numbers below n, each within the one before, in which one step without change is the last change, has come to rest
--- after n steps: each step before that takes at least one number out. Rounds of marking and bounded walks both end by this. Assumes nothing.
+-- A chain of sets of numbers below n: each set is within the one before, and after a step without
+-- change no later step changes anything. Such a chain is stationary after n steps, since each step
+-- that changes something removes a number. Rounds of marking and bounded walks both end by this.
+-- Assumes nothing.
 use Prim.Native.Nat.{ℕ, zero, suc, _+_, _<_, _≤_}
 use mathlib.Core.Path.{_≡_, refl, sym, _∙_}
 use mathlib.Core.Bool.{Bool, true, false}
@@ -18,7 +20,7 @@ abbrev pub Still : ℕ → (ℕ → ℕ → Bool) → ℕ → Type 0
 Still n chain k = (j : ℕ) → j < n → chain k j ≡ chain (suc k) j
 
 module _ (n : ℕ) (chain : ℕ → ℕ → Bool) (falls : Falling n chain) (rests : (k : ℕ) → Still n chain k → Still n chain (suc k)) where
-  -- step k changes nothing, or takes a number out
+  -- step k changes nothing, or removes a number
   step : (k : ℕ) → Still n chain k ⊎ (tally n (chain (suc k)) < tally n (chain k))
   step k = go (decided (all n kept)) where
     open-or : Bool → Bool → Bool
@@ -52,7 +54,7 @@ module _ (n : ℕ) (chain : ℕ → ℕ → Bool) (falls : Falling n chain) (res
     suc-left : suc m + k ≡ suc (m + k)
     suc-left = omega arith
 
-  -- after k steps the chain is at rest, or has lost k numbers
+  -- after k steps the chain is stationary, or has lost k numbers
   lost : (k : ℕ) → Still n chain k ⊎ (tally n (chain k) + k ≤ n)
   lost zero = inr (omega (arith, tally-within (chain 0) n))
   lost (suc k) = go (lost k) (step k) where

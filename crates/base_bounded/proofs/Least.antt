@@ -1,5 +1,6 @@
--- The least number that passes a test, beside the other tests below a bound; and the least of the pairs that pass a test of two numbers, met in the order of
--- the second number: what a search that goes by states keeps of hops. Assumes nothing.
+-- Laws of the least number below a bound that passes a test; and of the least of the pairs that
+-- pass a test of two numbers, where the pairs come in the order of the second number: a search that
+-- goes by states keeps the least hop so. Assumes nothing.
 use Prim.Native.Nat.{ℕ, _+_, _<_, _≤_}
 use mathlib.Core.Path.{_≡_, refl, sym, ap, _∙_}
 use mathlib.Core.Bool.{Bool, true, false, cond, _||_}
@@ -36,7 +37,8 @@ least-same p q n f =
     least-is p n (least n q) (least-within q n) (λ j l. f j (omega (arith, least-within q n)) ∙ least-before q n l)
     (λ l. f (least n q) l ∙ least-passes q n l)
 
--- the pairs of a number below b and one below n: the least first number of one that passes, or b, and for it the least second number, or 0
+-- the pairs of a number below b and one below n: the least first number of one that passes, or b,
+-- and for it the least second number, or 0
 module _ (b : ℕ) (p : ℕ → ℕ → Bool) where
   abbrev pub leastFirst : ℕ → ℕ
   leastFirst n = least b (λ (j : ℕ). any n (p j))

@@ -1,5 +1,6 @@
--- Laws of the tests over each number below a bound. Four serve a loop of each kind: `-none` where it begins, `-more` for a turn, `-fails`
--- or `-found` for an early return, `-done` where the count has reached the bound. Assumes nothing.
+-- Laws of the tests over the numbers below a bound. Four serve each kind of loop: `-none` where it
+-- begins, `-more` for one step, `-fails` or `-found` for an early return, `-done` where the count
+-- has reached the bound. Assumes nothing.
 use Prim.Native.Nat.{ℕ, zero, suc, _+_, _*_, _<_, _≤_}
 use mathlib.Core.Path.{_≡_, refl, sym, ap, _∙_}
 use mathlib.Core.Bool.{Bool, true, false, cond, _&&_, _||_}
@@ -221,7 +222,7 @@ module _ (f : ℕ → ℕ) where
       (λ m. List·getD-append (tabulate n f) (f n ∷ []) 0 i (rw (length-tabulate n) m) ∙ getD-tabulate n m)
       (eq-or-lt-of-le (le-of-suc-le-suc l))
 
--- how many pass: one turn of a loop that counts, and none at all
+-- how many pass: one step of a loop that counts, and none at all
 module _ (p : ℕ → Bool) where
   pub tally-none : tally 0 p ≡ 0
   unfolding tally
@@ -251,7 +252,7 @@ module _ (p : ℕ → Bool) where
     go true d ih e = absurd (omega arith)
     go false d ih e = ⊎-elim (λ q. ap p q ∙ d) (λ m. ih (omega arith) m) (eq-or-lt-of-le (le-of-suc-le-suc l))
 
--- sums: one turn of a loop that adds, and bounds
+-- sums: one step of a loop that adds, and bounds
 module _ (f : ℕ → ℕ) where
   pub total-none : total 0 f ≡ 0
   unfolding total

@@ -1,5 +1,5 @@
--- How many numbers pass below a bound that grows: one more behind each that passes, so each number below the count is reached; and how many pass one of two
--- tests. Assumes nothing.
+-- How many numbers pass below a bound that grows: one more behind each that passes, so each number
+-- below the count is reached; and how many pass one of two tests. Assumes nothing.
 use Prim.Native.Nat.{ℕ, zero, suc, _+_, _<_, _≤_}
 use mathlib.Core.Path.{_≡_, refl}
 use mathlib.Core.Bool.{Bool, true, false, cond}

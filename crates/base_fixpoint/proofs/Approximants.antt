@@ -1,6 +1,7 @@
--- Rounds of a monotone operator F on a set b: each leaves less than the one before, none changes anything once there have been as many as the set has
--- pairs, since a round that changes nothing is the last to do so and any other takes a pair out, and what is left is the greatest set that F keeps.
--- Assumes nothing.
+-- Rounds of a monotone operator F on a set b. What a round leaves is within what the one before
+-- left. After as many rounds as b has pairs nothing changes any more: after a round without change
+-- there is no other change, and every other round removes a pair. What is left is the greatest set
+-- that F keeps. Assumes nothing.
 use Prim.Native.Nat.{ℕ, zero, suc, _+_, _<_}
 use mathlib.Core.Path.{_≡_, refl, sym, _∙_}
 use mathlib.Core.Bool.{Bool, true, _&&_}
@@ -93,7 +94,8 @@ module _ (F : Operator) (b : Pairs) where
           (approximant F b n s t ≡ true → (k : ℕ) → approximant F b k s t ≡ true) × (((k : ℕ) → approximant F b k s t ≡ true) → approximant F b n s t ≡ true)
       approximant-every s t = ((λ e k. post-fixed-approximant (approximant-within n) approximant-post-fixed k s t e), (λ f. f n))
 
-      -- a set between what is left and b of which each pair meets the condition with it is what is left: where taking pairs out, in any order, comes to
-      -- rest without having taken out one that is left, it ends there
+      -- a set between what is left and b, each of whose pairs meets the condition with it, is what
+      -- is left. So pairs may be removed in any order: if none that is left is removed, and in the
+      -- end each pair meets the condition, the end is the same
       pub approximant-same : (v : Pairs) → Subset (In v) (In b) → Subset (In v) (In (F v)) → Subset (In (approximant F b n)) (In v) → v ≡ approximant F b n
       approximant-same v w f g = λ k s t. same-test (v s t) (approximant F b n s t) (approximant-greatest w (λ x h s t e. mono v x h s t (f s t e)) s t) (g s t) k

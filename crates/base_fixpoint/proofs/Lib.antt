@@ -1,1 +1,1 @@
-pub mod Approximants  -- rounds shrink, come to rest, and leave the greatest set that the condition keeps
+pub mod Approximants  -- rounds become stationary, and leave the greatest set that F keeps

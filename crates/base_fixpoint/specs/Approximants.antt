@@ -7,8 +7,9 @@ use Rattle.base_fixpoint.specs.Pairs.{Pairs}
 abbrev pub Operator : Type 0
 Operator = Pairs → Pairs
 
--- what k rounds leave of the set b. "Every silent hop survives 0 rounds. It survives k + 1 when the condition above holds with 'in U' read as
--- 'survives k'", for any condition and for any set to begin with
+-- what k rounds leave of the set b. "Every silent hop survives 0 rounds. It survives k + 1 when the
+-- condition above holds with 'in U' read as 'survives k'", for any condition and for any set to
+-- begin with
 unfoldable pub approximant : Operator → Pairs → ℕ → Pairs
 approximant F b zero s t = b s t
 approximant F b (suc k) s t = b s t && F (approximant F b k) s t

@@ -1,4 +1,5 @@
--- Laws of a list written over the front or a part of an older one, one element at a time or part after part. Assumes nothing.
+-- Laws of a list written over the front or a part of an older one, one element at a time or part
+-- after part. Assumes nothing.
 use Prim.Native.Nat.{ℕ, suc, _+_, _-_, _<_, _≤_}
 use mathlib.Core.Path.{_≡_, refl, sym, ap, _∙_}
 use mathlib.Core.List.{List, [], _∷_, _++_, append-assoc, append-nil}

@@ -11,7 +11,7 @@ use lib.Dec.{eqb}
 abbrev pub onFront : List ℕ → List ℕ → List ℕ
 onFront new old = new ++ drop (length new) old
 
--- an entry's output, where n is the number that it answers: "A refusal leaves all lent elements untouched"; "Acceptance writes the named elements and
--- none past them"
+-- an entry's output, where n is the number that it answers: "A refusal leaves all lent elements
+-- untouched"; "Acceptance writes the named elements and none past them"
 abbrev pub written : ℕ → List ℕ → List ℕ → List ℕ
 written n new old = cond (eqb n 0) (onFront new old) old

@@ -1,4 +1,5 @@
--- What an answer slice and the other lent slices hold afterwards, where the answer slice is too short or long enough. Assumes nothing.
+-- What an answer slice and the other lent slices hold afterwards, where the answer slice is too
+-- short or long enough. Assumes nothing.
 use Prim.Native.Nat.{ℕ, _<_, _≤_}
 use mathlib.Core.Path.{_≡_, ap, _∙_}
 use mathlib.Core.List.{List, _++_}
@@ -6,7 +7,7 @@ use borrow.Author.Tests.{le-leb, lt-leb}
 use lib.ListN.{length, drop}
 use Rattle.c_answer.specs.Numbers.{answerAfter, unlessShort}
 
--- what is told of a result's numbers is told of an equal result's
+-- equal results leave the same in the answer slice
 pub answer-after-of : {A : Type 0} (numbers : A → List ℕ) (n : ℕ) (old : List ℕ) {x y : A} {new : List ℕ} → x ≡ y → new ≡ answerAfter n (numbers x) old →
     new ≡ answerAfter n (numbers y) old
 answer-after-of {A = A} numbers n old e h = h ∙ ap (λ (z : A). answerAfter n (numbers z) old) e

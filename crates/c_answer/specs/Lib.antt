@@ -1,1 +1,1 @@
-pub mod Numbers  -- the numbers that an entry tells its caller, and what is returned
+pub mod Numbers  -- the numbers that an entry writes for its caller, and what is returned

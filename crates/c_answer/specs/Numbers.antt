@@ -17,7 +17,8 @@ shapeOf s l i = record { states = s; labels = l; initial = i }
 abbrev pub numbersOf : Answer → List ℕ → List ℕ
 numbersOf a figures = a .number ∷ a .table ∷ a .place ∷ figures
 
--- what is returned: the entry's number if it refuses, else 0, or 6 for an answer slice too short for n numbers
+-- what is returned: the entry's number if it refuses, else 0, or 6 for an answer slice too short
+-- for n numbers
 unfoldable pub returned : Answer → ℕ → ℕ → ℕ
 returned a n capacity = cond (eqb (a .number) 0) (cond (leb n capacity) 0 6) (a .number)
 

@@ -1,9 +1,9 @@
 // What every entry of the C ABI returns to its caller: the figures at the front of the answer
-// slice, and the number that is returned.
-// An answer slice too short gets nothing, and 6 is returned unless the entry itself refuses. The
-// crates c_* build the figures of their entries as a small array and end with `put_answer`; where nothing
-// else may be written either, they compute the answer alone and end with `short_number`.
-// Uses `graph` for answers and `base_outputs` for what a slice holds afterwards.
+// slice, and the number that is returned. An answer slice too short gets nothing, and 6 is returned
+// unless the entry itself refuses. The crates c_* build the figures of their entries as a small
+// array and end with `put_answer`; where nothing else may be written either, they compute the
+// answer alone and end with `short_number`. Uses `graph` for answers and `base_outputs` for what a
+// slice holds afterwards.
 use graph::Answer;
 ghost use mathlib.Core.Path.{_≡_};
 ghost use mathlib.Core.List.{[], _∷_};
@@ -36,10 +36,11 @@ fn put_figures(out: &mut [u64], figures: &[u64])
     }
 }
 
-// Tells the figures of an entry that answers `a`, and says what is returned.
+// Writes the figures of an entry that answers `a`, if the answer slice is long enough, and returns
+// the entry's return value.
 pub fn put_answer(out: &mut [u64], figures: &[u64], a: Answer) -> u32
     ensures returns { λ r. ⌜ r ≡ returned a (length (now (figures .entry))) (length (now (out .entry))) ⌝ }
-    ensures tells { λ r. ⌜ now (out .exit) ≡ answerAfter (length (now (figures .entry))) (now (figures .entry)) (now (out .entry)) ⌝ }
+    ensures figures { λ r. ⌜ now (out .exit) ≡ answerAfter (length (now (figures .entry))) (now (figures .entry)) (now (out .entry)) ⌝ }
 {
     if out.len() < figures.len() {
         return short_number(a, out.len(), figures.len());
@@ -48,19 +49,19 @@ pub fn put_answer(out: &mut [u64], figures: &[u64], a: Answer) -> u32
     a.number
 }
 
-// An entry that tells its answer and no more.
+// For an entry that writes its answer and no more.
 pub fn put_plain_answer(out: &mut [u64], a: Answer) -> u32
     ensures returns { λ r. ⌜ r ≡ returned a 3 (length (now (out .entry))) ⌝ }
-    ensures tells { λ r. ⌜ now (out .exit) ≡ answerAfter 3 (numbersOf a []) (now (out .entry)) ⌝ }
+    ensures figures { λ r. ⌜ now (out .exit) ≡ answerAfter 3 (numbersOf a []) (now (out .entry)) ⌝ }
 {
     let figures = [a.number as u64, a.table as u64, a.place as u64];
     put_answer(out, &figures, a)
 }
 
-// An entry that tells its answer and one figure.
+// For an entry that writes its answer and one figure.
 pub fn put_figure_answer(out: &mut [u64], a: Answer, figure: u64) -> u32
     ensures returns { λ r. ⌜ r ≡ returned a 4 (length (now (out .entry))) ⌝ }
-    ensures tells { λ r. ⌜ now (out .exit) ≡ answerAfter 4 (numbersOf a (figure ∷ [])) (now (out .entry)) ⌝ }
+    ensures figures { λ r. ⌜ now (out .exit) ≡ answerAfter 4 (numbersOf a (figure ∷ [])) (now (out .entry)) ⌝ }
 {
     let figures = [a.number as u64, a.table as u64, a.place as u64, figure];
     put_answer(out, &figures, a)

@@ -17,7 +17,7 @@ ghost use Rattle.c_audit.specs.Numbers.{auditNumbers};
 // An answer, the fault count, and the first fault's kind, place and state.
 fn put_audit(out: &mut [u64], audited: Audit) -> u32
     ensures returns { λ r. ⌜ r ≡ returned (audited .answer) 7 (length (now (out .entry))) ⌝ }
-    ensures tells { λ r. ⌜ now (out .exit) ≡ answerAfter 7 (auditNumbers audited) (now (out .entry)) ⌝ }
+    ensures figures { λ r. ⌜ now (out .exit) ≡ answerAfter 7 (auditNumbers audited) (now (out .entry)) ⌝ }
 {
     let a = audited.answer;
     let first = audited.first;
@@ -50,7 +50,7 @@ pub fn audit_into(
         (auditAnswer (shapeOf states1 labels1 initial1) (shapeOf states2 labels2 initial2) (now (hops1 .entry)) (now (hops2 .entry)) (now (map .entry)))
         7
         (length (now (answer .entry))) ⌝ }
-    ensures tells { λ r. ⌜ now (answer .exit) ≡
+    ensures figures { λ r. ⌜ now (answer .exit) ≡
         answerAfter 7
         (auditNumbers
         (auditOf (shapeOf states1 labels1 initial1) (shapeOf states2 labels2 initial2) (now (hops1 .entry)) (now (hops2 .entry)) (now (map .entry))))

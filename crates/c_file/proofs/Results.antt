@@ -1,4 +1,5 @@
--- The answer that stands in what read and write return is their answer, refused or not. Assumes nothing.
+-- The answer that stands in what read and write return is their answer, refused or not. Assumes
+-- nothing.
 use Prim.Native.Nat.{ℕ}
 use mathlib.Core.Path.{_≡_, refl, sym}
 use mathlib.Core.List.{List}

@@ -23,7 +23,7 @@ ghost use Rattle.c_file.specs.Numbers.{contentsNumbers, writtenNumbers};
 // An answer, the graph's counts and initial state, and where its name block stands.
 fn put_contents(out: &mut [u64], contents: Contents) -> u32
     ensures returns { λ r. ⌜ r ≡ returned (contents .answer) 9 (length (now (out .entry))) ⌝ }
-    ensures tells { λ r. ⌜ now (out .exit) ≡ answerAfter 9 (contentsNumbers contents) (now (out .entry)) ⌝ }
+    ensures figures { λ r. ⌜ now (out .exit) ≡ answerAfter 9 (contentsNumbers contents) (now (out .entry)) ⌝ }
 {
     let a = contents.answer;
     let shape = contents.shape;
@@ -46,7 +46,7 @@ pub fn read_into(file: &[u8], hops: &mut [u16], answer: &mut [u64]) -> u32
     ensures returns { λ r. ⌜ r ≡ returned (readAnswer (now (file .entry)) (length (now (hops .entry)))) 9 (length (now (answer .entry))) ⌝ }
     ensures hops { λ r. ⌜ now (hops .exit) ≡
         unlessShort 9 (now (answer .entry)) (readHops (now (file .entry)) (now (hops .entry))) (now (hops .entry)) ⌝ }
-    ensures tells { λ r. ⌜ now (answer .exit) ≡
+    ensures figures { λ r. ⌜ now (answer .exit) ≡
         answerAfter 9 (contentsNumbers (readOf (now (file .entry)) (length (now (hops .entry))))) (now (answer .entry)) ⌝ }
 {
     if answer.len() < 9 {
@@ -77,7 +77,7 @@ pub fn write_into(
         (now (answer .entry))
         (writeBytes (shapeOf states labels initial) (now (hops .entry)) (now (names .entry)) (now (out .entry)))
         (now (out .entry)) ⌝ }
-    ensures tells { λ r. ⌜ now (answer .exit) ≡
+    ensures figures { λ r. ⌜ now (answer .exit) ≡
         answerAfter 4
         (writtenNumbers (writeOf (shapeOf states labels initial) (now (hops .entry)) (now (names .entry)) (length (now (out .entry)))))
         (now (answer .entry)) ⌝ }

@@ -16,7 +16,7 @@ ghost use Rattle.c_find.specs.Numbers.{findingNumbers};
 // An answer, whether the hop is found, and its place.
 fn put_finding(out: &mut [u64], finding: Finding) -> u32
     ensures returns { λ r. ⌜ r ≡ returned (finding .answer) 5 (length (now (out .entry))) ⌝ }
-    ensures tells { λ r. ⌜ now (out .exit) ≡ answerAfter 5 (findingNumbers finding) (now (out .entry)) ⌝ }
+    ensures figures { λ r. ⌜ now (out .exit) ≡ answerAfter 5 (findingNumbers finding) (now (out .entry)) ⌝ }
 {
     let a = finding.answer;
     let figures = [
@@ -40,7 +40,7 @@ pub fn find_into(
     answer: &mut [u64],
 ) -> u32
     ensures returns { λ r. ⌜ r ≡ returned (checkOf (shapeOf states labels initial) (now (hops .entry))) 5 (length (now (answer .entry))) ⌝ }
-    ensures tells { λ r. ⌜ now (answer .exit) ≡
+    ensures figures { λ r. ⌜ now (answer .exit) ≡
         answerAfter 5 (findingNumbers (findOf (shapeOf states labels initial) (now (hops .entry)) from label to)) (now (answer .entry)) ⌝ }
 {
     let shape = Shape {

@@ -27,7 +27,7 @@ pub fn hops_of_into(
     answer: &mut [u64],
 ) -> u32
     ensures returns { λ r. ⌜ r ≡ returned accepted 2 (length (now (answer .entry))) ⌝ }
-    ensures tells { λ r. ⌜ now (answer .exit) ≡
+    ensures figures { λ r. ⌜ now (answer .exit) ≡
         answerAfter 2
         (spanNumbers
         (spanOf

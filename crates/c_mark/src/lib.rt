@@ -26,7 +26,7 @@ ghost use Rattle.c_mark.specs.Numbers.{roundNumbers, countedNumbers};
 
 pub fn check_into(states: u32, labels: u32, initial: u32, hops: &[u16], answer: &mut [u64]) -> u32
     ensures returns { λ r. ⌜ r ≡ returned (checkOf (shapeOf states labels initial) (now (hops .entry))) 3 (length (now (answer .entry))) ⌝ }
-    ensures tells { λ r. ⌜ now (answer .exit) ≡
+    ensures figures { λ r. ⌜ now (answer .exit) ≡
         answerAfter 3 (numbersOf (checkOf (shapeOf states labels initial) (now (hops .entry))) []) (now (answer .entry)) ⌝ }
 {
     let shape = Shape {
@@ -55,7 +55,7 @@ pub fn mark_into(
         (now (answer .entry))
         (markOutput (shapeOf states labels initial) (now (hops .entry)) sense (now (marks .entry)))
         (now (marks .entry)) ⌝ }
-    ensures tells { λ r. ⌜ now (answer .exit) ≡
+    ensures figures { λ r. ⌜ now (answer .exit) ≡
         answerAfter 3 (numbersOf (markAnswer (shapeOf states labels initial) (now (hops .entry)) sense (now (marks .entry))) []) (now (answer .entry)) ⌝ }
 {
     let shape = Shape {
@@ -87,7 +87,7 @@ pub fn mark_fast_into(
         (now (answer .entry))
         (markOutput (shapeOf states labels initial) (now (hops .entry)) 1 (now (marks .entry)))
         (now (marks .entry)) ⌝ }
-    ensures tells { λ r. ⌜ now (answer .exit) ≡
+    ensures figures { λ r. ⌜ now (answer .exit) ≡
         answerAfter 4 (countedNumbers (markFastOf (shapeOf states labels initial) (now (hops .entry)) (now (marks .entry)))) (now (answer .entry)) ⌝ }
 {
     let shape = Shape {
@@ -114,7 +114,7 @@ pub fn round_into(
 ) -> u32
     ensures returns { λ r. ⌜ r ≡
         returned (questionAnswer (shapeOf states labels initial) (now (hops .entry)) place rounds) 4 (length (now (answer .entry))) ⌝ }
-    ensures tells { λ r. ⌜ now (answer .exit) ≡
+    ensures figures { λ r. ⌜ now (answer .exit) ≡
         answerAfter 4 (roundNumbers (questionOf (shapeOf states labels initial) (now (hops .entry)) place rounds)) (now (answer .entry)) ⌝ }
 {
     let shape = Shape {

@@ -18,7 +18,7 @@ ghost use Rattle.c_reduce.specs.Numbers.{reductionNumbers};
 // An answer, and the short graph's counts and initial state.
 fn put_reduction(out: &mut [u64], reduction: Reduction) -> u32
     ensures returns { λ r. ⌜ r ≡ returned (reduction .answer) 7 (length (now (out .entry))) ⌝ }
-    ensures tells { λ r. ⌜ now (out .exit) ≡ answerAfter 7 (reductionNumbers reduction) (now (out .entry)) ⌝ }
+    ensures figures { λ r. ⌜ now (out .exit) ≡ answerAfter 7 (reductionNumbers reduction) (now (out .entry)) ⌝ }
 {
     let a = reduction.answer;
     let shape = reduction.shape;
@@ -60,7 +60,7 @@ pub fn reduce_into(
         (now (answer .entry))
         (shortOutput (shapeOf states labels initial) (now (hops .entry)) sense (now (map .entry)) (now (short .entry)))
         (now (short .entry)) ⌝ }
-    ensures tells { λ r. ⌜ now (answer .exit) ≡
+    ensures figures { λ r. ⌜ now (answer .exit) ≡
         answerAfter 7
         (reductionNumbers (reduceOf (shapeOf states labels initial) (now (hops .entry)) sense (length (now (map .entry))) (length (now (short .entry)))))
         (now (answer .entry)) ⌝ }

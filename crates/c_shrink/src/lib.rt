@@ -20,7 +20,7 @@ ghost use Rattle.c_shrink.specs.Numbers.{shrinkingNumbers};
 // An answer, the last graph's counts and initial state, and the number of reductions.
 fn put_shrinking(out: &mut [u64], shrinking: Shrinking) -> u32
     ensures returns { λ r. ⌜ r ≡ returned (shrinking .answer) 8 (length (now (out .entry))) ⌝ }
-    ensures tells { λ r. ⌜ now (out .exit) ≡ answerAfter 8 (shrinkingNumbers shrinking) (now (out .entry)) ⌝ }
+    ensures figures { λ r. ⌜ now (out .exit) ≡ answerAfter 8 (shrinkingNumbers shrinking) (now (out .entry)) ⌝ }
 {
     let a = shrinking.answer;
     let shape = shrinking.shape;
@@ -63,7 +63,7 @@ pub fn shrink_into(
         (now (answer .entry))
         (shrinkHopsOutput (shapeOf states labels initial) (now (hops .entry)) sense (now (map .entry)) (now (short .entry)))
         (now (short .entry)) ⌝ }
-    ensures tells { λ r. ⌜ now (answer .exit) ≡
+    ensures figures { λ r. ⌜ now (answer .exit) ≡
         answerAfter 8
         (shrinkingNumbers (shrinkOf (shapeOf states labels initial) (now (hops .entry)) sense (length (now (map .entry))) (length (now (short .entry)))))
         (now (answer .entry)) ⌝ }

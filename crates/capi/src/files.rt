@@ -13,7 +13,7 @@ pub extern "C" fn zf_read(file: &[u8], hops: &mut [u16], answer: &mut [u64]) -> 
     ensures returns { λ r. ⌜ r ≡ returned (readAnswer (now (file .entry)) (length (now (hops .entry)))) 9 (length (now (answer .entry))) ⌝ }
     ensures hops { λ r. ⌜ now (hops .exit) ≡
         unlessShort 9 (now (answer .entry)) (readHops (now (file .entry)) (now (hops .entry))) (now (hops .entry)) ⌝ }
-    ensures tells { λ r. ⌜ now (answer .exit) ≡
+    ensures figures { λ r. ⌜ now (answer .exit) ≡
         answerAfter 9 (contentsNumbers (readOf (now (file .entry)) (length (now (hops .entry))))) (now (answer .entry)) ⌝ }
 {
     read_into(file, hops, answer)
@@ -39,7 +39,7 @@ pub extern "C" fn zf_write(
         (now (answer .entry))
         (writeBytes (shapeOf states labels initial) (now (hops .entry)) (now (names .entry)) (now (out .entry)))
         (now (out .entry)) ⌝ }
-    ensures tells { λ r. ⌜ now (answer .exit) ≡
+    ensures figures { λ r. ⌜ now (answer .exit) ≡
         answerAfter 4
         (writtenNumbers (writeOf (shapeOf states labels initial) (now (hops .entry)) (now (names .entry)) (length (now (out .entry)))))
         (now (answer .entry)) ⌝ }

@@ -19,7 +19,7 @@ pub extern "C" fn zf_find(
     answer: &mut [u64],
 ) -> u32
     ensures returns { λ r. ⌜ r ≡ returned (checkOf (shapeOf states labels initial) (now (hops .entry))) 5 (length (now (answer .entry))) ⌝ }
-    ensures tells { λ r. ⌜ now (answer .exit) ≡
+    ensures figures { λ r. ⌜ now (answer .exit) ≡
         answerAfter 5 (findingNumbers (findOf (shapeOf states labels initial) (now (hops .entry)) from label to)) (now (answer .entry)) ⌝ }
 {
     find_into(states, labels, initial, hops, from, label, to, answer)

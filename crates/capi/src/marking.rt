@@ -22,7 +22,7 @@ pub extern "C" fn zf_check(
     answer: &mut [u64],
 ) -> u32
     ensures returns { λ r. ⌜ r ≡ returned (checkOf (shapeOf states labels initial) (now (hops .entry))) 3 (length (now (answer .entry))) ⌝ }
-    ensures tells { λ r. ⌜ now (answer .exit) ≡
+    ensures figures { λ r. ⌜ now (answer .exit) ≡
         answerAfter 3 (numbersOf (checkOf (shapeOf states labels initial) (now (hops .entry))) []) (now (answer .entry)) ⌝ }
 {
     check_into(states, labels, initial, hops, answer)
@@ -45,7 +45,7 @@ pub extern "C" fn zf_mark(
         (now (answer .entry))
         (markOutput (shapeOf states labels initial) (now (hops .entry)) sense (now (marks .entry)))
         (now (marks .entry)) ⌝ }
-    ensures tells { λ r. ⌜ now (answer .exit) ≡
+    ensures figures { λ r. ⌜ now (answer .exit) ≡
         answerAfter 3 (numbersOf (markAnswer (shapeOf states labels initial) (now (hops .entry)) sense (now (marks .entry))) []) (now (answer .entry)) ⌝ }
 {
     mark_into(states, labels, initial, hops, sense, marks, answer)
@@ -67,7 +67,7 @@ pub extern "C" fn zf_mark_fast(
         (now (answer .entry))
         (markOutput (shapeOf states labels initial) (now (hops .entry)) 1 (now (marks .entry)))
         (now (marks .entry)) ⌝ }
-    ensures tells { λ r. ⌜ now (answer .exit) ≡
+    ensures figures { λ r. ⌜ now (answer .exit) ≡
         answerAfter 4 (countedNumbers (markFastOf (shapeOf states labels initial) (now (hops .entry)) (now (marks .entry)))) (now (answer .entry)) ⌝ }
 {
     mark_fast_into(states, labels, initial, hops, marks, answer)
@@ -85,7 +85,7 @@ pub extern "C" fn zf_round(
 ) -> u32
     ensures returns { λ r. ⌜ r ≡
         returned (questionAnswer (shapeOf states labels initial) (now (hops .entry)) place rounds) 4 (length (now (answer .entry))) ⌝ }
-    ensures tells { λ r. ⌜ now (answer .exit) ≡
+    ensures figures { λ r. ⌜ now (answer .exit) ≡
         answerAfter 4 (roundNumbers (questionOf (shapeOf states labels initial) (now (hops .entry)) place rounds)) (now (answer .entry)) ⌝ }
 {
     round_into(states, labels, initial, hops, place, rounds, answer)

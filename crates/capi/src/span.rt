@@ -22,7 +22,7 @@ pub extern "C" fn zf_hops_of(
     answer: &mut [u64],
 ) -> u32
     ensures returns { λ r. ⌜ r ≡ returned accepted 2 (length (now (answer .entry))) ⌝ }
-    ensures tells { λ r. ⌜ now (answer .exit) ≡
+    ensures figures { λ r. ⌜ now (answer .exit) ≡
         answerAfter 2
         (spanNumbers
         (spanOf

@@ -11,8 +11,8 @@ use Rattle.file_numbers.specs.Numbers.{number}
 use Rattle.file_lines.specs.LineField.{anyLine, lineList}
 use Rattle.file_hops.specs.Field.{fieldBytes}
 
--- "Byte 0 is a bit map: bit 0 initial state, bit 1 hops, bit 2 names"; "Absent means initial state 0, no hops, no names"; "bit 3 stands for a list of
--- lines", where some line is not 0
+-- "Byte 0 is a bit map: bit 0 initial state, bit 1 hops, bit 2 names"; "Absent means initial state
+-- 0, no hops, no names"; "bit 3 stands for a list of lines", where some line is not 0
 unfoldable pub bitsOf : Shape → List ℕ → List ℕ → ℕ
 bitsOf sh hs ns = cond (eqb (sh .initial) 0) 0 1 + cond (eqb (count hs) 0) 0 2 + cond (eqb (length ns) 0) 0 4 + cond (anyLine hs) 8 0
 

@@ -106,7 +106,7 @@ fn put_hops(out: &mut [u8], at: usize, hops: &[u16])
 }
 
 fn put_lines_of(out: &mut [u8], at: usize, hops: &[u16], lined: bool)
-    requires lined { ⌜ lined ≡ anyLine (now hops) ⌝ }
+    requires ordered { ⌜ lined ≡ anyLine (now hops) ⌝ }
     requires capacity { ⌜ at + length (linesBytes (now hops)) ≤ length (now out) ⌝ }
     ensures { λ _. ⌜ now (out .exit) ≡ overAt at (linesBytes (now (hops .entry))) (now (out .entry)) ⌝ }
 {
@@ -136,7 +136,8 @@ pub fn encoded_length(shape: Shape, hops: &[u16], names: &[u8]) -> usize
         + (initial_length(shape) + (hops_length(hops) + (names.len() + lines_bytes(hops))))
 }
 
-// The whole file, to the front of the output. Its length tells whether there are lines, so that they are not looked for again.
+// The whole file, to the front of the output. Its length says whether there are lines, so that they
+// are not searched for again.
 pub fn put_file(shape: Shape, hops: &[u16], names: &[u8], size: usize, out: &mut [u8])
     requires writable { ⌜ Writable shape (now hops) (now names) (length (now out)) ⌝ }
     requires size { ⌜ size ≡ length (encode shape (now hops) (now names)) ⌝ }

@@ -1,4 +1,5 @@
--- A choice by a test that the code made: the value of either way out is the chosen one. Assumes nothing.
+-- A choice by a test that the code made: the value of either way out is the chosen one. Assumes
+-- nothing.
 use mathlib.Core.Path.{_≡_, sym, _∙_}
 use mathlib.Core.Bool.{Bool, true, false, cond}
 

@@ -13,7 +13,8 @@ use Rattle.file_lines.specs.declared.Lines.{Lines}
 use Rattle.file_hops.specs.Field.{fieldLength, hopsInField}
 use Rattle.file_names.specs.Block.{nameAt}
 
--- "Byte 0 is a bit map: bit 0 initial state, bit 1 hops, bit 2 names"; "bit 3 stands for a list of lines"
+-- "Byte 0 is a bit map: bit 0 initial state, bit 1 hops, bit 2 names"; "bit 3 stands for a list of
+-- lines"
 abbrev pub bitMap : List ℕ → ℕ
 bitMap b = getD b 0 0
 
@@ -29,8 +30,8 @@ hasNames b = eqb (bitMap b / 4 % 2) 1
 unfoldable pub hasLines : List ℕ → Bool
 hasLines b = eqb (bitMap b / 8 % 2) 1
 
--- "Then state count and label count, always; then, only where its bit stands: the initial state; the hop count with six bytes a hop"; "Absent means
--- initial state 0, no hops, no names"
+-- "Then state count and label count, always; then, only where its bit stands: the initial state;
+-- the hop count with six bytes a hop"; "Absent means initial state 0, no hops, no names"
 abbrev pub states-place : ℕ
 states-place = 1
 
@@ -66,7 +67,8 @@ namesIn b = cond (hasNames b) (labelsIn b - 1) 0
 unfoldable pub restOf : List ℕ → List ℕ
 restOf b = drop (namesPlace b) b
 
--- "a list of lines, one number a hop, after the names": where the names end, and how many bytes follow
+-- "a list of lines, one number a hop, after the names": where the names end, and how many bytes
+-- follow
 unfoldable pub linesPlace : List ℕ → ℕ
 linesPlace b = namesPlace b + nameAt (restOf b) (namesIn b)
 
@@ -97,7 +99,8 @@ blockLength b = cond (hasNames b) (linesPlace b - namesPlace b) 0
 unfoldable pub blockIn : List ℕ → List ℕ
 blockIn b = take (blockLength b) (drop (blockPlace b) b)
 
--- row 12: "a bit over a field that holds what absence means (0, no hops, or names with label count at most 1)", and "bit 3 .. over lines all 0"
+-- row 12: "a bit over a field that holds what absence means (0, no hops, or names with label count
+-- at most 1)", and "bit 3 .. over lines all 0"
 unfoldable pub redundantBit : List ℕ → Bool
 redundantBit b =
     (hasInitial b && eqb (initialIn b) 0) ||

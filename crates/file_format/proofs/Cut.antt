@@ -1,4 +1,5 @@
--- "file ends before its contents": every proper front of an accepted file is refused with 11, at its own length. Assumes nothing.
+-- "file ends before its contents": every proper front of an accepted file is refused with 11, at
+-- its own length. Assumes nothing.
 use Prim.Native.Nat.{ℕ, _+_, _-_, _<_, _≤_}
 use mathlib.Core.Path.{_≡_, sym, ap, _∙_}
 use mathlib.Core.Bool.{true}

@@ -1,5 +1,5 @@
--- What it means that the format of a file is accepted: it has just the length that its own numbers ask, no bit stands over what absence means, and no name is bad.
--- Assumes nothing.
+-- What it means that the format of a file is accepted: it has just the length that its own numbers
+-- ask, no bit stands over what absence means, and no name is bad. Assumes nothing.
 use Prim.Native.Nat.{ℕ, _<_, _≤_}
 use mathlib.Core.Path.{_≡_, refl}
 use mathlib.Core.Bool.{Bool, true, false, cond, _&&_, _||_}

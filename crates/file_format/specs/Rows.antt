@@ -16,7 +16,8 @@ use Rattle.file_fields.specs.Format.{initial-place, bitMap, namesPlace, namesIn
 abbrev pub most-names : ℕ
 most-names = most-labels - 1
 
--- "The longest legal file has 66,536 bytes": the head with an initial state, all hops, a longest name for each label from 1 upward, and all lines
+-- "The longest legal file has 66,536 bytes": the head with an initial state, all hops, a longest
+-- name for each label from 1 upward, and all lines
 abbrev pub most-bytes : ℕ
 most-bytes = initial-place + 2 + fieldLength most-hops + most-name-bytes * most-names + linesLength most-hops
 
@@ -25,7 +26,8 @@ unfoldable pub namesAnswer : List ℕ → Answer
 namesAnswer b =
     cond (ltb (firstBad (restOf b) (namesIn b)) (namesIn b)) (refused 14 (namesPlace b + nameAt (restOf b) (firstBad (restOf b) (namesIn b)))) accepted
 
--- "reading checks over-length, high bits, 11, left over, the rest of 12, 14"; "12 no longer speaks of bit 3, except over lines all 0"
+-- "reading checks over-length, high bits, 11, left over, the rest of 12, 14"; "12 no longer speaks
+-- of bit 3, except over lines all 0"
 unfoldable pub formatAnswer : List ℕ → Answer
 formatAnswer b =
     cond (ltb most-bytes (length b)) (refused 13 most-bytes)

@@ -24,14 +24,16 @@ ghost use mathlib.Core.Path.{_≡_};
 ghost use Rattle.file_format.specs.Internal.Rows.{RestAt};
 ghost use Rattle.file_format.specs.Rows.{formatAnswer};
 
-// The longest legal file, 66,536 bytes: the head with an initial state, 4,096 hops, 1,023 names of 32 bytes, and 4,096 lines.
+// The longest legal file, 66,536 bytes: the head with an initial state, 4,096 hops, 1,023 names of
+// 32 bytes, and 4,096 lines.
 const MOST_BYTES: usize = INITIAL_PLACE
     + 2
     + MOST_FIELD_BYTES
     + MOST_NAME_BYTES * (MOST_LABELS - 1)
     + MOST_LINE_BYTES;
 
-// 14 speaks before 1, so the table of places is not for 1,023 names but for all that go into one: a name that passes takes two bytes at least.
+// Row 14 is checked before row 1, so a file may have more than 1,023 names here. The table has an
+// entry for every name whose place goes into it: a name that passes takes two bytes at least.
 const PLACES: usize = (MOST_PLACE + 1) / LEAST_NAME_BYTES;
 
 // From row 11 on, where the rest of the file begins at `place`.

@@ -1,5 +1,5 @@
--- Laws of the hop field: how long it is, that the hops of a field that was written are those of the list, and that a field that was read is written with the
--- same bytes. Assumes nothing.
+-- Laws of the hop field: how long it is, that the hops of a field that was written are those of the
+-- list, and that a field that was read is written with the same bytes. Assumes nothing.
 use Prim.Native.Nat.{ℕ, suc, _+_, _*_, _%_, _<_, _≤_}
 use mathlib.Core.Path.{_≡_, refl, sym, ap, _∙_}
 use mathlib.Core.Bool.{true, false}
@@ -12,14 +12,14 @@ use Rattle.graph.specs.declared.Hop.{Hop}
 use Rattle.base_outputs.specs.Internal.Output.{overAt}
 use Rattle.base_outputs.proofs.Front.{over-then}
 use Rattle.file_numbers.specs.Numbers.{numberAt, number, Bytes}
-use Rattle.file_numbers.specs.Parts.{parts}
 use Rattle.file_lines.specs.LineField.{lineIn, anyLine}
 use Rattle.file_lines.specs.declared.Lines.{Lines}
 use Rattle.file_hops.specs.Field.{bytes-a-hop, fieldLength, hopPlace, hopFrom, hopIn, hopsInField, hopBytes, eachHop, fieldBytes}
 use Rattle.file_numbers.proofs.TwoBytes.{number-whole, number-drop, number-again}
-use Rattle.file_numbers.proofs.Parts.{parts-again, length-parts, part-at, parts-none, parts-more, parts-done}
+use Rattle.file_numbers.proofs.Parts.{concat-again, length-concat, concat-at, concat-none, concat-more, concat-done}
 use Rattle.file_lines.proofs.Laws.{none-lined, LinesStand}
 use Rattle.file_hops.proofs.Lists.{length-flat-by, count-flat-by, flat-by-at, flat-by}
+use Rattle.base_outputs.specs.Concat.{concat}
 
 -- the hops of a field, and their lines
 module _ (b : List ℕ) (at : ℕ) (ls : Lines) (n : ℕ) where
@@ -54,7 +54,7 @@ wide hs i = refl
 
 pub length-field : (hs : List ℕ) → length (fieldBytes hs) ≡ fieldLength (count hs)
 unfolding fieldBytes
-length-field hs = omega (arith, length-parts (hopBytesAt hs) bytes-a-hop (wide hs) (count hs))
+length-field hs = omega (arith, length-concat (hopBytesAt hs) bytes-a-hop (wide hs) (count hs))
 
 -- a hop as it is put: number after number
 pub hop-put : (at : ℕ) (old : List ℕ) (h : Hop) {one two three : List ℕ} → at + bytes-a-hop ≤ length old → one ≡ overAt at (number (h .from)) old →
@@ -67,15 +67,15 @@ hop-put at old h l p q r =
 
 -- the hops of a list as they are put, one after the other
 module _ (at : ℕ) (old hs : List ℕ) where
-  pub hops-none : old ≡ overAt at (parts 0 (hopBytesAt hs)) old
-  hops-none = parts-none (hopBytesAt hs) bytes-a-hop (wide hs) at old
+  pub hops-none : old ≡ overAt at (concat 0 (hopBytesAt hs)) old
+  hops-none = concat-none (hopBytesAt hs) bytes-a-hop (wide hs) at old
 
-  pub hops-more : {out out' : List ℕ} {i : ℕ} {h : Hop} → out ≡ overAt at (parts i (hopBytesAt hs)) old → h ≡ hopAt hs i → out' ≡ overAt (at + bytes-a-hop * i) (hopBytes h) out →
-      i < count hs → at + bytes-a-hop * count hs ≤ length old → out' ≡ overAt at (parts (i + 1) (hopBytesAt hs)) old
-  hops-more e d f l r = parts-more (hopBytesAt hs) bytes-a-hop (wide hs) at old e (ap hopBytes d) f l r
+  pub hops-more : {out out' : List ℕ} {i : ℕ} {h : Hop} → out ≡ overAt at (concat i (hopBytesAt hs)) old → h ≡ hopAt hs i → out' ≡ overAt (at + bytes-a-hop * i) (hopBytes h) out →
+      i < count hs → at + bytes-a-hop * count hs ≤ length old → out' ≡ overAt at (concat (i + 1) (hopBytesAt hs)) old
+  hops-more e d f l r = concat-more (hopBytesAt hs) bytes-a-hop (wide hs) at old e (ap hopBytes d) f l r
 
-  pub hops-done : {out : List ℕ} {i n : ℕ} → out ≡ overAt at (parts i (hopBytesAt hs)) old → n ≡ count hs → i ≤ n → n ≤ i → out ≡ overAt at (eachHop hs) old
-  hops-done e d l m = parts-done (hopBytesAt hs) bytes-a-hop (wide hs) at old e (omega arith) (omega arith)
+  pub hops-done : {out : List ℕ} {i n : ℕ} → out ≡ overAt at (concat i (hopBytesAt hs)) old → n ≡ count hs → i ≤ n → n ≤ i → out ≡ overAt at (eachHop hs) old
+  hops-done e d l m = concat-done (hopBytesAt hs) bytes-a-hop (wide hs) at old e (omega arith) (omega arith)
 
   -- the field: its count, then its hops
   pub field-put : {out out' : List ℕ} {n : ℕ} → n ≡ count hs → out ≡ overAt at (number n) old → out' ≡ overAt (at + 2) (eachHop hs) out →
@@ -97,7 +97,8 @@ from-drop b p l = λ d. linedHop ((ap (numberAt b) none ∙ number-drop b p 0) d
   none : p ≡ p + 0
   none = omega arith
 
--- "A graph written and read again is the same graph": the field that stands at a place is read as the list that it was written from, if the lines are
+-- "A graph written and read again is the same graph": the field that stands at a place is read as
+-- the list that it was written from, if the lines are
 module _ (b hs rest : List ℕ) (at : ℕ) (e : drop at b ≡ fieldBytes hs ++ rest) where
   pub count-back : numberAt b at ≡ count hs
   unfolding fieldBytes
@@ -112,7 +113,7 @@ module _ (b hs rest : List ℕ) (at : ℕ) (e : drop at b ≡ fieldBytes hs ++ r
   module _ (ls : Lines) (lines : (i : ℕ) → i < count hs → lineIn b ls i ≡ lineAt hs i) where
     hop-back : (i : ℕ) → i < count hs → hopIn b at ls i ≡ hopAt hs i
     hop-back i l =
-        let (t, d) = part-at (hopBytesAt hs) bytes-a-hop (wide hs) (count hs) rest l in
+        let (t, d) = concat-at (hopBytesAt hs) bytes-a-hop (wide hs) (count hs) rest l in
         ap (hopFrom b (hopPlace at i)) (lines i l) ∙ from-drop b (hopPlace at i) (lineAt hs i) ∙
         ap (λ (m : List ℕ). hopFrom m 0 (lineAt hs i)) (sym (drop-drop (bytes-a-hop * i) (at + 2) b) ∙ ap (drop (bytes-a-hop * i)) hops-from ∙ d) ∙ hop-read (hopAt hs i) t
 
@@ -138,7 +139,7 @@ module _ (b : List ℕ) (small : Bytes b) where
   unfolding fieldBytes
   field-again at ls {n} e l =
       number-again b small at (omega arith) ∙ ap (λ (k : ℕ). number k ++ drop (at + 2) b) (sym e ∙ sym counted) ∙
-      ap (number (count hs) ++_) (parts-again (hopBytesAt hs) bytes-a-hop b (at + 2) (count hs) each ∙ ap (λ (k : ℕ). eachHop hs ++ drop k b) end) where
+      ap (number (count hs) ++_) (concat-again (hopBytesAt hs) bytes-a-hop b (at + 2) (count hs) each ∙ ap (λ (k : ℕ). eachHop hs ++ drop k b) end) where
         hs : List ℕ
         hs = hopsInField b at ls n
 

@@ -1,5 +1,5 @@
--- Laws of hop lists by their places, over graph's: a whole list is the flat list of its hops, and hops that are put at place 0, 1, .. stand in front one after
--- the other. Assumes nothing.
+-- Laws of hop lists by their places, over graph's: a whole list is the flat list of its hops, and
+-- hops that are put at place 0, 1, .. stand in front one after the other. Assumes nothing.
 use Prim.Native.Nat.{ℕ, zero, suc, _+_, _%_, _<_, _≤_}
 use mathlib.Core.Path.{_≡_, refl, sym, ap, _∙_}
 use mathlib.Core.List.{List, [], _∷_, _++_, append-nil}
@@ -16,7 +16,7 @@ use Rattle.graph.proofs.Fronts.{length-front, getD-front, over-front, front-ove
 use Rattle.graph.proofs.Places.{length-flat, count-flat, flat-at}
 use Rattle.file_hops.specs.Field.{hopsBy}
 
--- the hops that a function gives
+-- the hops that a function returns
 module _ (f : ℕ → Hop) where
   pub length-by : (n : ℕ) → length (hopsBy n f) ≡ n
   unfolding hopsBy
@@ -75,7 +75,7 @@ over-next xs old h l =
           sym (over-over old xs (xs ++ (there ∷ [])) (rw length-append (omega arith))) ∙ ap (λ (ys : List Hop). over ys (over xs old)) (sym firsts) ∙
           over-front (over xs old) (length xs + 1) (omega (arith, length-over old xs (omega arith)))
 
--- the hops that a function gives, put one after the other
+-- the hops that a function returns, put one after the other
 module _ (f : ℕ → Hop) (old : List ℕ) where
   pub by-none : old ≡ over (hopsBy 0 f) old
   unfolding hopsBy over flat

@@ -6,9 +6,9 @@ use mathlib.Core.List.{List, [], _∷_, _++_}
 use Rattle.graph.specs.Hops.{count, linedHop, hopAt, flat}
 use Rattle.graph.specs.declared.Hop.{Hop}
 use Rattle.file_numbers.specs.Numbers.{numberAt, number}
-use Rattle.file_numbers.specs.Parts.{parts}
 use Rattle.file_lines.specs.LineField.{lineIn}
 use Rattle.file_lines.specs.declared.Lines.{Lines}
+use Rattle.base_outputs.specs.Concat.{concat}
 
 -- "six bytes a hop": its from, its label and its to
 abbrev pub bytes-a-hop : ℕ
@@ -30,7 +30,7 @@ hopFrom b p l = linedHop (numberAt b p) (numberAt b (p + 2)) (numberAt b (p + 4)
 abbrev pub hopIn : List ℕ → ℕ → Lines → ℕ → Hop
 hopIn b at ls i = hopFrom b (hopPlace at i) (lineIn b ls i)
 
--- the hops that a function gives for 0, 1, .. below n
+-- the hops that a function returns for 0, 1, .. below n
 unfoldable pub hopsBy : ℕ → (ℕ → Hop) → List Hop
 hopsBy zero f = []
 hopsBy (suc n) f = hopsBy n f ++ (f n ∷ [])
@@ -44,7 +44,7 @@ unfoldable pub hopBytes : Hop → List ℕ
 hopBytes h = number (h .from) ++ (number (h .label) ++ number (h .to))
 
 abbrev pub eachHop : List ℕ → List ℕ
-eachHop hs = parts (count hs) (λ (i : ℕ). hopBytes (hopAt hs i))
+eachHop hs = concat (count hs) (λ (i : ℕ). hopBytes (hopAt hs i))
 
 unfoldable pub fieldBytes : List ℕ → List ℕ
 fieldBytes hs = number (count hs) ++ eachHop hs

@@ -20,7 +20,8 @@ ghost use Rattle.file_lines.specs.Internal.LineField.{LinesLie};
 ghost use Rattle.file_hops.specs.Field.{bytes-a-hop, hopPlace, fieldLength, hopIn, hopsInField, hopBytes, eachHop, fieldBytes};
 ghost use Rattle.file_hops.specs.Internal.Field.{HopsLie};
 
-// The hop count is one number; a hop is three of them, from, label and to. Its line stands elsewhere.
+// The hop count is one number; a hop is three of them, from, label and to. Its line stands
+// elsewhere.
 const COUNT_BYTES: usize = 2;
 
 const BYTES_A_HOP: usize = 6;
@@ -38,7 +39,7 @@ pub fn field_length(n: u16) -> usize
 // The hop at place i of the field that begins at `at`, with its line.
 fn hop_in(file: &[u8], at: usize, lines: Lines, i: usize) -> Hop
     requires lies { ⌜ hopPlace at (i + 1) ≤ length (now file) ⌝ }
-    requires lined { ⌜ LinesLie (now file) lines (i + 1) ⌝ }
+    requires ordered { ⌜ LinesLie (now file) lines (i + 1) ⌝ }
     ensures { λ r. ⌜ r ≡ hopIn (now (file .entry)) at lines i ⌝ }
 {
     let p = at + COUNT_BYTES + BYTES_A_HOP * i;
@@ -51,7 +52,7 @@ fn hop_in(file: &[u8], at: usize, lines: Lines, i: usize) -> Hop
 // The first n hops of the field with their lines, to the front of a hop list.
 pub fn take_hops(file: &[u8], at: usize, lines: Lines, n: usize, hops: &mut [u16])
     requires lie { ⌜ HopsLie (now file) at n ⌝ }
-    requires lined { ⌜ LinesLie (now file) lines n ⌝ }
+    requires ordered { ⌜ LinesLie (now file) lines n ⌝ }
     requires capacity { ⌜ n ≤ count (now hops) ⌝ }
     ensures { λ _. ⌜ now (hops .exit) ≡ onFront (hopsInField (now (file .entry)) at lines n) (now (hops .entry)) ⌝ }
 {

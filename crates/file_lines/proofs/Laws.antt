@@ -1,5 +1,6 @@
--- Laws of the list of lines: how long it is, that lines are read as they were written and written as they were read, and that lines all 0 are those of hops
--- of which none has a line. Assumes nothing.
+-- Laws of the list of lines: how long it is, that lines are read as they were written and written
+-- as they were read, and that lines all 0 are those of hops of which none has a line. Assumes
+-- nothing.
 use Prim.Native.Nat.{ℕ, zero, suc, _+_, _*_, _<_, _≤_}
 use mathlib.Core.Path.{_≡_, refl, sym, ap, _∙_}
 use mathlib.Core.Bool.{Bool, true, false, not, _&&_, _||_}
@@ -15,11 +16,11 @@ use Rattle.base_bounded.proofs.Quantifiers.{any-never, any-no}
 use Rattle.graph.specs.Hops.{count, lineAt}
 use Rattle.base_outputs.specs.Internal.Output.{overAt}
 use Rattle.file_numbers.specs.Numbers.{numberAt, number, Bytes}
-use Rattle.file_numbers.specs.Parts.{parts}
 use Rattle.file_numbers.proofs.TwoBytes.{number-whole, number-drop, number-again}
-use Rattle.file_numbers.proofs.Parts.{parts-again, length-parts, part-at, parts-none, parts-more, parts-done}
+use Rattle.file_numbers.proofs.Parts.{concat-again, length-concat, concat-at, concat-none, concat-more, concat-done}
 use Rattle.file_lines.specs.LineField.{bytes-a-line, linesLength, linePlace, lineIn, zeroLines, anyLine, lineList}
 use Rattle.file_lines.specs.declared.Lines.{Lines}
+use Rattle.base_outputs.specs.Concat.{concat}
 
 -- the bytes of the line of a hop
 abbrev pub lineBytes : List ℕ → ℕ → List ℕ
@@ -35,7 +36,7 @@ zeroLine b at i = eqb (numberAt b (linePlace at i)) 0
 module _ (hs : List ℕ) where
   pub length-lines : length (lineList hs) ≡ linesLength (count hs)
   unfolding lineList
-  length-lines = length-parts (lineBytes hs) bytes-a-line (λ i. refl) (count hs)
+  length-lines = length-concat (lineBytes hs) bytes-a-line (λ i. refl) (count hs)
 
   -- no hop has a line exactly when each line is 0
   pub no-line : anyLine hs ≡ false → {i : ℕ} → i < count hs → lineAt hs i ≡ 0
@@ -51,16 +52,16 @@ module _ (hs : List ℕ) where
 
   -- lines as they are put, one after the other
   module _ (at : ℕ) (old : List ℕ) where
-    pub lines-none : old ≡ overAt at (parts 0 (lineBytes hs)) old
-    lines-none = parts-none (lineBytes hs) bytes-a-line (λ i. refl) at old
+    pub lines-none : old ≡ overAt at (concat 0 (lineBytes hs)) old
+    lines-none = concat-none (lineBytes hs) bytes-a-line (λ i. refl) at old
 
-    pub lines-more : {out out' : List ℕ} {i l : ℕ} → out ≡ overAt at (parts i (lineBytes hs)) old → l ≡ lineAt hs i → out' ≡ overAt (linePlace at i) (number l) out →
-        i < count hs → linePlace at (count hs) ≤ length old → out' ≡ overAt at (parts (i + 1) (lineBytes hs)) old
-    lines-more e h d l m = parts-more (lineBytes hs) bytes-a-line (λ i. refl) at old e (ap number h) d l m
+    pub lines-more : {out out' : List ℕ} {i l : ℕ} → out ≡ overAt at (concat i (lineBytes hs)) old → l ≡ lineAt hs i → out' ≡ overAt (linePlace at i) (number l) out →
+        i < count hs → linePlace at (count hs) ≤ length old → out' ≡ overAt at (concat (i + 1) (lineBytes hs)) old
+    lines-more e h d l m = concat-more (lineBytes hs) bytes-a-line (λ i. refl) at old e (ap number h) d l m
 
-    pub lines-done : {out : List ℕ} {i n : ℕ} → out ≡ overAt at (parts i (lineBytes hs)) old → n ≡ count hs → i ≤ n → n ≤ i → out ≡ overAt at (lineList hs) old
+    pub lines-done : {out : List ℕ} {i n : ℕ} → out ≡ overAt at (concat i (lineBytes hs)) old → n ≡ count hs → i ≤ n → n ≤ i → out ≡ overAt at (lineList hs) old
     unfolding lineList
-    lines-done e d l m = parts-done (lineBytes hs) bytes-a-line (λ i. refl) at old e (omega arith) (omega arith)
+    lines-done e d l m = concat-done (lineBytes hs) bytes-a-line (λ i. refl) at old e (omega arith) (omega arith)
 
 -- what stands from a place on are the lines of the hops
 abbrev pub LinesStand : List ℕ → ℕ → List ℕ → Type 0
@@ -70,7 +71,7 @@ LinesStand b at hs = (i : ℕ) → i < count hs → numberAt b (linePlace at i) 
 pub lines-back : (b hs rest : List ℕ) (at : ℕ) → drop at b ≡ lineList hs ++ rest → LinesStand b at hs
 unfolding lineList
 lines-back b hs rest at e i l =
-    let (t, d) = part-at (lineBytes hs) bytes-a-line (λ i. refl) (count hs) rest l in
+    let (t, d) = concat-at (lineBytes hs) bytes-a-line (λ i. refl) (count hs) rest l in
     ap (numberAt b) none ∙ number-drop b (linePlace at i) 0 ∙ ap (λ (m : List ℕ). numberAt m 0) (sym (drop-drop (bytes-a-line * i) at b) ∙ ap (drop (bytes-a-line * i)) e ∙ d) ∙ number-whole (lineAt hs i) where
       none : linePlace at i ≡ linePlace at i + 0
       none = omega arith
@@ -78,7 +79,7 @@ lines-back b hs rest at e i l =
 -- a list that was read is written as it stands
 pub lines-again : (b hs : List ℕ) → Bytes b → (at : ℕ) → LinesStand b at hs → linePlace at (count hs) ≤ length b → drop at b ≡ lineList hs ++ drop (linePlace at (count hs)) b
 unfolding lineList
-lines-again b hs small at s l = parts-again (lineBytes hs) bytes-a-line b at (count hs) each where
+lines-again b hs small at s l = concat-again (lineBytes hs) bytes-a-line b at (count hs) each where
   each : (i : ℕ) → i < count hs → drop (linePlace at i) b ≡ number (lineAt hs i) ++ drop (linePlace at (suc i)) b
   each i k =
       number-again b small (linePlace at i) (omega arith) ∙ ap (λ (n : ℕ). number n ++ drop (linePlace at i + bytes-a-line) b) (s i k) ∙

@@ -8,8 +8,8 @@ use lib.Dec.{eqb}
 use Rattle.base_bounded.specs.Quantifiers.{all, any}
 use Rattle.graph.specs.Hops.{count, lineAt}
 use Rattle.file_numbers.specs.Numbers.{numberAt, number}
-use Rattle.file_numbers.specs.Parts.{parts}
 use Rattle.file_lines.specs.declared.Lines.{Lines}
+use Rattle.base_outputs.specs.Concat.{concat}
 
 -- "one number a hop"
 abbrev pub bytes-a-line : ℕ
@@ -37,4 +37,4 @@ anyLine hs = any (count hs) (λ (i : ℕ). not (eqb (lineAt hs i) 0))
 
 -- the bytes of the lines of a hop list
 unfoldable pub lineList : List ℕ → List ℕ
-lineList hs = parts (count hs) (λ (i : ℕ). number (lineAt hs i))
+lineList hs = concat (count hs) (λ (i : ℕ). number (lineAt hs i))

@@ -1,4 +1,5 @@
--- Four bytes that make one number with four others are the same, and so names may be passed over by fours. Assumes nothing.
+-- Four bytes that make one number with four others are the same, and so names may be passed over by
+-- fours. Assumes nothing.
 use Prim.Native.Nat.{ℕ, _+_, _-_, _*_, _<_, _≤_}
 use mathlib.Core.Path.{_≡_, sym, ap, _∙_}
 use mathlib.Core.List.{List}

@@ -1,4 +1,5 @@
--- The ways out of the entry `read`: the format speaks, then the graph, then the room; else all that the file holds is given. Assumes nothing.
+-- The ways out of the entry `read`: the format is checked, then the graph, then the output's
+-- length; where none refuses, all that the file holds is returned. Assumes nothing.
 use Prim.Native.Nat.{ℕ, _-_, _<_, _≤_}
 use mathlib.Core.Path.{_≡_, refl, sym, ap, _∙_}
 use mathlib.Core.Bool.{true, false, _&&_}
@@ -112,7 +113,7 @@ module _ (b : List ℕ) where
   accepted-sound capacity z =
       format-sound b (both-accept (formatAnswer b) (andThen (checkOf (shapeIn b) (hopListIn b)) (capacityAnswer (numberPlace (hopsIn b)) capacity)) z .0)
 
-  -- what a refusal and an acceptance give and write
+  -- what is returned and written with a refusal and with acceptance
   module _ (old : List ℕ) where
     pub refused-gives : {a : Answer} → a ≡ readAnswer b (length old) → (a .number ≡ 0 → ⊥) → (refusedContents a ≡ readOf b (length old)) × (old ≡ readHops b old)
     unfolding readOf readHops
@@ -122,6 +123,7 @@ module _ (b : List ℕ) where
     unfolding readOf readHops
     accepted-gives e = (rw (← e), rw (← e))
 
--- "file ends before its contents": every proper front of an accepted file is refused with 11, at its own length
+-- "file ends before its contents": every proper front of an accepted file is refused with 11, at
+-- its own length
 pub front-ends-early : (b : List ℕ) (capacity k : ℕ) → readAnswer b capacity .number ≡ 0 → k < length b → readAnswer (take k b) capacity ≡ refused 11 k
 front-ends-early b capacity k e l = sym (format-speaks (take k b) capacity (front-refused b k l (accepted-sound b capacity e)) (λ z. absurd (omega arith)))

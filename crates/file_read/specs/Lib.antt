@@ -1,1 +1,1 @@
-pub mod Read  -- what reading a file answers, gives and writes
+pub mod Read  -- what reading a file answers, returns and writes

@@ -27,6 +27,7 @@ contentsOf b = record { answer = accepted; shape = shapeIn b; hops = hopsIn b; �
 unfoldable pub readOf : List ℕ → ℕ → Contents
 readOf b capacity = cond (eqb (readAnswer b capacity .number) 0) (contentsOf b) (refusedContents (readAnswer b capacity))
 
--- "A refusal leaves all lent elements untouched"; "Acceptance writes the named elements and none past them"
+-- "A refusal leaves all lent elements untouched"; "Acceptance writes the named elements and none
+-- past them"
 unfoldable pub readHops : List ℕ → List ℕ → List ℕ
 readHops b old = written (readAnswer b (length old) .number) (hopListIn b) old

@@ -4,9 +4,10 @@
 // output; nothing is written before all have passed.
 // Uses `file_format` for the format, `file_fields` and `file_hops` for what the file holds, and
 // `check` of `graph_check`.
-pub mod reading; // reading.rt: the entry, its answer, and what it gives
+pub mod reading; // reading.rt: the entry, its answer, and what it returns
 
-// What reading gives: the answer, the graph's shape and number of hops, and where the block of names lies in the file.
+// What reading returns: the answer, the graph's shape and number of hops, and where the block of
+// names lies in the file.
 pub struct Contents {
     pub answer: graph::Answer,
     pub shape: graph::Shape,

@@ -1,5 +1,5 @@
--- "A file read and written again has the same bytes": the file falls into its fields one after the other, and each is written as it stands.
--- Assumes nothing.
+-- "A file read and written again has the same bytes": the file falls into its fields one after the
+-- other, and each is written as it stands. Assumes nothing.
 use Prim.Native.Nat.{ℕ, _+_, _-_, _*_, _/_, _%_, _<_, _≤_}
 use mathlib.Core.Path.{_≡_, sym, ap, _∙_}
 use mathlib.Core.Bool.{true, false, cond}
@@ -179,5 +179,6 @@ module _ (b : List ℕ) (small : Bytes b) where
         (number-again b small labels-place (omega (arith, names-place-least b, names-within b s)) ∙ ap (number (labelsIn b) ++_)
         (initial-again ∙ ap (initialBytes (shapeIn b) ++_) (hops-again ∙ ap (hopsBytes (hopListIn b) ++_) (block-again ∙ ap (blockIn b ++_) lines-at-end)))))))
 
+-- "A file read and written again has the same bytes": what `read` accepts, encoded again
 pub decode-encode : (b : List ℕ) (capacity : ℕ) → Bytes b → readAnswer b capacity .number ≡ 0 → encode (shapeIn b) (hopListIn b) (blockIn b) ≡ b
 decode-encode b capacity small e = same-bytes b small (accepted-sound b capacity e)

@@ -1,5 +1,6 @@
--- "A graph written and read again is the same graph with the same block": each field of the written file is found where reading looks for it. And "the
--- longest legal file has 66,536 bytes". Assumes nothing.
+-- "A graph written and read again is the same graph with the same block": each field of the written
+-- file is found where reading looks for it. And "the longest legal file has 66,536 bytes". Assumes
+-- nothing.
 use Prim.Native.Nat.{ℕ, _+_, _-_, _*_, _/_, _%_, _<_, _≤_}
 use mathlib.Core.Path.{_≡_, refl, sym, ap, _∙_}
 use mathlib.Core.Bool.{Bool, true, false, cond, not, _&&_}
@@ -273,12 +274,14 @@ module _ (sh : Shape) (hs ns : List ℕ) (whole : length hs % numbers-a-hop ≡ 
 pub longest : (sh : Shape) (hs ns : List ℕ) → givenAnswer sh hs ns .number ≡ 0 → length (encode sh hs ns) ≤ most-bytes
 longest sh hs ns e = let (a, l) = written-means sh hs ns e in short-back sh hs ns (a .whole-hops) l a
 
--- and it has that many where everything is at its limit: 4,096 hops, some of them with a line, and 1,023 names of 32 bytes
+-- and it has that many where everything is at its limit: 4,096 hops, some of them with a line, and
+-- 1,023 names of 32 bytes
 pub longest-at-limits : (sh : Shape) (hs ns : List ℕ) → (sh .initial ≡ 0 → ⊥) → length hs ≡ numberPlace most-hops → anyLine hs ≡ true → length ns ≡ most-name-bytes * most-names →
     length (encode sh hs ns) ≡ most-bytes
 longest-at-limits sh hs ns i h e n =
     omega (arith, length-encode sh hs ns, ap length (initial-some sh i), length-hops-some hs (λ z. omega arith), length-lines-some hs e)
 
+-- "a graph written and read again is the same graph with the same block"
 pub encode-decode : (sh : Shape) (hs ns : List ℕ) (capacity : ℕ) → givenAnswer sh hs ns .number ≡ 0 → length hs ≤ capacity → ReadBack sh hs ns (encode sh hs ns) capacity
 encode-decode sh hs ns capacity e m =
     let (a, l) = written-means sh hs ns e in

@@ -1,5 +1,5 @@
--- The two round trips over the entries. What reading accepts writing accepts too, and the other way round; the answers and the outputs are then those
--- of the definitions. Assumes nothing.
+-- The two round trips over the entries. What reading accepts writing accepts too, and the other way
+-- round; the answers and the outputs are then those of the definitions. Assumes nothing.
 use Prim.Native.Nat.{ℕ, _+_, _-_, _<_, _≤_}
 use mathlib.Core.Path.{_≡_, refl, sym, ap, _∙_}
 use mathlib.Core.Bool.{Bool, true, false, cond}

@@ -1,5 +1,6 @@
--- The longest legal file has 66,536 bytes and no fewer: 1,024 states and labels, initial state 1, hops i / 4, i % 4, 0 of line i + 1 for i below 4,096, and
--- for each label from 1 upward a name of 32 bytes that begins with the label's number less 1. Assumes nothing.
+-- The longest legal file has 66,536 bytes and no fewer: 1,024 states and labels, initial state 1,
+-- hops i / 4, i % 4, 0 of line i + 1 for i below 4,096, and for each label from 1 upward a name of
+-- 32 bytes that begins with the label's number less 1. Assumes nothing.
 use Prim.Native.Nat.{ℕ, zero, suc, _+_, _*_, _/_, _%_, _<_, _≤_}
 use mathlib.Core.Path.{_≡_, refl, sym, ap, _∙_}
 use mathlib.Core.Bool.{true, false, cond}

@@ -17,7 +17,8 @@ use Rattle.file_write.specs.declared.Written.{Written}
 use mathlib.Core.Path.{_≡_}
 use Rattle.file_fields.specs.Format.{hopListIn, blockIn}
 
--- "A file read and written again has the same bytes": it is read into room for the hops of every graph
+-- "A file read and written again has the same bytes": it is read into an output that holds the hops
+-- of any graph
 unfoldable pub copyAnswer : List ℕ → ℕ → Answer
 copyAnswer b capacity = andThen (readAnswer b most-numbers) (capacityAnswer (length b) capacity)
 
@@ -27,7 +28,8 @@ copyOf b capacity = cond (eqb (copyAnswer b capacity .number) 0) (record { answe
 unfoldable pub copyBytes : List ℕ → List ℕ → List ℕ
 copyBytes b old = written (copyAnswer b (length old) .number) b old
 
--- "a graph written and read again is the same graph with the same block": the same lines too; the block stands before the lines
+-- "a graph written and read again is the same graph with the same block": the same lines too; the
+-- block stands before the lines
 unfoldable pub blockStart : Shape → List ℕ → List ℕ → ℕ
 blockStart sh hs ns = cond (eqb (length ns) 0) 0 (length (encode sh hs ns) - (length ns + length (linesBytes hs)))
 

@@ -33,7 +33,8 @@ pub fn copy_file(file: &[u8], out: &mut [u8]) -> Written
     write(shape, &hops[0..n], &file[start..end], out)
 }
 
-// Writes the graph and reads what was written: the same graph comes back, with the same block at the place that is named.
+// Writes the graph and reads what was written: the same graph comes back, with the same block at
+// the place that is named.
 pub fn graph_back(
     shape: Shape,
     hops: &[u16],

@@ -109,7 +109,7 @@ module _ (sh : Shape) (hs ns : List ℕ) where
       let (a, l) = capacity-accepts (length (encode sh hs ns)) capacity r in
       (second-accepts (givenAnswer sh hs ns) _ z ∙ a, g, l)
 
-  -- what a refusal and an acceptance give
+  -- what is returned with a refusal and with acceptance
   module _ (capacity : ℕ) where
     pub refused-gives : {a : Answer} → a ≡ writeAnswer sh hs ns capacity → (a .number ≡ 0 → ⊥) → refusedWritten a ≡ writeOf sh hs ns capacity
     unfolding writeOf

@@ -1,1 +1,1 @@
-pub mod Write  -- what writing a file answers, gives and writes
+pub mod Write  -- what writing a file answers, returns and writes

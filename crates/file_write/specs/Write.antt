@@ -13,7 +13,8 @@ use Rattle.base_outputs.specs.Output.{written}
 use Rattle.file_encode.specs.Encode.{encode}
 use Rattle.file_write.specs.declared.Written.{Written}
 
--- row 14, of a block of n names: "block ending early: its length; bytes left: the first of them; these two speak before any fault in a name"
+-- row 14, of a block of n names: "block ending early: its length; bytes left: the first of them;
+-- these two speak before any fault in a name"
 unfoldable pub blockAnswer : List ℕ → ℕ → Answer
 blockAnswer ns n =
     cond (ltb (length ns) (nameAt ns n)) (refused 14 (length ns))
@@ -25,7 +26,8 @@ blockAnswer ns n =
 unfoldable pub namesGiven : Shape → List ℕ → Answer
 namesGiven sh ns = cond (eqb (length ns) 0) accepted (blockAnswer ns (sh .labels - 1))
 
--- "writing checks 1 to 4, 14, 6": what is said of the graph and the block as they are given, and then of the room
+-- "writing checks 1 to 4, 14, 6": the answer for the graph and the block as they are given, and
+-- then for the capacity of the output
 unfoldable pub givenAnswer : Shape → List ℕ → List ℕ → Answer
 givenAnswer sh hs ns = andThen (checkOf sh hs) (namesGiven sh ns)
 
@@ -41,6 +43,7 @@ writeOf sh hs ns capacity =
     cond (eqb (writeAnswer sh hs ns capacity .number) 0) (record { answer = accepted; length = length (encode sh hs ns) })
     (refusedWritten (writeAnswer sh hs ns capacity))
 
--- "A refusal leaves all lent elements untouched"; "Acceptance writes the named elements and none past them"
+-- "A refusal leaves all lent elements untouched"; "Acceptance writes the named elements and none
+-- past them"
 unfoldable pub writeBytes : Shape → List ℕ → List ℕ → List ℕ → List ℕ
 writeBytes sh hs ns old = written (writeAnswer sh hs ns (length old) .number) (encode sh hs ns) old

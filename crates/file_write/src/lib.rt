@@ -6,7 +6,7 @@
 // the bytes.
 pub mod writing; // writing.rt: the entry and its answer
 
-// What writing gives: the answer, and how many bytes were written.
+// What writing returns: the answer, and how many bytes were written.
 pub struct Written {
     pub answer: graph::Answer,
     pub length: usize,

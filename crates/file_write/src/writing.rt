@@ -58,7 +58,8 @@ pub fn unwritten(answer: Answer) -> Written
     Written { answer, length: 0 }
 }
 
-// What writing is to give, before anything is written: 1 to 4, then 14, then 6, and the length of the file.
+// What writing is to return, before anything is written: 1 to 4, then 14, then 6, and the length of
+// the file.
 fn foreseen(shape: Shape, hops: &[u16], names: &[u8], capacity: usize) -> Written
     ensures { λ r. ⌜ r ≡ writeOf shape (now (hops .entry)) (now (names .entry)) capacity ⌝ }
 {

@@ -1,4 +1,5 @@
--- Answers one after the other: which one speaks, and what it means that all accept. Assumes nothing.
+-- Answers one after the other: which one speaks, and what it means that all accept. Assumes
+-- nothing.
 use Prim.Native.Nat.{ℕ, _≤_}
 use mathlib.Core.Path.{_≡_, refl}
 use mathlib.Core.Bool.{Bool, true, false, cond}
@@ -26,7 +27,7 @@ both-accept a b e = go (eqb (a .number) 0) refl e where
 pub second-accepts : (a b : Answer) → andThen a b .number ≡ 0 → andThen a b ≡ b
 second-accepts a b e = then-next a b (both-accept a b e .0)
 
--- a room that is not refused is wide enough
+-- a capacity that is not refused is large enough
 pub capacity-accepts : (n r : ℕ) → capacityAnswer n r .number ≡ 0 → (capacityAnswer n r ≡ accepted) × (n ≤ r)
 capacity-accepts n r = go (leb n r) refl where
   go : (t : Bool) → leb n r ≡ t → cond t accepted (refused 6 0) .number ≡ 0 → (cond t accepted (refused 6 0) ≡ accepted) × (n ≤ r)

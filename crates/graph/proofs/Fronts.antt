@@ -1,5 +1,5 @@
--- Laws of hops written at the front of a flat list: what then stands at a place, that a hop put at a place changes that hop alone, and that what
--- lies past the front stays. Assumes nothing.
+-- Laws of hops written at the front of a flat list: what then stands at a place, that a hop put at
+-- a place changes that hop alone, and that what lies past the front stays. Assumes nothing.
 use Prim.Native.Nat.{ℕ, zero, suc, _+_, _-_, _<_, _≤_}
 use mathlib.Core.Path.{_≡_, refl, sym, ap, _∙_}
 use mathlib.Core.List.{List, [], _∷_, _++_, append-assoc}
@@ -168,7 +168,8 @@ module _ (hs : List ℕ) (h : Hop) {n : ℕ} (l : n < count hs) where
   pub put-other : {i : ℕ} → i < count hs → (i ≡ n → ⊥) → hopAt (put hs n h) i ≡ hopAt hs i
   put-other {i} k q = reads k ∙ getD-set-other (front (count hs) hs) n i h noHop q ∙ getD-front hs (count hs) k
 
--- lists whose first hops are alike and of one line, and whose other hops have one flat list, have one flat list
+-- lists whose first hops are alike and of one line, and whose other hops have one flat list, have
+-- one flat list
 pub flat-alike : {x y : Hop} (xs ys : List Hop) → Alike x y → x .line ≡ y .line → flat xs ≡ flat ys → flat (x ∷ xs) ≡ flat (y ∷ ys)
 unfolding flat
 flat-alike xs ys e k r = rw (e .same-from, e .same-label, e .same-to, k, r)

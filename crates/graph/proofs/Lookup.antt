@@ -1,5 +1,6 @@
--- Laws of the search in an ascending list: the places below `lower` hold exactly the earlier hops, the search tells membership, and the
--- places from `firstOf` up to `pastOf` hold exactly a state's hops. Assumes nothing.
+-- Laws of the search in an ascending list: the places below `lower` hold exactly the earlier hops,
+-- the search decides membership, and the places from `firstOf` up to `pastOf` hold exactly a
+-- state's hops. Assumes nothing.
 use Prim.Native.Nat.{ℕ, _+_, _<_, _≤_}
 use mathlib.Core.Path.{_≡_, refl, sym, ap, _∙_, subst}
 use mathlib.Core.Bool.{Bool, true, false, not, _&&_}
@@ -129,7 +130,8 @@ module _ (hs : List ℕ) (h : Hop) where
           let w : j < count hs = omega (arith, lower-within) in
           before-trans (hopAt hs j) h g (sym (lower-law w) ∙ lt-ltb _ _ (rw q at l)) e
 
-  -- the ways out of a search, where r is the place that it came to: it asked whether the hop stands there, or is past all that it can stand at
+  -- the ways out of a search, where r is the place that it came to: it asked whether the hop stands
+  -- there, or is past all that it can stand at
   module _ {r : ℕ} (e : r ≡ lower hs h) where
     pub find-found : {b : Bool} → r < count hs → b ≡ is hs (h .from) (h .label) (h .to) r → found b r ≡ placed hs h
     unfolding placed
@@ -162,7 +164,7 @@ module _ (hs : List ℕ) (h : Hop) where
   unfolding has
   at-has e = let (l, f) = at-place e in any-found (is hs (h .from) (h .label) (h .to)) (count hs) l f
 
-  -- in an ascending list the search tells whether the graph has the hop
+  -- in an ascending list the search decides whether the graph has the hop
   pub placed-has : Ascending hs → isAt (placed hs h) ≡ has hs (h .from) (h .label) (h .to)
   placed-has up =
       same-test (isAt (placed hs h)) (has hs (h .from) (h .label) (h .to)) (told (placed hs h) refl)
@@ -200,7 +202,8 @@ lower-rises hs up a b e = ⊎-elim over (λ l. l) (lt-or-le (lower hs b) (lower 
     go (inl d) = clash (before-trans b x a d x-a) e
     go (inr d) = clash (sym (before-alike (before-total x b x-b d) (alike-itself a)) ∙ x-a) e
 
--- Hops sought one after the other, g k and then those of the places behind k, each before the next: lo and hi bracket all that are still to be sought
+-- Hops sought one after the other, g k and then those of the places behind k, each before the next:
+-- lo and hi bracket all that are still to be sought
 abbrev pub Onward : List ℕ → (ℕ → Type 0) → (ℕ → Hop) → ℕ → ℕ → ℕ → Type 0
 Onward hs Asked g lo hi k = (i : ℕ) → k ≤ i → Asked i → Bracket hs (g i) lo hi
 

@@ -1,4 +1,5 @@
--- The order of hops is a strict total order, so that in an ascending list an earlier place holds an earlier hop. Assumes nothing.
+-- The order of hops is a strict total order, so that in an ascending list an earlier place holds an
+-- earlier hop. Assumes nothing.
 use Prim.Native.Nat.{ℕ, zero, suc, _<_, _≤_}
 use mathlib.Core.Path.{_≡_, refl, sym, _∙_, subst, subst⁻¹}
 use mathlib.Core.Bool.{true, false, _&&_, _||_}
@@ -72,7 +73,7 @@ before-not-back a b p = no-test (before b a) (λ q. below-self a b (before-below
 pub before-itself : (a : Hop) → before a a ≡ false
 before-itself a = no-test (before a a) (λ q. below-self a a (before-below a a q) (before-below a a q))
 
--- being alike is an equivalence, and the order does not tell hops that are alike apart
+-- being alike is an equivalence, and the order does not distinguish hops that are alike
 pub alike-itself : (a : Hop) → Alike a a
 alike-itself a = record { same-from = refl; same-label = refl; same-to = refl }
 
@@ -137,7 +138,7 @@ module _ (hs : List ℕ) (up : Ascending hs) where
       (λ k. before-trans (hopAt hs i) (hopAt hs j) (hopAt hs (suc j)) (ascending-lt j k (omega arith)) (next j m))
       (eq-or-lt-of-le (le-of-suc-le-suc l))
 
-  -- a place is told by its hop
+  -- a place is determined by its hop
   pub ascending-place : {i j : ℕ} → i < count hs → j < count hs → Alike (hopAt hs i) (hopAt hs j) → i ≡ j
   ascending-place {i} {j} l m e = go (trichotomy i j) where
     go : (i < j) ⊎ ((i ≡ j) ⊎ (j < i)) → i ≡ j

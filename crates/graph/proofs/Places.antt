@@ -1,4 +1,5 @@
--- Laws of the flat hop list: what a place holds, and that the graph has a hop exactly when some place holds it. Assumes nothing.
+-- Laws of the flat hop list: what a place holds, and that the graph has a hop exactly when some
+-- place holds it. Assumes nothing.
 use Prim.Native.Nat.{ℕ, zero, suc, _+_, _<_}
 use mathlib.Core.Path.{_≡_, refl, _∙_}
 use mathlib.Core.Bool.{true}

@@ -1,5 +1,6 @@
--- What a hop's sum is for: one sum is below another exactly when its hop comes first by from, label and to, and two are equal exactly when the hops are
--- alike. Both for labels and tos below 65,536, and not without that bound. Assumes nothing.
+-- What a hop's sum is for: one sum is below another exactly when its hop comes first by from, label
+-- and to, and two are equal exactly when the hops are alike. Both for labels and tos below 65,536,
+-- and not without that bound. Assumes nothing.
 use Prim.Native.Nat.{ℕ, _<_}
 use mathlib.Core.Path.{_≡_, refl, sym, _∙_}
 use mathlib.Core.Bool.{Bool, true, false}

@@ -35,6 +35,6 @@ inTable t a = record { number = a .number; table = t; place = a .place }
 abbrev pub andThen : Answer → Answer → Answer
 andThen a b = cond (eqb (a .number) 0) b a
 
--- row 6, for an output that has room for r elements and needs n
+-- row 6, for an output of capacity r that needs n elements
 abbrev pub capacityAnswer : ℕ → ℕ → Answer
 capacityAnswer n r = cond (leb n r) accepted (refused 6 0)

@@ -23,11 +23,13 @@ count hs = length hs / numbers-a-hop
 abbrev pub whole : List ℕ → Bool
 whole hs = eqb (length hs % numbers-a-hop) 0
 
--- where the hop at a place begins, in numbers of the list
+-- where the hop at a place begins, in numbers of the list.
+-- In the field: a place is an index, from 0.
 abbrev pub numberPlace : ℕ → ℕ
 numberPlace i = numbers-a-hop * i
 
--- the numbers of the hop at a place: from, label, to, and "a fourth number, its source line, 0 for none"
+-- the numbers of the hop at a place: from, label, to, and "a fourth number, its source line, 0 for
+-- none"
 abbrev pub from : List ℕ → ℕ → ℕ
 from hs i = getD hs (numberPlace i) 0
 
@@ -52,13 +54,14 @@ hopOf s a t = linedHop s a t 0
 abbrev pub hopAt : List ℕ → ℕ → Hop
 hopAt hs i = linedHop (from hs i) (label hs i) (to hs i) (lineAt hs i)
 
--- "Order and equality go by the first three": two hops are alike that have the same from, label and to. Order, search and meaning look at no more of a hop
+-- "Order and equality go by the first three": two hops are alike that have the same from, label and
+-- to. Order, search and meaning look at no more of a hop
 pub record Alike (a b : Hop) : Type 0 where
   pub same-from : a .from ≡ b .from
   pub same-label : a .label ≡ b .label
   pub same-to : a .to ≡ b .to
 
--- the test of it
+-- the test of `Alike`
 abbrev pub same : Hop → Hop → Bool
 same a b = eqb (a .from) (b .from) && (eqb (a .label) (b .label) && eqb (a .to) (b .to))
 
@@ -79,7 +82,8 @@ labelled hs s a i = eqb (from hs i) s && eqb (label hs i) a
 unfoldable pub has : List ℕ → ℕ → ℕ → ℕ → Bool
 has hs s a t = any (count hs) (is hs s a t)
 
--- the part of a list from one place up to another, and where it stands in the lent list itself: in the same block, two bytes a number
+-- the part of a list from one place up to another, and where it stands in the lent list itself: in
+-- the same block, two bytes a number
 abbrev pub between : List ℕ → ℕ → ℕ → List ℕ
 between hs first past = take (numberPlace past - numberPlace first) (drop (numberPlace first) hs)
 

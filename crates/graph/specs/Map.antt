@@ -5,5 +5,6 @@ use mathlib.Core.List.{List}
 use lib.ListN.{getD}
 
 -- "map(s)"
+-- In the field: a function from the states of one transition system to those of another.
 abbrev pub mapped : List ℕ → ℕ → ℕ
 mapped m s = getD m s 0

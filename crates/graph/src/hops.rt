@@ -36,7 +36,8 @@ pub fn number_place(i: usize) -> usize
     NUMBERS_A_HOP * i
 }
 
-// The states and the label of a hop, by kind: old numbers in the graph that is read, new numbers in the short graph.
+// The states and the label of a hop, by kind: old numbers in the graph that is read, new numbers in
+// the short graph.
 pub fn from_at(hops: &[u16], i: usize) -> OldState
     requires { ⌜ i < count (now hops) ⌝ }
     ensures { λ r. ⌜ r .0 ≡ from (now (hops .entry)) i ⌝ }

@@ -23,8 +23,9 @@ pub const NUMBERS_A_HOP: usize = 4;
 
 pub const MOST_NUMBERS: usize = NUMBERS_A_HOP * MOST_HOPS;
 
-// A hop: from one state, by a label, to another. Label 0 is silent. Its source line, 0 for none, is carried along: order, search and meaning do not look
-// at it.
+// A hop: from one state, by a label, to another. Label 0 is silent. Its source line, 0 for none, is
+// carried along: order, search and meaning do not look at it.
+// In the field: a transition of a labelled transition system; label 0 is tau.
 pub struct Hop {
     pub from: u16,
     pub label: u16,
@@ -32,7 +33,9 @@ pub struct Hop {
     pub line: u16,
 }
 
-// What a graph has besides its hops. Any 32-bit number passes through unchanged, and is refused as it is.
+// What a graph has besides its hops. Any 32-bit number passes through unchanged, and is refused as
+// it is.
+// In the field: what a labelled transition system has besides its transitions.
 pub struct Shape {
     pub states: u32,
     pub labels: u32,
@@ -46,8 +49,9 @@ pub struct Answer {
     pub place: usize,
 }
 
-// A state's number in the graph that is read, graph 1 of the audit, and in the short graph, graph 2. Only the map leads from one to the other. What
-// serves both graphs alike takes and gives bare numbers.
+// A state's number in the graph that is read, graph 1 of the audit, and in the short graph,
+// graph 2. Only the map leads from one to the other. Code that serves both graphs takes and returns
+// bare numbers.
 pub struct OldState(pub u16);
 
 pub struct NewState(pub u16);

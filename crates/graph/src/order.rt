@@ -9,7 +9,8 @@ ghost use Rattle.graph.specs.Hops.{same};
 ghost use Rattle.graph.specs.Order.{before};
 ghost use Rattle.graph.specs.Internal.Sum.{sumOf, Narrow};
 
-// A hop's sum. That it tells the order rests on the width of a hop's numbers, so that is said too.
+// A hop's sum. That sums have the order of their hops depends on the width of a hop's numbers, so
+// the contract states that too.
 pub fn sum_of(h: Hop) -> u64
     ensures sum { λ r. ⌜ r ≡ sumOf h ⌝ }
     ensures narrow { λ _. ⌜ Narrow h ⌝ }

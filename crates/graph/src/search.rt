@@ -18,7 +18,7 @@ ghost use Rattle.graph.specs.Order.{Ascending};
 ghost use Rattle.graph.specs.Search.{lower, firstOf, pastOf};
 ghost use Rattle.graph.specs.Internal.Search.{Bracket, AbsentFrom, found, placed, isAt, foundPlace};
 
-// The first place whose hop is not before h, searched for by halving between two places that bracket it.
+// The first place whose hop is not before h, by binary search between two places that bracket it.
 pub fn lower_between(hops: &[u16], h: Hop, first: usize, past: usize) -> usize
     requires ascending { ⌜ Ascending (now hops) ⌝ }
     requires bracket { ⌜ Bracket (now hops) h first past ⌝ }
@@ -46,7 +46,7 @@ pub fn lower_place(hops: &[u16], h: Hop) -> usize
     lower_between(hops, h, 0, hop_count(hops))
 }
 
-// What a search tells of the place that it came to: the hop stands there, or would stand there.
+// What a search returns for the place that it came to: the hop stands there, or would stand there.
 fn found_or_gap(stands: bool, at: usize) -> Found
     ensures { λ r. ⌜ r ≡ found stands at ⌝ }
 {
@@ -56,11 +56,12 @@ fn found_or_gap(stands: bool, at: usize) -> Found
     Found::Gap(at)
 }
 
-// Where the hop stands or would stand, searched for between two places that bracket it, if it does not stand behind them.
+// Where the hop stands or would stand, searched for between two places that bracket it, if it does
+// not stand behind them.
 pub fn find_between(hops: &[u16], h: Hop, first: usize, past: usize) -> Found
     requires ascending { ⌜ Ascending (now hops) ⌝ }
     requires bracket { ⌜ Bracket (now hops) h first past ⌝ }
-    requires ended { ⌜ AbsentFrom (now hops) h past ⌝ }
+    requires absent { ⌜ AbsentFrom (now hops) h past ⌝ }
     ensures { λ r. ⌜ r ≡ placed (now (hops .entry)) h ⌝ }
 {
     let at = lower_between(hops, h, first, past);
@@ -70,11 +71,12 @@ pub fn find_between(hops: &[u16], h: Hop, first: usize, past: usize) -> Found
     found_or_gap(false, at)
 }
 
-// The same, walked to from the first of the two places: for hops that are sought one after the other, each not far behind the one before.
+// The same by a scan from the first of the two places: for hops that are sought one after the
+// other, each not far behind the one before.
 pub fn find_ahead(hops: &[u16], h: Hop, first: usize, past: usize) -> Found
     requires ascending { ⌜ Ascending (now hops) ⌝ }
     requires bracket { ⌜ Bracket (now hops) h first past ⌝ }
-    requires ended { ⌜ AbsentFrom (now hops) h past ⌝ }
+    requires absent { ⌜ AbsentFrom (now hops) h past ⌝ }
     ensures { λ r. ⌜ r ≡ placed (now (hops .entry)) h ⌝ }
 {
     let sought = sum_of(h);

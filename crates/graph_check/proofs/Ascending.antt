@@ -1,5 +1,5 @@
--- Row 4 by sums: what the pass over the list knows when it comes to a place, where it begins, goes on, finds a hop that is not above the one before,
--- and ends. Assumes nothing.
+-- Row 4 by sums: what the pass over the list knows when it comes to a place, where it begins, goes
+-- on, finds a hop that is not above the one before, and ends. Assumes nothing.
 use Prim.Native.Nat.{ℕ, _+_, _-_, _<_, _≤_}
 use mathlib.Core.Path.{_≡_, refl, sym, ap, _∙_, subst}
 use mathlib.Core.Bool.{Bool, true, false, not}

@@ -1,5 +1,5 @@
--- The ways out of `check` and what its answer means: 0 exactly for the graphs that document 01 admits, and the places of rows 3 and 4 are the
--- first such hops. Assumes nothing.
+-- The ways out of `check` and what its answer means: 0 exactly for the graphs that document 01
+-- admits, and the places of rows 3 and 4 are the first such hops. Assumes nothing.
 use Prim.Native.Nat.{ℕ, zero, suc, _+_, _-_, _%_, _<_, _≤_}
 use mathlib.Core.Path.{_≡_, refl, sym, ap, subst}
 use mathlib.Core.Bool.{Bool, true, false, cond, not, _&&_}
@@ -201,5 +201,6 @@ module _ (sh : Shape) (hs : List ℕ) where
       falling : count hs ≤ firstNotAscending hs
       falling = rw (all-passing (count hs) (ascendsAt hs) (ascends-rising (a .ascending))) (le-refl (count hs))
 
+  -- `check` answers 0 exactly for the admitted graphs
   pub check-zero-iff : (checkOf sh hs .number ≡ 0) ↔ Admitted sh hs
   check-zero-iff = (check-admitted, λ a. ap (λ (x : Answer). x .number) (admitted-check a))

@@ -13,7 +13,8 @@ use Rattle.graph.specs.Answers.{most-states, most-labels, most-hops, accepted, 
 use Rattle.graph.specs.declared.Shape.{Shape}
 use Rattle.graph.specs.declared.Answer.{Answer}
 
--- row 1: "state, label or hop count outside its limits, or flat list length not a multiple of three"; by wish 2 "1 speaks of multiples of four"
+-- row 1: "state, label or hop count outside its limits, or flat list length not a multiple of
+-- three"; by wish 2 "1 speaks of multiples of four"
 unfoldable pub countsFit : Shape → List ℕ → Bool
 countsFit sh hs =
     leb 1 (sh .states) && leb (sh .states) most-states && leb 1 (sh .labels) && leb (sh .labels) most-labels &&
@@ -42,12 +43,14 @@ checkOf sh hs =
     (cond (ltb (firstNotAscending hs) (count hs)) (refused 4 (firstNotAscending hs))
     accepted)))
 
--- the meaning of 0: "A graph is admitted when checks 1 to 4 pass it"
+-- the meaning of row 3: every state and every label is below its count
 pub record InRange (sh : Shape) (hs : List ℕ) : Type 0 where
   pub from-in : (i : ℕ) → i < count hs → from hs i < sh .states
   pub label-in : (i : ℕ) → i < count hs → label hs i < sh .labels
   pub to-in : (i : ℕ) → i < count hs → to hs i < sh .states
 
+-- the meaning of 0: "A graph is admitted when checks 1 to 4 pass it".
+-- In the field: a well-formed transition system.
 pub record Admitted (sh : Shape) (hs : List ℕ) : Type 0 where
   pub states-some : 1 ≤ sh .states
   pub states-most : sh .states ≤ most-states

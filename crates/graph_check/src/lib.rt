@@ -61,7 +61,8 @@ fn first_outside(shape: Shape, hops: &[u16]) -> usize
     n
 }
 
-// Row 4: the first hop not above the one before, or the number of hops. The sum of each hop is made once, and kept for the next.
+// Row 4: the first hop not above the one before, or the number of hops. The sum of each hop is made
+// once, and kept for the next.
 fn first_not_ascending(hops: &[u16]) -> usize
     ensures { λ r. ⌜ r ≡ firstNotAscending (now (hops .entry)) ⌝ }
 {
@@ -82,7 +83,8 @@ fn first_not_ascending(hops: &[u16]) -> usize
     n
 }
 
-// The entry. Rows 1 to 4 in their order: a hop out of range anywhere speaks before any hop out of order.
+// The entry. Rows 1 to 4 in their order: a hop out of range anywhere speaks before any hop out of
+// order.
 pub fn check(shape: Shape, hops: &[u16]) -> Answer
     ensures { λ r. ⌜ r ≡ checkOf shape (now (hops .entry)) ⌝ }
 {

@@ -1,5 +1,6 @@
--- What `find` answers of an admitted graph, said without counting: found exactly when the graph has the hop, and then that hop stands at the place; the hops
--- below the place are those that come before it. Nothing else could be answered. Assumes nothing.
+-- What `find` answers of an admitted graph, said without counting: found exactly when the graph has
+-- the hop, and then that hop stands at the place; the hops below the place are those that come
+-- before it. Nothing else could be answered. Assumes nothing.
 use Prim.Native.Nat.{ℕ, _<_, _≤_}
 use mathlib.Core.Path.{_≡_, refl, sym, ap, _∙_}
 use mathlib.Core.Bool.{Bool, true, false, cond}
@@ -82,6 +83,7 @@ module _ {sh : Shape} {hs : List ℕ} (ok : Admitted sh hs) (s a t : ℕ) where
     go p (inr (inl l)) = omega (arith, ok .range .label-in (p .at) (p .within), p .label-is)
     go p (inr (inr l)) = omega (arith, ok .range .to-in (p .at) (p .within), p .to-is)
 
+  -- what `find` returns is what document 02 asks for
   pub find-correct : Finds sh hs s a t (findOf sh hs s a t)
   find-correct = record {
     has-found = found-exactly-when-had;

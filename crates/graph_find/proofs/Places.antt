@@ -1,4 +1,5 @@
--- The place that is searched for, as a count: in an ascending list it is the number of hops that come before the hop. Assumes nothing.
+-- The place that is searched for, as a count: in an ascending list it is the number of hops that
+-- come before the hop. Assumes nothing.
 use Prim.Native.Nat.{ℕ, zero, suc, _≤_}
 use mathlib.Core.Path.{_≡_, sym, _∙_}
 use mathlib.Core.List.{List}

@@ -1,5 +1,6 @@
--- A hop may be sought by numbers of 16 bits: among numbers below 65,535 a larger one counts as 65,535 does, so in an admitted graph the hops before the hop
--- are the same, and it stands there exactly where the one asked for does. Assumes nothing.
+-- A hop may be sought by numbers of 16 bits: among numbers below 65,535 a larger one counts as
+-- 65,535 does, so in an admitted graph the hops before the hop are the same, and it stands there
+-- exactly where the one asked for does. Assumes nothing.
 use Prim.Native.Nat.{ℕ, _<_, _≤_}
 use mathlib.Core.Path.{_≡_, sym, _∙_}
 use mathlib.Core.List.{List}

@@ -41,13 +41,13 @@ module _ (sh : Shape) (hs : List ℕ) {answer : Answer} (p : answer ≡ checkOf 
       answers : r ≡ placed hs (hopOf (saturated s) (saturated a) (saturated t))
       answers = rw (← u, ← v, ← w, ← e) f
 
-      has-told : isAt r ≡ has hs s a t
-      has-told = ap isAt answers ∙ placed-has hs _ (ok .ascending) ∙ has-saturated ok s a t
+      has-result : isAt r ≡ has hs s a t
+      has-result = ap isAt answers ∙ placed-has hs _ (ok .ascending) ∙ has-saturated ok s a t
 
-      place-told : foundPlace r ≡ hopsBefore hs s a t
-      place-told =
+      place-result : foundPlace r ≡ hopsBefore hs s a t
+      place-result =
           ap foundPlace answers ∙ found-lower hs _ ∙ lower-counts hs (ok .ascending) _ _ _ ∙ hops-before-saturated ok s a t
 
       pub find-found : {g : Found} → r ≡ g → findingOf answer g ≡ findOf sh hs s a t
       unfolding findOf
-      find-found q = rw (← q, ← p, eq-eqb _ _ zero, has-told, place-told)
+      find-found q = rw (← q, ← p, eq-eqb _ _ zero, has-result, place-result)

@@ -17,8 +17,8 @@ use Rattle.graph_find.specs.declared.Finding.{Finding}
 unfoldable pub hopsBefore : List ℕ → ℕ → ℕ → ℕ → ℕ
 hopsBefore hs s a t = tally (count hs) (λ (i : ℕ). before (hopAt hs i) (hopOf s a t))
 
--- check's answer; 1 where the graph has the hop; and how many hops come before it, which is its place where it has it. "With any number but 0 every other
--- figure in the answer is 0"
+-- check's answer; 1 where the graph has the hop; and how many hops come before it, which is its
+-- place where it has it. "With any number but 0 every other figure in the answer is 0"
 unfoldable pub findOf : Shape → List ℕ → ℕ → ℕ → ℕ → Finding
 findOf sh hs s a t = record {
   answer = checkOf sh hs;

@@ -12,14 +12,16 @@ ghost use mathlib.Core.Path.{_≡_};
 ghost use Rattle.graph_find.specs.Internal.Find.{saturated};
 ghost use Rattle.graph_find.specs.Find.{findOf};
 
-// What `find` returns: check's answer; 1 or 0, whether the graph has the hop; and the hop's place, or where it would stand (0 and 0 with a refusal).
+// What `find` returns: check's answer; 1 or 0, whether the graph has the hop; and the hop's place,
+// or where it would stand (0 and 0 with a refusal).
 pub struct Finding {
     pub answer: graph::Answer,
     pub found: u32,
     pub place: usize,
 }
 
-// The largest number of 16 bits. No hop of an admitted graph has it, so it may stand for all that are larger.
+// The largest number of 16 bits. No hop of an admitted graph has it, so it may stand for all that
+// are larger.
 const LARGEST: u32 = 65535;
 
 // The number in 16 bits: as it is, or the largest for one that does not fit.

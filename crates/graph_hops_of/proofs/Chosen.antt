@@ -1,4 +1,5 @@
--- The ways out of the choice of a side, and what a choice says of the table that is shown. Assumes nothing.
+-- The ways out of the choice of a side, and what a choice says of the chosen table. Assumes
+-- nothing.
 use Prim.Native.Nat.{ℕ, _<_}
 use mathlib.Core.Path.{_≡_, refl}
 use mathlib.Core.Bool.{Bool, true, false, cond, not, _&&_}
@@ -41,7 +42,7 @@ module _ (side s : ℕ) (sh1 : Shape) (h1 : List ℕ) (sh2 : Shape) (h2 : List �
         unfolding chosen
         chosen-none g = rw (← e, not-false pass n, f, g)
 
-  -- the table whose hops are shown is admitted, and has the state
+  -- the table whose hops are returned is admitted, and has the state
   pub record Shows (sh : Shape) (hs : List ℕ) : Type 0 where
     pub admitted : Admitted sh hs
     pub present : s < sh .states

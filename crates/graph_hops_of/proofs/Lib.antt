@@ -1,2 +1,2 @@
-pub mod Chosen  -- the ways out of choosing a side, and what is known of the side that is shown
-pub mod Spans  -- where the part stands by start and length, and that it is the part shown
+pub mod Chosen  -- the ways out of choosing a side, and what is known of the chosen side
+pub mod Spans  -- where the part stands by start and length, and that it is the part returned

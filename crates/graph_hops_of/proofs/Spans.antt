@@ -1,5 +1,5 @@
--- Where the part of a state's hops stands, by start and length: the ways out of the code, and that the part shown is the one that stands there.
--- Assumes nothing.
+-- Where the part of a state's hops stands, by start and length: the ways out of the code, and that
+-- the part returned is the one that stands there. Assumes nothing.
 use Prim.Native.Nat.{ℕ, _-_}
 use mathlib.Core.Path.{_≡_, refl}
 use mathlib.Core.Bool.{Bool, true, false, cond}

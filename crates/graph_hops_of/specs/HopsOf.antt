@@ -16,7 +16,7 @@ use Rattle.graph_hops_of.specs.declared.Span.{Span}
 unfoldable pub bothPass : Shape → List ℕ → Shape → List ℕ → Bool
 bothPass sh1 h1 sh2 h2 = eqb (checkOf sh1 h1 .number) 0 && eqb (checkOf sh2 h2 .number) 0
 
--- the side whose hops are shown: 1, 2, or 0 for none
+-- the side whose hops are returned: 1, 2, or 0 for none
 unfoldable pub chosen : ℕ → ℕ → Shape → List ℕ → Shape → List ℕ → ℕ
 chosen side s sh1 h1 sh2 h2 =
     cond (bothPass sh1 h1 sh2 h2)
@@ -30,13 +30,15 @@ outgoing hs s = between hs (firstOf hs s) (pastOf hs s)
 unfoldable pub hopsOfSide : ℕ → ℕ → List ℕ → List ℕ → List ℕ
 hopsOfSide which s h1 h2 = cond (eqb which 1) (outgoing h1 s) (cond (eqb which 2) (outgoing h2 s) [])
 
--- where it stands: in the chosen table, where the state's hops begin (or would, if it has none); where no table is chosen, at the front of table 1. Document 01
--- leaves an empty part's position free
+-- where it stands: in the chosen table, where the state's hops begin (or would, if it has none);
+-- where no table is chosen, at the front of table 1. Document 01 leaves an empty part's position
+-- free
 unfoldable pub hopsOfAddress : ℕ → ℕ → RefT (List ℕ) → RefT (List ℕ) → ℕ × ℕ
 hopsOfAddress which s t1 t2 =
     cond (eqb which 1) (partAddress t1 (firstOf (now t1) s)) (cond (eqb which 2) (partAddress t2 (firstOf (now t2) s)) (partAddress t1 0))
 
--- the same part by start and length in numbers of its table; 0 and 0 wherever it is empty, also for a state that has no hops
+-- the same part by start and length in numbers of its table; 0 and 0 wherever it is empty, also for
+-- a state that has no hops
 abbrev pub noSpan : Span
 noSpan = record { start = 0; length = 0 }
 

@@ -1,1 +1,1 @@
-pub mod HopsOf  -- which part of a table is shown for a side and a state
+pub mod HopsOf  -- which part of a table is returned for a side and a state

@@ -33,7 +33,7 @@ fn both_pass(shape1: Shape, hops1: &[u16], shape2: Shape, hops2: &[u16]) -> bool
     (first.number == 0) & (second.number == 0)
 }
 
-// The side whose hops are shown: 1, 2, or 0 for none.
+// The side whose hops are returned: 1, 2, or 0 for none.
 fn choose(side: u32, state: u32, shape1: Shape, hops1: &[u16], shape2: Shape, hops2: &[u16]) -> u32
     ensures { λ r. ⌜ r ≡ chosen side state shape1 (now (hops1 .entry)) shape2 (now (hops2 .entry)) ⌝ }
 {
@@ -116,7 +116,7 @@ fn span_in(hops: &[u16], state: u32) -> Span
     }
 }
 
-// The entry by numbers: where the part stands that `hops_of` shows.
+// The entry by numbers: where the part stands that `hops_of` returns.
 pub fn span_of(
     side: u32,
     state: u32,

@@ -1,4 +1,5 @@
--- The table of places by where their hops end: what stands in it among the hops into a state. Assumes nothing.
+-- The table of places by where their hops end: what stands in it among the hops into a state.
+-- Assumes nothing.
 use Prim.Native.Nat.{ℕ, _+_, _<_, _≤_}
 use mathlib.Core.Path.{_≡_}
 use mathlib.Core.List.{List}

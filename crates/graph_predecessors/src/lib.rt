@@ -58,7 +58,8 @@ pub fn predecessor_starts(hops: &[u16]) -> [u16; STARTS]
     begins
 }
 
-// Each place in its slot, `next` being where the next hop into each state goes: at first, where they begin. It comes by value, to be moved on here.
+// Each place in its slot, `next` being where the next hop into each state goes: at first, where
+// they begin. `next` comes by value, and is advanced here.
 fn fill(hops: &[u16], mut next: [u16; STARTS]) -> [u16; MOST_HOPS]
     requires ready { ⌜ Indexable (now hops) ⌝ }
     requires begins { ⌜ PredecessorStarts (now hops) next ⌝ }

@@ -1,4 +1,5 @@
--- First places in an ascending list: what stands before one, when a place is one, and what the table says. Assumes nothing.
+-- First places in an ascending list: what stands before one, when a place is one, and what the
+-- table says. Assumes nothing.
 use Prim.Native.Nat.{ℕ, _+_, _<_, _≤_}
 use mathlib.Core.Path.{_≡_, sym, _∙_}
 use mathlib.Core.List.{List}
@@ -33,7 +34,8 @@ module _ (hs : List ℕ) (up : Ascending hs) where
       let w : j < count hs = omega (arith, first-within hs up s) in
       ltb-true (from hs j) s (sym (first-law hs up s w) ∙ lt-ltb j (firstOf hs s) l)
 
-  -- a place before which all hops are from states below s, and at which one is not, is the first of s
+  -- a place before which all hops are from states below s, and at which one is not, is the first of
+  -- s
   pub first-is : (s : ℕ) {r : ℕ} → r ≤ count hs → ((j : ℕ) → j < r → from hs j < s) → (r < count hs → s ≤ from hs r) → r ≡ firstOf hs s
   first-is s {r} w f g = go (lt-or-le r (firstOf hs s)) (lt-or-le (firstOf hs s) r) where
     go : (r < firstOf hs s) ⊎ (firstOf hs s ≤ r) → (firstOf hs s < r) ⊎ (r ≤ firstOf hs s) → r ≡ firstOf hs s

@@ -1,5 +1,5 @@
--- The hops of one state in an ascending list: its places bracket the search of each of them, and the places of one label hold exactly its hops of
--- that label. Assumes nothing.
+-- The hops of one state in an ascending list: its places bracket the search of each of them, and
+-- the places of one label hold exactly its hops of that label. Assumes nothing.
 use Prim.Native.Nat.{ℕ, _+_, _<_, _≤_}
 use mathlib.Core.Path.{_≡_, refl, sym, ap, _∙_}
 use mathlib.Core.Bool.{true, false}

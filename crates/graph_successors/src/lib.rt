@@ -95,7 +95,8 @@ pub fn find_row(hops: &[u16], starts: &[u16; STARTS], h: Hop) -> Found
     find_between(hops, h, start_of(starts, s), start_of(starts, s + 1))
 }
 
-// The first place of the hops of s labelled a, and the one past the last. The silent ones are its first.
+// The first place of the hops of s labelled a, and the one past the last. The silent ones are its
+// first.
 pub fn labelled_from(hops: &[u16], starts: &[u16; STARTS], s: u16, a: Label) -> usize
     requires ready { ⌜ Indexable (now hops) ⌝ }
     requires table { ⌜ SuccessorIndex (now hops) (now starts) ⌝ }

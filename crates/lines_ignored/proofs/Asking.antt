@@ -1,5 +1,5 @@
--- What is asked of a hop looks at no line: of graphs that differ in lines alone the round question and find answer the same, and the faster marking takes as
--- many tests. Assumes nothing.
+-- What is asked of a hop looks at no line: of graphs that differ in lines alone the round question
+-- and find answer the same, and the faster marking takes as many tests. Assumes nothing.
 use Prim.Native.Nat.{ℕ, zero, suc}
 use mathlib.Core.Path.{_≡_}
 use mathlib.Core.Bool.{not, _&&_}
@@ -45,15 +45,15 @@ module _ {hs hs' : List ℕ} (un : DifferInLines hs hs') where
   unfolding stillMarked
   standing-same k i = rw (label-ignores-lines un i, survives-ignores-lines un, from-ignores-lines un i, to-ignores-lines un i)
 
-  shaken-same : (v : Pairs) → affected hs v ≡ affected hs' v
+  affected-same : (v : Pairs) → affected hs v ≡ affected hs' v
   unfolding affected affectedAt
-  shaken-same v = λ d. λ (s1 s2 : ℕ). any (count-ignores-lines un d)
+  affected-same v = λ d. λ (s1 s2 : ℕ). any (count-ignores-lines un d)
       (λ (j : ℕ). eqb (from-ignores-lines un j d) s1 && answers-ignores-lines un v d s2 (label-ignores-lines un j d) (to-ignores-lines un j d))
 
   due-same : (k i : ℕ) → testedIn hs k i ≡ testedIn hs' k i
   unfolding testedIn
   due-same zero i = λ d. eqb (label-ignores-lines un i d) 0
-  due-same (suc k) i = rw (standing-same (suc k) i, fell-same k, shaken-same, from-ignores-lines un i, to-ignores-lines un i)
+  due-same (suc k) i = rw (standing-same (suc k) i, fell-same k, affected-same, from-ignores-lines un i, to-ignores-lines un i)
 
   pub tests-ignores-lines : testsOf hs ≡ testsOf hs'
   unfolding testsOf testsUpTo testsIn

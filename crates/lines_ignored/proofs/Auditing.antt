@@ -1,4 +1,5 @@
--- Faults look at no line: from and to graphs that differ in lines alone a map has the same faults, and the audit returns the same. Assumes nothing.
+-- Faults look at no line: from and to graphs that differ in lines alone a map has the same faults,
+-- and the audit returns the same. Assumes nothing.
 use Prim.Native.Nat.{ℕ}
 use mathlib.Core.Path.{_≡_}
 use mathlib.Core.Bool.{not, _&&_, _||_}
@@ -35,7 +36,7 @@ module _ {h1 h1' h2 h2' : List ℕ} (un1 : DifferInLines h1 h1') (un2 : DifferIn
   unfolding firstLost
   first-lost-same = rw (place-same, count-ignores-lines un1)
 
-  -- the hops that are made up
+  -- the hops that are unmatched
   offers-same : matchAt h1 m ≡ matchAt h1' m
   unfolding matchAt
   offers-same = λ d. λ (r a q u : ℕ). eqb (mapped m u) r && any (count-ignores-lines un1 d)
@@ -46,32 +47,32 @@ module _ {h1 h1' h2 h2' : List ℕ} (un1 : DifferInLines h1 h1') (un2 : DifferIn
     unfolding matchedFrom
     backed-same = λ d. λ (s r a q : ℕ). any (sh1 .states) (λ (u : ℕ). leads-ignores-lines un1 (sh1 .states) s u d && offers-same d r a q u)
 
-    made-up-same : unmatched sh1 h1 h2 m ≡ unmatched sh1 h1' h2' m
+    unmatched-same : unmatched sh1 h1 h2 m ≡ unmatched sh1 h1' h2' m
     unfolding unmatched matched
-    made-up-same = λ d. λ (j s : ℕ). eqb (mapped m s) (from-ignores-lines un2 j d) &&
+    unmatched-same = λ d. λ (j s : ℕ). eqb (mapped m s) (from-ignores-lines un2 j d) &&
         not ((eqb (label-ignores-lines un2 j d) 0 && eqb (from-ignores-lines un2 j d) (to-ignores-lines un2 j d)) ||
         backed-same d s (from-ignores-lines un2 j d) (label-ignores-lines un2 j d) (to-ignores-lines un2 j d))
 
-    made-up-faults-same : unmatchedFaults sh1 h1 h2 m ≡ unmatchedFaults sh1 h1' h2' m
+    unmatched-faults-same : unmatchedFaults sh1 h1 h2 m ≡ unmatchedFaults sh1 h1' h2' m
     unfolding unmatchedFaults
-    made-up-faults-same = λ d. total (count-ignores-lines un2 d) (λ (j : ℕ). tally (sh1 .states) (made-up-same d j))
+    unmatched-faults-same = λ d. total (count-ignores-lines un2 d) (λ (j : ℕ). tally (sh1 .states) (unmatched-same d j))
 
-    made-up-place-same : unmatchedPlace sh1 h1 h2 m ≡ unmatchedPlace sh1 h1' h2' m
+    unmatched-place-same : unmatchedPlace sh1 h1 h2 m ≡ unmatchedPlace sh1 h1' h2' m
     unfolding unmatchedPlace
-    made-up-place-same = λ d. least (count-ignores-lines un2 d) (λ (j : ℕ). any (sh1 .states) (made-up-same d j))
+    unmatched-place-same = λ d. least (count-ignores-lines un2 d) (λ (j : ℕ). any (sh1 .states) (unmatched-same d j))
 
-    first-made-up-same : firstUnmatched sh1 h1 h2 m ≡ firstUnmatched sh1 h1' h2' m
+    first-unmatched-same : firstUnmatched sh1 h1 h2 m ≡ firstUnmatched sh1 h1' h2' m
     unfolding firstUnmatched unmatchedState
-    first-made-up-same = rw (made-up-place-same, made-up-same, count-ignores-lines un2)
+    first-unmatched-same = rw (unmatched-place-same, unmatched-same, count-ignores-lines un2)
 
     module _ (sh2 : Shape) where
       pub faults-ignores-lines : faultsOf sh1 sh2 h1 h2 m ≡ faultsOf sh1 sh2 h1' h2' m
       unfolding faultsOf
-      faults-ignores-lines = rw (lost-same, made-up-faults-same)
+      faults-ignores-lines = rw (lost-same, unmatched-faults-same)
 
       pub first-fault-ignores-lines : firstFault sh1 sh2 h1 h2 m ≡ firstFault sh1 sh2 h1' h2' m
       unfolding firstFault
-      first-fault-ignores-lines = rw (first-lost-same, first-made-up-same)
+      first-fault-ignores-lines = rw (first-lost-same, first-unmatched-same)
 
       audit-answer-same : auditAnswer sh1 sh2 h1 h2 m ≡ auditAnswer sh1 sh2 h1' h2' m
       unfolding auditAnswer

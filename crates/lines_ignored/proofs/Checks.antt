@@ -1,5 +1,5 @@
--- Graphs that differ in lines alone have the same hops, and check answers the same of them. A path between two definitions is their body, with the path of
--- each part in its place. Assumes nothing.
+-- Graphs that differ in lines alone have the same hops, and check answers the same of them. A path
+-- between two definitions is their body, with the path of each part in its place. Assumes nothing.
 use Prim.Native.Nat.{ℕ, _-_, _/_}
 use mathlib.Core.Path.{_≡_}
 use mathlib.Core.Bool.{not, _&&_, _||_}

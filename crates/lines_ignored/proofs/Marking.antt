@@ -1,5 +1,6 @@
--- Marking looks at no line: in graphs that differ in lines alone the same hops survive each number of rounds, and in each sense the marked set, the marks and
--- mark's answer are the same. Assumes nothing.
+-- Marking looks at no line: in graphs that differ in lines alone the same hops survive each number
+-- of rounds, and in each sense the marked set, the marks and mark's answer are the same. Assumes
+-- nothing.
 use Prim.Native.Nat.{ℕ}
 use mathlib.Core.Path.{_≡_, refl}
 use mathlib.Core.Bool.{cond, not, _&&_, _||_}
@@ -84,6 +85,7 @@ module _ {hs hs' : List ℕ} (un : DifferInLines hs hs') where
         unfolding markAnswer
         mark-answer-ignores-lines = rw (check-ignores-lines un sh, ringless-ignores-lines un sh, count-ignores-lines un)
 
+        -- what `mark` leaves in its output
         pub mark-output-ignores-lines : markOutput sh hs k out ≡ markOutput sh hs' k out
         unfolding markOutput
         mark-output-ignores-lines = rw (mark-answer-ignores-lines, marks-ignores-lines)

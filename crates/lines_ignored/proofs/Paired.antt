@@ -1,5 +1,5 @@
--- Lists of hops that are alike place by place: hops that are alike, put into such lists, leave such lists, so what is collected of hops that are alike
--- differs in lines alone. Assumes nothing.
+-- Lists of hops that are alike place by place: hops that are alike, put into such lists, leave such
+-- lists, so what is collected of hops that are alike differs in lines alone. Assumes nothing.
 use Prim.Native.Nat.{ℕ, zero, suc}
 use mathlib.Core.Path.{_≡_, refl, sym, ap, _∙_}
 use mathlib.Core.Bool.{Bool, true, false, cond}

@@ -1,5 +1,6 @@
--- Reducing looks at no line but to hand lines on: of graphs that differ in lines alone the map, the short shape and what reduce returns are the same, and the
--- short hops differ in lines alone. Assumes nothing.
+-- Reducing looks at no line but to hand lines on: of graphs that differ in lines alone the map, the
+-- short shape and what reduce returns are the same, and the short hops differ in lines alone.
+-- Assumes nothing.
 use Prim.Native.Nat.{ℕ, zero, suc}
 use mathlib.Core.Path.{_≡_, refl}
 use mathlib.Core.Bool.{cond, not, _&&_}

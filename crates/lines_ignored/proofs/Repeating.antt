@@ -1,5 +1,6 @@
--- Repeated reduction looks at no line but to hand lines on: from graphs that differ in lines alone it goes by the same steps to graphs that differ in lines
--- alone, with the same map and number of reductions. Assumes nothing.
+-- Repeated reduction looks at no line but to hand lines on: from graphs that differ in lines alone
+-- it goes by the same steps to graphs that differ in lines alone, with the same map and number of
+-- reductions. Assumes nothing.
 use Prim.Native.Nat.{ℕ, zero, suc}
 use mathlib.Core.Path.{_≡_, refl, sym, ap, _∙_, subst}
 use mathlib.Core.Bool.{Bool, true, false, cond, _&&_}

@@ -1,4 +1,5 @@
--- In graphs that differ in lines alone hops lead to the same states, and so do silent hops: the same states are on rings. Assumes nothing.
+-- In graphs that differ in lines alone hops lead to the same states, and so do silent hops: the
+-- same states are on rings. Assumes nothing.
 use Prim.Native.Nat.{ℕ, zero, suc}
 use mathlib.Core.Path.{_≡_, refl}
 use mathlib.Core.Bool.{Bool, _&&_, _||_}

@@ -1,4 +1,5 @@
--- Branching bisimulations as relations (van Glabbeek and Weijland), from maps that keep branching bisimilarity on all numbers. Assumes nothing.
+-- Branching bisimulations as relations (van Glabbeek and Weijland), from maps that keep branching
+-- bisimilarity on all numbers. Assumes nothing.
 use Prim.Native.Nat.{ℕ}
 use mathlib.Core.Path.{_≡_, refl, sym, _∙_}
 use mathlib.Core.Logic.{_⊎_, inl, inr}

@@ -1,5 +1,5 @@
--- The condition of a sense grows with the set and with the sense: the union of sets of a sense is one, a set of R1 is one of R2 and of R3, and a
--- set of either is one of R8. Assumes nothing.
+-- The condition of a sense is monotone in the set and in the sense: the union of sets of a sense is
+-- one, a set of R1 is one of R2 and of R3, and a set of either is one of R8. Assumes nothing.
 use Prim.Native.Nat.{ℕ}
 use Rattle.lts.specs.Star.{Star, stay}
 use Rattle.lts.specs.Closes.{Reach, Via, here, hop, walk, Sense, r1, r2, r3, r8, Closes, ConfluentIn, ReachLe, same, more, most, Implies}

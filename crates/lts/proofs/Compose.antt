@@ -1,4 +1,5 @@
--- Maps of graphs that keep branching bisimilarity, each said of the states of its first graph, compose. Assumes nothing.
+-- Maps of graphs that keep branching bisimilarity, each said of the states of its first graph,
+-- compose. Assumes nothing.
 use Prim.Native.Nat.{ℕ}
 use mathlib.Core.Path.{_≡_, refl, ap}
 use mathlib.Core.Logic.{_⊎_, inl, inr}
@@ -45,6 +46,6 @@ module _
     pub reduces-compose : Reduces D1 Hop1 Hop3 (λ s. g (f s))
     reduces-compose = record { fore = λ s a t h. fore-on s a t (F .fore s a t h); back = λ s a q d h. back-on s a q d (G .back (f s) a q (into s d) h) }
 
--- a graph is led to itself by each state's own number
+-- the identity is such a map from a graph to itself
 pub Reduces·refl : {D : ℕ → Type 0} {Hop : ℕ → ℕ → ℕ → Type 0} → Reduces D Hop Hop (λ s. s)
 Reduces·refl = record { fore = λ s a t h. inr h; back = λ s a q d h. inr (s, q, stay, refl, h, refl) }

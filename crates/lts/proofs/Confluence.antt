@@ -1,8 +1,11 @@
--- Reduction by silent confluence. U, a set of silent hops, is weakly confluent, and no ring of silent hops is there: `Confluent Hop U`.
+-- Reduction by silent confluence. U, a set of silent hops, is weakly confluent, and no ring of
+-- silent hops is there: `Confluent Hop U`.
 --     T1  `rep`: every state comes by hops of U to a state that none leaves (`rep-rests`)
---     T2  it comes to one such state only (`unique`): the states joined by hops of U are those of one `rep` (`joined-iff`), and one of them is normal (`class`)
+--     T2  it comes to one such state only (`unique`): the states joined by hops of U are those of
+--         one `rep` (`joined-iff`), and one of them is normal (`class`)
 --     T3  a state and its `rep` are branching bisimilar (`forward`, `backward`)
--- T2 and T3 hold of any map to such states, `Rests U rep`, however it is found: by uniqueness there is one only (`rep-only`). Assumes nothing.
+-- T2 and T3 hold of any map to such states (`NormalForms U rep`), however it is found: by
+-- uniqueness there is only one (`rep-only`). Assumes nothing.
 use Prim.Native.Nat.{ℕ, zero, suc, _≤_, _<_}
 use native.Mathlib.Omega.{arith}
 use mathlib.Core.Path.{_≡_, refl, sym, _∙_, subst}
@@ -91,7 +94,8 @@ module _ {Hop : ℕ → ℕ → ℕ → Type 0} {U : ℕ → ℕ → Type 0} (co
     Meets·move e f (inl (z, g)) = inl (z, sym e ∙ g ∙ f)
     Meets·move {a = a} e f (inr (x, h, g)) = inr (x, subst (λ r. Hop r a x) e h, g ∙ f)
 
-    -- Simulation, inside a set In of states that are flat, which no hop of U and none labelled a leaves.
+    -- Simulation, inside a set In of states that are flat, which no hop of U and none labelled a
+    -- leaves.
     module _
         (In : ℕ → Type 0)
         (flat : (s : ℕ) → In s → Flat s)
@@ -143,7 +147,7 @@ module _ {Hop : ℕ → ℕ → ℕ → Type 0} {U : ℕ → ℕ → Type 0} (co
       low-along : {d t : ℕ} → Low d → Star U d t → Low t × (rep t ≡ rep d)
       low-along = along Low ih low-U 0 low-hop
 
-      -- of two hops of U from s, the second's end rests where the first's does, or lower
+      -- of two hops of U from s, the ends have the same `rep`, or the second's has the lower rank
       half : (b c : ℕ) → U s b → U s c → (rep b ≡ rep c) ⊎ (rank (rep c) < rank (rep b))
       half b c u v = let (e, ce, x) = weak s b u 0 c (silent s c v) in answer e ce x
         where
@@ -182,7 +186,7 @@ module _ {Hop : ℕ → ℕ → ℕ → Type 0} {U : ℕ → ℕ → Type 0} (co
     flat : (s : ℕ) → Flat s
     flat = by-rank rank Flat flat-step
 
-    -- T2. A state rests in one place.
+    -- T2. A state has one normal form.
     pub hop-same : {s t : ℕ} → U s t → rep s ≡ rep t
     hop-same {s} {t} u = sym (flat s t u)
 

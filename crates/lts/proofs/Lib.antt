@@ -1,5 +1,5 @@
 pub mod Star  -- laws of the closures
-pub mod Closes  -- the condition grows with the set and with the sense; each sense implies the weak one
+pub mod Closes  -- the condition is monotone in set and sense; each sense implies the weak one
 pub mod SenseForms  -- the one condition says what each sense says
 pub mod Confluence  -- one representative a class, and that reducing loses nothing
 pub mod Compose  -- maps that keep branching bisimilarity compose

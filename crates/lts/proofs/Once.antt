@@ -1,5 +1,6 @@
--- Under R8 one reduction is enough. U is the greatest set of R8: what is left has no hop in any set of R8. Such a set, joined with U, would be one
--- of R8 in the first graph, since its walks are lifted; so it would lie in U, and no hop of U leaves a representative. Assumes nothing.
+-- Under R8 one reduction is enough. U is the greatest set of R8: what is left has no hop in any set
+-- of R8. Such a set, joined with U, would be one of R8 in the first graph, since its walks are
+-- lifted; so it would lie in U, and no hop of U leaves a representative. Assumes nothing.
 use Prim.Native.Nat.{ℕ}
 use mathlib.Core.Path.{_≡_, refl, sym, _∙_, subst}
 use mathlib.Core.Logic.{_⊎_, inl, inr}

@@ -1,5 +1,5 @@
--- What a reduction by a confluent set leaves, numbered anew: the map to it keeps branching bisimilarity, and it has no silent ring, so that it can be
--- reduced again. Assumes nothing.
+-- What a reduction by a confluent set leaves, numbered anew: the map to it keeps branching
+-- bisimilarity, and it has no silent ring, so that it can be reduced again. Assumes nothing.
 use Prim.Native.Nat.{ℕ, _≤_, _<_}
 use native.Mathlib.Omega.{arith}
 use mathlib.Core.Path.{_≡_, refl, sym, ap, _∙_}

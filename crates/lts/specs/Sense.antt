@@ -5,7 +5,8 @@ use mathlib.Core.Path.{_≡_}
 use mathlib.Core.Logic.{_⊎_}
 use Rattle.lts.specs.Star.{Star}
 
--- no hop of U leaves n
+-- no hop of U leaves n.
+-- In the field: a normal form.
 abbrev pub Normal : (ℕ → ℕ → Type 0) → ℕ → Type 0
 Normal U n = (t : ℕ) → U n t → ⊥
 

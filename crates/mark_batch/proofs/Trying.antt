@@ -1,6 +1,7 @@
--- A batch of hops tried together. The tables, one after the other, say which hops are answered in the sense; judging by them takes no hop of the marked
--- set, and if it takes none each hop of the batch is answered. When no sweep takes any, the marks are those of the marked set. No sense is named here.
--- Assumes nothing.
+-- A batch of hops tried together. The tables, one after the other, say which hops are answered in
+-- the sense; the filter by them takes the mark of no hop of the marked set, and if it takes none
+-- each hop of the batch is answered. When no sweep takes any, the marks are those of the marked
+-- set. No sense is named here. Assumes nothing.
 use Prim.Native.Nat.{ℕ, _+_, _-_, _<_, _≤_}
 use mathlib.Core.Path.{_≡_, refl, sym, ap, _∙_}
 use mathlib.Core.Bool.{Bool, true, false, not, cond, _&&_, _||_}
@@ -91,7 +92,7 @@ module _ {sense : Sense} {hs : List ℕ} {U : ℕ → ℕ → Type 0} {base m : 
         ),
       )
 
--- judging by the tables of a batch
+-- the filter by the tables of a batch
 module _ (sense : Sense) (sh : Shape) (hs ms : List ℕ) (k : Marking hs (markedIn sense sh hs) ms) (base m : ℕ) (froms answers : List ℕ)
     (few : m ≤ word-bits) (inside : base + m ≤ count hs) (f : KeyTable (from hs) base m froms) (t : Tables sense hs (In (markSet hs ms)) base m answers) where
   -- a hop fits exactly when each hop of its state in the batch is answered

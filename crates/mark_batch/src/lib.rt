@@ -93,8 +93,9 @@ fn before_table(
     gather(hops, marks, sorted, n, words);
 }
 
-// Notes for the batch with the bit which states have anything in its tables; without a bit it notes nothing. Nothing is proved of what it notes, and nothing
-// rests on it: it only says what is worth running again, and the last sweep runs all.
+// Records, under the batch's bit, which states have a bit in the batch's tables; if `bit` is 0 it
+// records nothing. Nothing is proved of this record and no proof rests on it: it only says which
+// batches are worth running again, and the last sweep runs all.
 fn record_touched(
     ends: &[u64; MOST_STATES],
     answers: &[u64; MOST_STATES],
@@ -116,8 +117,9 @@ fn record_touched(
     }
 }
 
-// Tries the m hops from place `base` on against every marked hop of their states; returns how many marks went. The table of ends serves for the states
-// that the hops leave, too. What it touches is noted under the bit.
+// Tries the m hops from place `base` on against every marked hop of their states; returns how many
+// marks went. The array `ends` is used again for the table of the states that the hops leave. Which
+// states it touches is recorded under the bit.
 pub fn try_batch(
     shape: Shape,
     hops: &[u16],

@@ -1,5 +1,5 @@
--- Judging marks one after the other: what holds after the first i hops, that one hop more keeps it, and that in the end it is what judging leaves.
--- Assumes nothing.
+-- The filter, hop by hop: what holds after the first i hops, that one hop more keeps it, and that
+-- in the end it is what the filter leaves. Assumes nothing.
 use Prim.Native.Nat.{ℕ, _+_, _<_, _≤_}
 use mathlib.Core.Path.{_≡_, refl, sym, ap, _∙_}
 use mathlib.Core.Bool.{Bool, true, false, cond, not, _&&_}
@@ -17,7 +17,7 @@ use Rattle.graph.specs.Hops.{count}
 use Rattle.mark_confluence.specs.Internal.MarkSet.{isMarked}
 use Rattle.mark_batch_filter.specs.Internal.Filtered.{fits, fails, Filtered}
 
--- when a hop falls, and when not
+-- when a hop fails, and when not
 module _ (hs ms froms answers : List ℕ) (i : ℕ) where
   pub stays-unmarked : (getD ms i 0 ≡ 1 → ⊥) → fails hs ms froms answers i ≡ false
   unfolding isMarked
@@ -31,8 +31,8 @@ module _ (hs ms froms answers : List ℕ) (i : ℕ) where
   falls-here o e d = and-yes (eq-eqb (getD ms i 0) 1 o) (not-no (sym e ∙ d))
 
 module _ (hs ms froms answers : List ℕ) where
-  -- the first i hops are judged
-  pub record JudgedTo (i : ℕ) (new : List ℕ) (r : ℕ) : Type 0 where
+  -- the first i hops are filtered
+  pub record FilteredTo (i : ℕ) (new : List ℕ) (r : ℕ) : Type 0 where
     pub long : length new ≡ length ms
     pub beyond : drop (count hs) new ≡ drop (count hs) ms
     pub done : (j : ℕ) → j < i → getD new j 0 ≡ cond (fails hs ms froms answers j) 0 (getD ms j 0)
@@ -40,11 +40,11 @@ module _ (hs ms froms answers : List ℕ) where
     pub fewer : tally (count hs) (isMarked new) + r ≤ tally (count hs) (isMarked ms)
     pub same : r ≡ 0 → new ≡ ms
 
-  pub filtered-none : JudgedTo 0 ms 0
+  pub filtered-none : FilteredTo 0 ms 0
   filtered-none =
       record { long = refl; beyond = refl; done = λ j l. absurd (omega arith); rest = λ j l. refl; fewer = omega arith; same = λ q. refl }
 
-  module _ {i : ℕ} {new : List ℕ} {r : ℕ} (v : JudgedTo i new r) (l : i < count hs) (capacity : count hs ≤ length ms) where
+  module _ {i : ℕ} {new : List ℕ} {r : ℕ} (v : FilteredTo i new r) (l : i < count hs) (capacity : count hs ≤ length ms) where
     -- the mark at i is still the one that it was
     still : fails hs new froms answers i ≡ fails hs ms froms answers i
     unfolding isMarked
@@ -64,8 +64,8 @@ module _ (hs ms froms answers : List ℕ) where
       go (inl q) = clash (rw q at e) off-here
       go (inr n) = sym (off-there j n) ∙ e
 
-    judged-turn : (x : Bool) → fails hs new froms answers i ≡ x → JudgedTo (i + 1) (cond x (set new i 0) new) (r + cond x 1 0)
-    judged-turn true e =
+    filtered-step : (x : Bool) → fails hs new froms answers i ≡ x → FilteredTo (i + 1) (cond x (set new i 0) new) (r + cond x 1 0)
+    filtered-step true e =
         record {
           long = length-set new i 0 ∙ v .long;
           beyond = drop-set-lt (count hs) new i 0 l ∙ v .beyond;
@@ -77,7 +77,7 @@ module _ (hs ms froms answers : List ℕ) where
           done : (j : ℕ) → j < i + 1 → (j ≡ i) ⊎ (j ≡ i → ⊥) → getD (set new i 0) j 0 ≡ cond (fails hs ms froms answers j) 0 (getD ms j 0)
           done j k (inl q) = rw (q, sym still ∙ e) (getD-set-same new i 0 0 (omega (arith, v .long)))
           done j k (inr n) = getD-set-other new i j 0 0 n ∙ v .done j (omega arith)
-    judged-turn false e =
+    filtered-step false e =
         record {
           long = v .long;
           beyond = v .beyond;
@@ -91,11 +91,11 @@ module _ (hs ms froms answers : List ℕ) where
           done j k (inr n) = v .done j (omega arith)
 
     pub filtered-more : {next : List ℕ} {k : ℕ} → next ≡ cond (fails hs new froms answers i) (set new i 0) new → k ≡ cond (fails hs new froms answers i) 1 0 →
-        JudgedTo (i + 1) next (r + k)
-    filtered-more {next} {k} e q = rw (e, q) (judged-turn (fails hs new froms answers i) refl)
+        FilteredTo (i + 1) next (r + k)
+    filtered-more {next} {k} e q = rw (e, q) (filtered-step (fails hs new froms answers i) refl)
 
-  pub filtered-most : {i : ℕ} {new : List ℕ} {r : ℕ} → JudgedTo i new r → r ≤ count hs
+  pub filtered-most : {i : ℕ} {new : List ℕ} {r : ℕ} → FilteredTo i new r → r ≤ count hs
   filtered-most v = omega (arith, v .fewer, tally-within (isMarked ms) (count hs))
 
-  pub filtered-all : {new : List ℕ} {r : ℕ} → JudgedTo (count hs) new r → Filtered hs ms froms answers new r
+  pub filtered-all : {new : List ℕ} {r : ℕ} → FilteredTo (count hs) new r → Filtered hs ms froms answers new r
   filtered-all v = record { long = v .long; beyond = v .beyond; mark = v .done; fewer = v .fewer; same = v .same }

@@ -1,1 +1,1 @@
-pub mod Filtering  -- when a hop falls; marks judged so far, one hop more at a time, and all
+pub mod Filtering  -- when a hop fails; the marks filtered so far, one hop more, and all

@@ -1,1 +1,1 @@
-pub mod Filtered  -- when a marked hop is answered, and what judging marks leaves
+pub mod Filtered  -- when a marked hop is answered, and which marks the filter leaves

@@ -1,5 +1,6 @@
--- The passes along the line. After the places passed so far a table is what the marked hops at those places bring; the line's order is what one step more asks; and the
--- marked hops at all its places are the set that the marks are. Assumes nothing.
+-- The passes along the order. After the places passed so far a table is what the marked hops at
+-- those places bring; that the order is topological is what one step more asks; and the marked hops
+-- at all its places are the set that the marks are. Assumes nothing.
 use Prim.Native.Nat.{ℕ, _+_, _<_, _≤_}
 use mathlib.Core.Path.{_≡_, refl, sym, ap, _∙_}
 use mathlib.Core.Bool.{Bool, true, false, _&&_, _||_}
@@ -23,13 +24,13 @@ use Rattle.mark_batch_spread.specs.Internal.Step.{spreadTo}
 use Rattle.mark_batch_spread.proofs.Steps.{More, SpreadStep, forth-none, forth-same, forth-back, walks-more, single-more}
 
 -- a step at a place from lo up to hi is one from x to y
-pub record Done (on : ℕ → Bool) (giver taker : ℕ → ℕ) (lo hi x y : ℕ) : Type 0 where
+pub record Done (on : ℕ → Bool) (origin receiver : ℕ → ℕ) (lo hi x y : ℕ) : Type 0 where
   pub at : ℕ
   pub after : lo ≤ at
   pub before : at < hi
   pub on-at : on at ≡ true
-  pub giver-is : giver at ≡ x
-  pub taker-is : taker at ≡ y
+  pub origin-is : origin at ≡ x
+  pub receiver-is : receiver at ≡ y
 
 -- the places from lo' up to hi' are those from lo up to hi, and k
 record Next (lo hi lo' hi' k : ℕ) : Type 0 where
@@ -45,35 +46,35 @@ upward k = omega arith
 downward : {k n : ℕ} → k < n → Next (k + 1) n k n k
 downward l = omega arith
 
-module _ {on : ℕ → Bool} {giver taker : ℕ → ℕ} where
-  done-none : (lo x y : ℕ) → Done on giver taker lo lo x y → ⊥
+module _ {on : ℕ → Bool} {origin receiver : ℕ → ℕ} where
+  done-none : (lo x y : ℕ) → Done on origin receiver lo lo x y → ⊥
   done-none lo x y d = omega (arith, d .after, d .before)
 
   module _ {lo hi lo' hi' k : ℕ} (p : Next lo hi lo' hi' k) where
-    done-kept : (x y : ℕ) → Done on giver taker lo hi x y → Done on giver taker lo' hi' x y
+    done-kept : (x y : ℕ) → Done on origin receiver lo hi x y → Done on origin receiver lo' hi' x y
     done-kept x y d = record {
       at = d .at;
       after = omega (arith, d .after, p .low);
       before = omega (arith, d .before, p .high);
       on-at = d .on-at;
-      giver-is = d .giver-is;
-      taker-is = d .taker-is;
+      origin-is = d .origin-is;
+      receiver-is = d .receiver-is;
     }
 
-    done-other : (x y : ℕ) (d : Done on giver taker lo' hi' x y) → (d .at ≡ k → ⊥) → Done on giver taker lo hi x y
+    done-other : (x y : ℕ) (d : Done on origin receiver lo' hi' x y) → (d .at ≡ k → ⊥) → Done on origin receiver lo hi x y
     done-other x y d n =
         let (l, h) = p .others (d .at) (d .after) (d .before) n in
-        record { at = d .at; after = l; before = h; on-at = d .on-at; giver-is = d .giver-is; taker-is = d .taker-is }
+        record { at = d .at; after = l; before = h; on-at = d .on-at; origin-is = d .origin-is; receiver-is = d .receiver-is }
 
     -- a step more, or none where k is not on
-    done-more : on k ≡ true → More (Done on giver taker lo hi) (Done on giver taker lo' hi') (giver k) (taker k)
+    done-more : on k ≡ true → More (Done on origin receiver lo hi) (Done on origin receiver lo' hi') (origin k) (receiver k)
     done-more o = record {
       kept = done-kept;
-      new = record { at = k; after = p .here-low; before = p .here-high; on-at = o; giver-is = refl; taker-is = refl };
-      only = λ x y d. ⊎-elim (λ e. inr (sym (d .giver-is) ∙ ap giver e, sym (d .taker-is) ∙ ap taker e)) (λ n. inl (done-other x y d n)) (eq-or-not (d .at) k);
+      new = record { at = k; after = p .here-low; before = p .here-high; on-at = o; origin-is = refl; receiver-is = refl };
+      only = λ x y d. ⊎-elim (λ e. inr (sym (d .origin-is) ∙ ap origin e, sym (d .receiver-is) ∙ ap receiver e)) (λ n. inl (done-other x y d n)) (eq-or-not (d .at) k);
     }
 
-    done-over : on k ≡ false → (x y : ℕ) → Done on giver taker lo' hi' x y → Done on giver taker lo hi x y
+    done-over : on k ≡ false → (x y : ℕ) → Done on origin receiver lo' hi' x y → Done on origin receiver lo hi x y
     done-over o x y d = done-other x y d (λ e. clash (d .on-at) (ap on e ∙ o))
 
 -- the test of the hop at place p, where the code has i for p
@@ -84,14 +85,14 @@ on-is ms q e f = ap (isMarked ms) (sym q) ∙ (sym e ∙ f)
 pub length-spread : (ws : List ℕ) (g t : ℕ) {next : List ℕ} → next ≡ spreadTo ws g t → length next ≡ length ws
 length-spread ws g t e = ap length e ∙ simp length-set
 
--- and what was given, from the one end of that hop to the other
-pub spread-step : (ws : List ℕ) (giver taker : ℕ → ℕ) {i p g t : ℕ} {next : List ℕ} → i ≡ p → g ≡ giver i → t ≡ taker i → t < length ws →
-    next ≡ spreadTo ws g t → SpreadStep (giver p) (taker p) ws next
-spread-step ws giver taker {i} {p} {g} {t} q f h l e z b =
+-- and the bits of one end of that hop added to the other
+pub spread-step : (ws : List ℕ) (origin receiver : ℕ → ℕ) {i p g t : ℕ} {next : List ℕ} → i ≡ p → g ≡ origin i → t ≡ receiver i → t < length ws →
+    next ≡ spreadTo ws g t → SpreadStep (origin p) (receiver p) ws next
+spread-step ws origin receiver {i} {p} {g} {t} q f h l e z b =
     rw (← q, ← f, ← h, e) (table-or ws t (getD ws g 0) z b l ∙ ap (λ (x : Bool). bitIn ws z b || (eqb z t && x)) (word-of ws g b))
 
 module _ (hs ms sorted : List ℕ) where
-  -- the line's hop at k, and whether it is marked
+  -- the hop at place k of the order, and whether it is marked
   abbrev pub source : ℕ → ℕ
   source k = from hs (getD sorted k 0)
 
@@ -101,16 +102,16 @@ module _ (hs ms sorted : List ℕ) where
   abbrev on : ℕ → Bool
   on k = isMarked ms (getD sorted k 0)
 
-  -- the marked hops from lo up to hi, and the same turned round
+  -- the marked hops from lo up to hi, and the same reversed
   abbrev Hops : ℕ → ℕ → ℕ → ℕ → Type 0
   Hops = Done on source target
 
-  abbrev Turned : ℕ → ℕ → ℕ → ℕ → Type 0
-  Turned = Done on target source
+  abbrev Reversed : ℕ → ℕ → ℕ → ℕ → Type 0
+  Reversed = Done on target source
 
   -- how far each pass is
   abbrev pub Gathered : ℕ → List ℕ → List ℕ → Type 0
-  Gathered k = SpreadForth (Turned 0 k) walks
+  Gathered k = SpreadForth (Reversed 0 k) walks
 
   abbrev pub PassedOnce : ℕ → List ℕ → List ℕ → Type 0
   PassedOnce k = SpreadForth (Hops 0 k) single
@@ -132,18 +133,18 @@ module _ (hs ms sorted : List ℕ) where
     module _ {k : ℕ} (h : k < n) (o : on k ≡ true) (old now next : List ℕ) where
       pub gathered-more : SpreadStep (target k) (source k) now next → Gathered k old now → Gathered (k + 1) old next
       gathered-more gave = walks-more (done-more (upward k) o) old now next gave ends where
-        ends : (y : ℕ) → Turned 0 (k + 1) (source k) y → ⊥
-        ends y d = omega (arith, d .before, l .order (d .at) k (omega (arith, d .before)) h (d .giver-is))
+        ends : (y : ℕ) → Reversed 0 (k + 1) (source k) y → ⊥
+        ends y d = omega (arith, d .before, l .order (d .at) k (omega (arith, d .before)) h (d .origin-is))
 
       pub passed-once-more : SpreadStep (source k) (target k) now next → PassedOnce k old now → PassedOnce (k + 1) old next
       passed-once-more gave = single-more (done-more (upward k) o) old now next gave begins where
         begins : (x : ℕ) → Hops 0 k x (source k) → ⊥
-        begins x d = omega (arith, d .before, l .order (d .at) k (omega (arith, d .before)) h (d .taker-is))
+        begins x d = omega (arith, d .before, l .order (d .at) k (omega (arith, d .before)) h (d .receiver-is))
 
       pub passed-on-more : {up : ℕ} → up ≡ k + 1 → SpreadStep (source k) (target k) now next → PassedOn n up old now → PassedOn n k old next
       passed-on-more e gave g = walks-more (done-more (downward h) o) old now next gave ends (rw e at g) where
         ends : (y : ℕ) → Hops k n (target k) y → ⊥
-        ends y d = omega (arith, d .after, l .order k (d .at) h (d .before) (sym (d .giver-is)))
+        ends y d = omega (arith, d .after, l .order k (d .at) h (d .before) (sym (d .origin-is)))
 
     -- it is not
     module _ {k : ℕ} (h : k < n) (o : on k ≡ false) (old now : List ℕ) where
@@ -156,7 +157,7 @@ module _ (hs ms sorted : List ℕ) where
       pub passed-on-over : {up : ℕ} → up ≡ k + 1 → PassedOn n up old now → PassedOn n k old now
       passed-on-over e g = forth-same old now (done-kept (downward h)) (done-over (downward h) o) (rw e at g)
 
-    -- in the end: the marked hops at all places of the line are those that the marks hold
+    -- in the end: the marked hops at all places of the order are the set that the marks are
     held : {x y : ℕ} {k : ℕ} → k < n → on k ≡ true → source k ≡ x → target k ≡ y → In (markSet hs ms) x y
     held {x} {y} {k} h o f t = mark-set-yes hs ms x y (l .within k h) (is-yes hs x 0 y (getD sorted k 0) f (l .silent k h) t) o
 
@@ -168,12 +169,12 @@ module _ (hs ms sorted : List ℕ) where
 
     module _ (old new : List ℕ) where
       pub gathered-all : {k : ℕ} → k ≡ n → Gathered k old new → SpreadBack (In (markSet hs ms)) walks old new
-      gathered-all e g = forth-back old new (λ x y d. held (d .before) (d .on-at) (d .taker-is) (d .giver-is))
-          (λ x y e. let (k, h, o, f, t) = found x y e in record { at = k; after = omega arith; before = h; on-at = o; giver-is = t; taker-is = f }) (rw e at g)
+      gathered-all e g = forth-back old new (λ x y d. held (d .before) (d .on-at) (d .receiver-is) (d .origin-is))
+          (λ x y e. let (k, h, o, f, t) = found x y e in record { at = k; after = omega arith; before = h; on-at = o; origin-is = t; receiver-is = f }) (rw e at g)
 
       forth-all : {r : Reach} → SpreadForth (Hops 0 n) r old new → SpreadForth (In (markSet hs ms)) r old new
-      forth-all = forth-same old new (λ x y d. held (d .before) (d .on-at) (d .giver-is) (d .taker-is))
-          (λ x y e. let (k, h, o, f, t) = found x y e in record { at = k; after = omega arith; before = h; on-at = o; giver-is = f; taker-is = t })
+      forth-all = forth-same old new (λ x y d. held (d .before) (d .on-at) (d .origin-is) (d .receiver-is))
+          (λ x y e. let (k, h, o, f, t) = found x y e in record { at = k; after = omega arith; before = h; on-at = o; origin-is = f; receiver-is = t })
 
       pub passed-once-all : {k : ℕ} → k ≡ n → PassedOnce k old new → SpreadForth (In (markSet hs ms)) single old new
       passed-once-all e g = forth-all (rw e at g)

@@ -1,5 +1,7 @@
--- One step more, in which a giver g gives what it has to a taker t. Where a table is what the steps D bring, it is afterwards what D and this step bring: for walks if t
--- gives in no step so far nor in this one, for single hops if g took in none. `SpreadBack` is `SpreadForth` along the hops turned round, so it is said once. Assumes nothing.
+-- One step more, which adds the bits of its source g to its target t. If a table is what the steps
+-- D bring, afterwards it is what D and this step bring: for walks if t is the source of no step so
+-- far nor of this one, for single hops if g is the target of none so far. `SpreadBack` is
+-- `SpreadForth` along the reversed hops, so this is proved once. Assumes nothing.
 use Prim.Native.Nat.{ℕ}
 use mathlib.Core.Path.{_≡_, refl, sym, _∙_}
 use mathlib.Core.Bool.{true, _&&_, _||_}
@@ -27,20 +29,20 @@ record Further (D E : ℕ → ℕ → Type 0) (r : Reach) (g t : ℕ) : Type 0 w
   new : {s : ℕ} → Via D r s g → Via E r s t
   only : {s z : ℕ} → Via E r s z → Via D r s z ⊎ (Via D r s g × (z ≡ t))
 
--- the table `next` is `now` with what g has given to t as well
+-- the table `next` is `now` with the bits of g added to t
 abbrev pub SpreadStep : ℕ → ℕ → List ℕ → List ℕ → Type 0
 SpreadStep g t now next = (z b : ℕ) → bitIn next z b ≡ (bitIn now z b || (eqb z t && bitIn now g b))
 
--- along the hops turned round
+-- along the reversed hops
 module _ {D E : ℕ → ℕ → Type 0} (f : (x y : ℕ) → D x y → E y x) where
-  star-turned : {s t : ℕ} → Star D s t → Star E t s
-  star-turned stay = stay
-  star-turned (go {s} {m} d p) = join (star-turned p) (one (f s m d))
+  star-reversed : {s t : ℕ} → Star D s t → Star E t s
+  star-reversed stay = stay
+  star-reversed (go {s} {m} d p) = join (star-reversed p) (one (f s m d))
 
-  via-turned : {r : Reach} {s t : ℕ} → Via D r s t → Via E r t s
-  via-turned here = here
-  via-turned (hop {s} {t} d) = hop (f s t d)
-  via-turned (walk p) = walk (star-turned p)
+  via-reversed : {r : Reach} {s t : ℕ} → Via D r s t → Via E r t s
+  via-reversed here = here
+  via-reversed (hop {s} {t} d) = hop (f s t d)
+  via-reversed (walk p) = walk (star-reversed p)
 
 -- the same hops bring the same
 module _ {D E : ℕ → ℕ → Type 0} {r : Reach} (old new : List ℕ) where
@@ -52,8 +54,8 @@ module _ {D E : ℕ → ℕ → Type 0} {r : Reach} (old new : List ℕ) where
 
   pub forth-back : ((x y : ℕ) → D x y → E y x) → ((x y : ℕ) → E x y → D y x) → SpreadForth D r old new → SpreadBack E r old new
   forth-back into back h s b = (
-    λ e. let (t, v, o) = h s b .0 e in (t, via-turned into v, o),
-    λ (t, v, o). h s b .1 (t, via-turned back v, o),
+    λ e. let (t, v, o) = h s b .0 e in (t, via-reversed into v, o),
+    λ (t, v, o). h s b .1 (t, via-reversed back v, o),
   )
 
 -- along no hop each state has what it had

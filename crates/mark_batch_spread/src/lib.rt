@@ -26,7 +26,7 @@ ghost use Rattle.walk_topological_order.specs.Internal.TopologicalOrder.{Topolo
 ghost use Rattle.mark_batch_spread.specs.Internal.Spread.{SpreadBack, SpreadForth};
 ghost use Rattle.mark_batch_spread.specs.Internal.Step.{spreadTo};
 
-// The line behind a reference is as long as its type says: see `base_bitset::sized`.
+// The array of the order behind a reference is as long as its type says: see `base_bitset::sized`.
 fn sized_order(sorted: &[u16; MOST_HOPS])
     ensures { λ r. ⌜ length (now (sorted .entry)) ≡ most-hops ⌝ }
 {
@@ -41,16 +41,17 @@ fn marked_at(marks: &[u8], i: usize) -> bool
     marks[i] == 1
 }
 
-// State t has what s has, too.
+// State t gets the bits of s, too.
 fn spread_to(words: &mut [u64; MOST_STATES], s: usize, t: usize)
-    requires giver { ⌜ s < most-states ⌝ }
-    requires taker { ⌜ t < most-states ⌝ }
+    requires origin { ⌜ s < most-states ⌝ }
+    requires receiver { ⌜ t < most-states ⌝ }
     ensures { λ r. ⌜ now (words .exit) ≡ spreadTo (now (words .entry)) s t ⌝ }
 {
     words[t] |= words[s];
 }
 
-// Each state takes what the states have that it leads to by walks of marked hops: along the line, where all hops that leave a hop's end come before it.
+// Each state gets the bits of the states that it leads to by walks of marked hops: one pass
+// forwards, since in the order all hops that leave a hop's end come before it.
 pub fn gather(
     hops: &[u16],
     marks: &[u8],
@@ -75,7 +76,8 @@ pub fn gather(
     }
 }
 
-// Each state gives what it has to those that one marked hop leads to: along the line, where no hop into a state comes before one that leaves it.
+// Each state passes its bits to those that one marked hop leads to: one pass forwards, since in the
+// order no hop into a state comes before one that leaves it.
 pub fn pass_once(
     hops: &[u16],
     marks: &[u8],
@@ -100,7 +102,7 @@ pub fn pass_once(
     }
 }
 
-// Each state gives what it has to all that it leads to by walks of marked hops: along the line backwards.
+// Each state passes its bits to all that it leads to by walks of marked hops: one pass backwards.
 pub fn pass_on(
     hops: &[u16],
     marks: &[u8],

@@ -37,21 +37,24 @@ ghost use Rattle.mark_batch.specs.Internal.Batch.{NothingKnown, SweepInput, Tri
 // Every bit: all batches, or all places of a word.
 const ALL_BATCHES: u64 = 18446744073709551615;
 
-// How many sweeps note nothing: most graphs need no more.
+// How many sweeps record nothing of what their batches touch: most graphs need no more sweeps.
 const PLAIN_SWEEPS: usize = 4;
 
-// What a turn over batches leaves: how many marks went, and which batches are due.
+// The outcome of one batch or of a pass over batches: how many marks went, and which batches are
+// pending, that is, to be run again.
 struct SweepOutcome {
     lost: usize,
     pending: u64,
 }
 
-// Which batches are due is one word: bit k stands for the batch from place 64 * k on. There are 64 at most.
+// The bit of the batch from place `base` on, for sets of batches in one word: bit k stands for the
+// batch from place 64 * k on. There are at most 64 batches.
 fn batch_bit(base: usize) -> u64 {
     bit_of(base / WORD_BITS % WORD_BITS)
 }
 
-// Whether the mark at place i went since it was last asked; notes that it did. `was` has one bit a place.
+// Whether the hop at place i has no mark and this was not yet recorded; then records it. `was` has
+// one bit a place, 0 where it is recorded.
 fn lost_mark(marks: &[u8], was: &mut [u64; WORD_BITS], i: usize) -> bool
     requires { ⌜ i < length (now marks) ⌝ }
 {
@@ -67,7 +70,8 @@ fn lost_mark(marks: &[u8], was: &mut [u64; WORD_BITS], i: usize) -> bool
     true
 }
 
-// Notes which marks went since it was last asked, and returns the batches that had anything at an end of such a hop.
+// Records the hops without a mark that were not yet recorded, and returns the batches that touched
+// an end of such a hop.
 fn pending_after(
     hops: &[u16],
     marks: &[u8],
@@ -90,7 +94,8 @@ fn pending_after(
     pending
 }
 
-// One sweep over all hops; returns how many marks went. What the batches touch is noted for those that `noted` has.
+// One sweep over all hops; returns how many marks went. Which states a batch touches is recorded
+// for the batches in `recorded`.
 fn sweep(
     shape: Shape,
     hops: &[u16],
@@ -118,7 +123,7 @@ fn sweep(
     lost
 }
 
-// Tries the m hops from place `base` on until they take nothing more; returns how many marks went.
+// Tries the m hops from place `base` on until they take no mark; returns how many marks went.
 fn run_to_fixpoint(
     shape: Shape,
     hops: &[u16],
@@ -146,7 +151,7 @@ fn run_to_fixpoint(
     all
 }
 
-// Runs the batch from place `base` on if it is due, and says which are due then.
+// Runs the batch from place `base` on if it is pending, and returns which batches are pending then.
 fn run_pending(
     shape: Shape,
     hops: &[u16],
@@ -189,7 +194,7 @@ fn batch_count(n: usize) -> usize
 fn pass_base(n: usize, batches: usize, down: bool, k: usize) -> usize
     requires batches { ⌜ word-bits * batches < n + word-bits ⌝ }
     requires most { ⌜ n ≤ most-hops ⌝ }
-    requires outcome { ⌜ k < batches ⌝ }
+    requires within { ⌜ k < batches ⌝ }
     ensures { λ r. ⌜ r < n ⌝ }
 {
     if down {
@@ -198,7 +203,7 @@ fn pass_base(n: usize, batches: usize, down: bool, k: usize) -> usize
     WORD_BITS * k
 }
 
-// One pass over the batches that are due, downward or upward.
+// One pass over the pending batches, downward or upward.
 fn pass_pending(
     shape: Shape,
     hops: &[u16],
@@ -241,8 +246,8 @@ fn pass_pending(
     SweepOutcome { lost, pending }
 }
 
-// Between two sweeps: passes over the batches that what fell since can have touched, upward and downward by turns, until one takes nothing; returns how
-// many marks went.
+// Between two sweeps: passes over the pending batches (`pending_after`), upward and downward
+// alternately, until one takes no mark; returns how many marks went.
 fn run_all_pending(
     shape: Shape,
     hops: &[u16],
@@ -282,7 +287,8 @@ fn run_all_pending(
     all
 }
 
-// The batches for which a sweep notes what they touch, when so many plain ones are still to come: none or all.
+// The batches for which a sweep records what they touch: none if sweeps without a record (`plain`
+// many) are still to come, else all.
 fn recorded_after(plain: usize) -> u64 {
     if plain > 0 {
         return 0;
@@ -298,8 +304,9 @@ fn one_less(plain: usize) -> usize {
     0
 }
 
-// Sweeps until one takes nothing. After a sweep that takes something the batches catch up that are due by it: where marks fall one after the other, a sweep
-// each would run all batches for one mark. The first sweeps note nothing, so that nothing is due after them.
+// Sweeps until one takes no mark. After a sweep that takes some, the batches run that are pending
+// by it: where marks fall one after the other, sweeps alone would run all batches for each of them.
+// The first sweeps record nothing, so that no batch is pending after them.
 fn sweep_to_fixpoint(
     shape: Shape,
     hops: &[u16],
@@ -327,8 +334,10 @@ fn sweep_to_fixpoint(
     }
 }
 
-// Marks by sweeps, in the sense with the number: the part of `mark` and `reduce` behind the refusals, for any sense but 1, which has its rounds (`mark_worklist_loop`).
-// It could be asked for 1 too. Whoever marks chooses between the two: as one function they would share a frame, and sense 1 would take more stack.
+// Marks by sweeps, in the sense with the number: what `mark`, `reduce` and `shrink` do after the
+// refusals, for any sense but 1, which is marked in rounds (`mark_worklist_loop`). It would be
+// right for 1 too. The callers choose between the two: in one function they would share a frame,
+// and sense 1 would take more stack.
 pub fn mark_by_sweeps(
     shape: Shape,
     hops: &[u16],

@@ -1,4 +1,5 @@
--- Who answers: by staying, and by the hops passed so far. One hop more at a time, and in the end by any hop of the graph. Assumes nothing.
+-- Who answers: by staying, and by the hops passed so far. One hop more at a time, and in the end by
+-- any hop of the graph. Assumes nothing.
 use Prim.Native.Nat.{ℕ, _+_, _<_, _≤_}
 use mathlib.Core.Path.{_≡_, refl, sym, ap, ap₂, _∙_}
 use mathlib.Core.Bool.{Bool, true, false, _&&_, _||_}

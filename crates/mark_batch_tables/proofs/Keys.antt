@@ -1,4 +1,5 @@
--- The table that has bit b where the hop at place base + b says: none at first, and one bit more at a time. Assumes nothing.
+-- The table that has bit b where the hop at place base + b says: none at first, and one bit more at
+-- a time. Assumes nothing.
 use Prim.Native.Nat.{ℕ, _+_, _^_, _<_, _≤_}
 use mathlib.Core.Path.{_≡_, refl, sym, ap, _∙_}
 use mathlib.Core.Bool.{Bool, true, false, _&&_, _||_}

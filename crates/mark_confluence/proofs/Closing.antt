@@ -1,5 +1,6 @@
--- What the tests `closing`, `answers` and `closes` say, and the other way round: `closes hs u` is document 01's condition with "in U" read as
--- `u s t ≡ true`. So they only grow with the set. Assumes nothing.
+-- What the tests `closing`, `answers` and `closes` say, and the other way round: `closes hs u` is
+-- document 01's condition with "in U" read as `u s t ≡ true`. So they only grow with the set.
+-- Assumes nothing.
 use Prim.Native.Nat.{ℕ, _<_, _≤_}
 use mathlib.Core.Path.{_≡_, refl, sym, _∙_}
 use mathlib.Core.Bool.{Bool, true, false, _&&_, _||_, or-false}
@@ -48,7 +49,8 @@ module _ (u : Pairs) (s3 s4 : ℕ) where
 pub closing-is : (u : Pairs) (s3 : ℕ) {s4 t : ℕ} {v b : Bool} → s4 ≡ t → v ≡ closing u s3 s4 → v ≡ b → closing u s3 t ≡ b
 closing-is u s3 q e d = rw q at (sym e ∙ d)
 
--- Y over any set of pairs z, in the place of the closing: there is an s4 by the first point with s3, s4 in z
+-- Y over any set of pairs z, in the place of the closing: there is an s4 by the first point with
+-- s3, s4 in z
 abbrev pub Reaches : List ℕ → (ℕ → ℕ → Type 0) → ℕ → ℕ → ℕ → Type 0
 Reaches hs Z s2 a s3 = (s4 : ℕ) × FirstPoint hs s2 a s4 × Z s3 s4
 
@@ -122,7 +124,8 @@ module _ (hs : List ℕ) where
     unfolding answered
     answered-at s2 j p q = rw (p, q)
 
-    -- "The hop s1 to s2 itself is among the hops tried", and s2 itself answers it, whatever the set: to try it changes no mark
+    -- "The hop s1 to s2 itself is among the hops tried", and s2 itself answers it, whatever the
+    -- set: to try it changes no mark
     pub answered-itself : (s2 j : ℕ) → label hs j ≡ 0 → to hs j ≡ s2 → answered hs u s2 j ≡ true
     unfolding answered
     answered-itself s2 j p q = answers-still s2 (label hs j) (to hs j) p (closing-same u (to hs j) s2 q)

@@ -1,4 +1,5 @@
--- The set that marks are, by places: in an ascending list a silent hop is in it exactly when its own mark is 1. Assumes nothing.
+-- The set that marks are, by places: in an ascending list a silent hop is in it exactly when its
+-- own mark is 1. Assumes nothing.
 use Prim.Native.Nat.{ℕ, _<_}
 use mathlib.Core.Path.{_≡_, sym, _∙_}
 use mathlib.Core.Bool.{true, false}

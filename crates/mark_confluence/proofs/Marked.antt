@@ -1,5 +1,6 @@
--- The marked set is the greatest confluent set, the union of all of them, the greatest solution of the equations X, Y and Z, and what survives every
--- number of rounds: the last round changes nothing, so the set is its own X. Assumes nothing.
+-- The marked set is the greatest confluent set, the union of all of them, the greatest solution of
+-- the equations X, Y and Z, and what survives every number of rounds: the last round changes
+-- nothing, so the set is its own X. Assumes nothing.
 use Prim.Native.Nat.{ℕ}
 use mathlib.Core.Path.{_≡_, refl, sym, ap, _∙_}
 use mathlib.Core.Bool.{true, _&&_}
@@ -16,7 +17,8 @@ use Rattle.mark_confluence.proofs.Closing.{closes-says, closes-yes, clo
 use Rattle.mark_confluence.proofs.Rounds.{closes-monotone, silent-listed}
 
 module _ (hs : List ℕ) where
-  -- the equation X of the marked set, with Y and Z put in, for every pair: one round more changes nothing
+  -- the equation X of the marked set, with Y and Z put in, for every pair: one round more changes
+  -- nothing
   pub marked-fixed : (s1 s2 : ℕ) → marked hs s1 s2 ≡ (has hs s1 0 s2 && closes hs (marked hs) s1 s2)
   unfolding marked survives
   marked-fixed = approximant-fixed (closes hs) (silentHops hs) (closes-monotone hs) (silent-listed hs)

@@ -1,4 +1,5 @@
--- A list that begins with the marks of a set u: its marks are 1 or 0, 1 at silent hops only, and the set that they hold is u's silent hops. Assumes nothing.
+-- A list that begins with the marks of a set u: its marks are 1 or 0, 1 at silent hops only, and
+-- the set that they hold is u's silent hops. Assumes nothing.
 use Prim.Native.Nat.{ℕ, _<_, _≤_}
 use mathlib.Core.Path.{_≡_, refl, sym, ap, _∙_}
 use mathlib.Core.Bool.{Bool, true, false, cond, _&&_}

@@ -1,4 +1,5 @@
--- The rounds of marking are the rounds of a monotone condition on the silent hops, of which there are no more than hops. Assumes nothing.
+-- The rounds of marking are the rounds of a monotone condition on the silent hops, of which there
+-- are no more than hops. Assumes nothing.
 use Prim.Native.Nat.{ℕ, suc}
 use mathlib.Core.Path.{_≡_}
 use mathlib.Core.Bool.{true, _&&_}

@@ -28,7 +28,8 @@ answer hs z s2 a s3 j = labelled hs s2 a j && z s3 (to hs j)
 unfoldable pub hopAnswers : List ℕ → Pairs → Trials
 hopAnswers hs z s2 a s3 = any (count hs) (answer hs z s2 a s3)
 
--- Y, a hop labelled a to s3 tried against a silent hop to s2, over Z: "a is silent and s4 = s2", or a hop of s2 answers
+-- Y, a hop labelled a to s3 tried against a silent hop to s2, over Z: "a is silent and s4 = s2", or
+-- a hop of s2 answers
 unfoldable pub answers : List ℕ → Pairs → Trials
 answers hs z s2 a s3 = (eqb a 0 && z s3 s2) || hopAnswers hs z s2 a s3
 
@@ -36,8 +37,10 @@ answers hs z s2 a s3 = (eqb a 0 && z s3 s2) || hopAnswers hs z s2 a s3
 unfoldable pub tried : List ℕ → Trials → ℕ → ℕ → ℕ → Bool
 tried hs y s1 s2 i = not (eqb (from hs i) s1) || y s2 (label hs i) (to hs i)
 
--- What a solution is: "the greatest solution of three equations: X for a silent hop, Y for a hop tried against it, Z for the closing. X of a pair
--- that is no silent hop is false." In RR-7000 they are the equations of strong confluence.
+-- What a solution is: "the greatest solution of three equations: X for a silent hop, Y for a hop
+-- tried against it, Z for the closing. X of a pair that is no silent hop is false." In RR-7000 they
+-- are the equations of strong confluence.
+-- In the field: a Boolean equation system and its solutions.
 pub record Solution (hs : List ℕ) (X : Pairs) (Y : Trials) (Z : Pairs) : Type 0 where
   pub x-is : (s1 s2 : ℕ) → X s1 s2 ≡ (has hs s1 0 s2 && all (count hs) (tried hs Y s1 s2))
   pub y-is : (s2 a s3 : ℕ) → Y s2 a s3 ≡ answers hs Z s2 a s3
@@ -51,12 +54,14 @@ closes hs u s1 s2 = all (count hs) (tried hs (answers hs (closing u)) s1 s2)
 abbrev pub silentHops : List ℕ → Pairs
 silentHops hs s t = has hs s 0 t
 
--- "Every silent hop survives 0 rounds. It survives k + 1 when the condition above holds with 'in U' read as 'survives k'."
--- So these are the rounds of `closes` on the silent hops.
+-- "Every silent hop survives 0 rounds. It survives k + 1 when the condition above holds with 'in U'
+-- read as 'survives k'." So these are the rounds of `closes` on the silent hops.
+-- In the field: the approximants of a greatest fixpoint.
 unfoldable pub survives : List ℕ → ℕ → Pairs
 survives hs = approximant (closes hs) (silentHops hs)
 
--- the marked set: what survives as many rounds as there are hops (and so every number of rounds)
+-- the marked set: what survives as many rounds as there are hops (and so every number of rounds).
+-- In the field: the greatest tau-confluent set.
 unfoldable pub marked : List ℕ → Pairs
 marked hs = survives hs (count hs)
 
@@ -64,8 +69,9 @@ marked hs = survives hs (count hs)
 abbrev pub FirstPoint : List ℕ → ℕ → ℕ → ℕ → Type 0
 FirstPoint hs s2 a s4 = (has hs s2 a s4 ≡ true) ⊎ ((a ≡ 0) × (s4 ≡ s2))
 
--- "A set U of silent hops is confluent when for each hop s1 to s2 in U and each hop s1, a, s3 there is an s4 such that .."
--- U may be any set of pairs, decidable or not.
+-- "A set U of silent hops is confluent when for each hop s1 to s2 in U and each hop s1, a, s3 there
+-- is an s4 such that .." U may be any set of pairs, decidable or not.
+-- In the field: a strongly tau-confluent set.
 pub record ConfluentSet (hs : List ℕ) (U : ℕ → ℕ → Type 0) : Type 0 where
   pub silent : (s1 s2 : ℕ) → U s1 s2 → has hs s1 0 s2 ≡ true
   pub closed :

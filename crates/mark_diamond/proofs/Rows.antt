@@ -1,5 +1,6 @@
--- One state's hops in an ascending list walked, and two states' side by side: the table of first places gives their ranges, and labels do not fall in one.
--- By it the ways out of X and Y. Assumes nothing.
+-- One state's hops in an ascending list walked, and two states' side by side: the table of first
+-- places says where each state's hops stand, and their labels do not descend. By this the ways out
+-- of X and Y. Assumes nothing.
 use Prim.Native.Nat.{ℕ, _+_, _<_, _≤_}
 use mathlib.Core.Path.{_≡_, refl, sym, _∙_}
 use mathlib.Core.Bool.{Bool, true, false, not, _&&_}
@@ -81,8 +82,9 @@ module _ (hs : List ℕ) (up : Ascending hs) (s1 end : ℕ) where
             let d : answered hs u s2 j ≡ true = rw q at (sym e ∙ not-false v n) in
             below-more _ j f (tried-own hs u s1 s2 j own-from ∙ d)
 
--- Two states' hops walked side by side: j goes over those of s1, up to `end`, and `at` over those of s2, up to `past`. The labels that `at`
--- has passed are below every label that j has still to come to.
+-- Two states' hops walked side by side: j goes over those of s1, up to `end`, and `at` over those
+-- of s2, up to `past`. The labels that `at` has passed are below every label that j has still to
+-- come to.
 pub record Walk (hs : List ℕ) (s1 s2 end past at j : ℕ) : Type 0 where
   pub own : Own hs s1 end j
   pub past-is : past ≡ firstOf hs (s2 + 1)
@@ -154,7 +156,8 @@ module _ (hs : List ℕ) (up : Ascending hs) (s1 s2 end past : ℕ) where
           behind = λ k a b i m n. w .behind k a b i (omega arith) n;
         }
 
--- The hop of s2 like the one at place i: with its label and its end. `same` and `past` bracket it for each hop of s1 from j on, since these ascend.
+-- The hop of s2 like the one at place i: with its label and its end. `same` and `past` bracket it
+-- for each hop of s1 from j on, since these ascend.
 abbrev pub likeAt : List ℕ → ℕ → ℕ → Hop
 likeAt hs s2 i = hopOf s2 (label hs i) (to hs i)
 
@@ -180,12 +183,13 @@ module _ (hs : List ℕ) (up : Ascending hs) (s1 s2 end past : ℕ) where
         Beside hs s2 end past r (j + 1)
     beside-next w q e d = onward hs up likes-rise w l (d ∙ rw (e, q) (found-lower hs (likeAt hs s2 j)))
 
--- the search tells whether s2 has it
+-- the search decides whether s2 has it
 pub like-has : (hs : List ℕ) → Ascending hs → (s2 j : ℕ) {h : Hop} {f : Found} {v : Bool} → h ≡ likeAt hs s2 j → f ≡ placed hs h → v ≡ isAt f →
     v ≡ has hs s2 (label hs j) (to hs j)
 like-has hs up s2 j q e d = d ∙ rw (e, q) (placed-has hs (likeAt hs s2 j) up)
 
--- Y of the hop at place j, labelled a to s3: s2 has the like hop, or itself answers, or another hop of s2 must
+-- Y of the hop at place j, labelled a to s3: s2 has the like hop, or itself answers, or another hop
+-- of s2 must
 module _ (hs : List ℕ) (u : Pairs) (s2 j : ℕ) {a s3 : ℕ} (p : a ≡ label hs j) (q : s3 ≡ to hs j) {v : Bool} where
   pub answered-still : a ≡ 0 → v ≡ closing u s3 s2 → v ≡ true → true ≡ answered hs u s2 j
   answered-still z e d = sym (answers-still hs u s2 a s3 z (sym e ∙ d)) ∙ answered-at hs u s2 j p q

@@ -51,7 +51,8 @@ fn skip(hops: &[u16], at: usize, past: usize, a: Label) -> usize
     k
 }
 
-// Y: whether the hop at place j is answered from the state of `rest`, whose hops of its label or above begin there.
+// Y: whether the hop at place j is answered from the state of `rest`, which holds that state's hops
+// of the label of j or above.
 pub fn is_answered(hops: &[u16], starts: &[u16; STARTS], marks: &[u8], rest: Rest, j: usize) -> bool
     requires ready { ⌜ Indexable (now hops) ⌝ }
     requires table { ⌜ SuccessorIndex (now hops) (now starts) ⌝ }
@@ -72,7 +73,8 @@ pub fn is_answered(hops: &[u16], starts: &[u16; STARTS], marks: &[u8], rest: Res
     hop_answers(hops, starts, marks, rest, a, s3)
 }
 
-// The same, where `alike` is whether that state has a hop with the label and the end of j: then s4 is s3 itself, and no more is asked.
+// The same, where `alike` is whether that state has a hop with the label and the end of j: then s4
+// is s3 itself, and no more is asked.
 fn is_answered_unless_alike(
     hops: &[u16],
     starts: &[u16; STARTS],
@@ -96,7 +98,8 @@ fn is_answered_unless_alike(
     is_answered(hops, starts, marks, rest, j)
 }
 
-// Whether the hop at place j is silent and leads to s2, as the hop under test does: s2 itself answers it, and none of its hops is looked at.
+// Whether the hop at place j is silent and leads to s2, as the hop under test does: s2 itself
+// answers it, and none of its hops is looked at.
 fn stays(hops: &[u16], s2: OldState, j: usize) -> bool
     requires { ⌜ j < count (now hops) ⌝ }
     ensures { λ r. ⌜ r ≡ (eqb (label (now (hops .entry)) j) 0 && eqb (to (now (hops .entry)) j) (s2 .0)) ⌝ }

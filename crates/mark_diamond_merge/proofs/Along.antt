@@ -1,4 +1,5 @@
--- The place m along s3's row: it brackets the search of the silent hop from s3 to each end that is still to come, since these ends rise. Assumes nothing.
+-- The place m along s3's row: it brackets the search of the silent hop from s3 to each end that is
+-- still to come, since these ends rise. Assumes nothing.
 use Prim.Native.Nat.{ℕ, _+_, _<_, _≤_}
 use mathlib.Core.Path.{_≡_, refl, sym, _∙_}
 use mathlib.Core.Bool.{Bool}
@@ -45,7 +46,8 @@ module _ (hs : List ℕ) (up : Ascending hs) where
         onward hs up (λ i o (u, d). below-before (hopOf s3 0 (to hs k)) (hopOf s3 0 (to hs i)) (inr (refl, inr (refl, ends-rise row l o u p d)))) w (n, p)
         (v ∙ rw (e, q, t) (found-lower hs (hopOf s3 0 (to hs k))))
 
--- what the code found out, v, of the silent hop from s3 to s4, another state, by the search that came to f
+-- what the code found out, v, of the silent hop from s3 to s4, another state, by the search that
+-- came to f
 module _ (hs ms : List ℕ) (up : Ascending hs) (s3 s4 : ℕ) {h : Hop} {f : Found} (q : h ≡ hopOf s3 0 s4) (e : f ≡ placed hs h) where
   pub found-marked : {p : ℕ} → f ≡ At p → p < count hs
   found-marked d = mark-set-found hs ms up s3 s4 q e d .0

@@ -1,5 +1,5 @@
--- The hops of one state in an ascending list: labels do not fall in them, and so those of one label lie together. By it, the ways out of the walk over
--- s2's hops. Assumes nothing.
+-- The hops of one state in an ascending list: their labels do not descend, so those of one label
+-- stand together. By this, the ways out of the walk over s2's hops. Assumes nothing.
 use Prim.Native.Nat.{ℕ, _<_, _≤_}
 use mathlib.Core.Path.{_≡_, sym, _∙_}
 use mathlib.Core.Bool.{Bool, true, false}
@@ -32,7 +32,8 @@ module _ (hs : List ℕ) (up : Ascending hs) where
   row-answers u s a s3 row {k} l m q t e d =
       sym (hop-answers hs u s a s3 (omega (arith, row .within)) (labelled-yes hs s a k (row .own k l m) q) (closing-is u s3 t e d))
 
-  -- the walk over a row stops at a place k: none before it closes s3, and the one there, if any, has another label. So no hop answers.
+  -- the walk over a row stops at a place k: none before it closes s3, and the one there, if any,
+  -- has another label. So no hop answers.
   pub row-ends : (u : Pairs) (s a s3 : ℕ) {at past : ℕ} → Row hs s a at past → (k : ℕ) → at ≤ k →
       ((j : ℕ) → at ≤ j → j < k → closing u s3 (to hs j) ≡ false) → (k < past → label hs k ≡ a → ⊥) →
       false ≡ hopAnswers hs (closing u) s a s3

@@ -35,8 +35,9 @@ pub struct Rest {
     pub past: usize,
 }
 
-// Whether the hops labelled a that `few` begins with are far fewer than those labelled b that `many` begins with: the two are counted side by side, one for
-// each eight. Each way of asking gives the same answer; `mark_diamond_search` chooses by this.
+// Whether the hops labelled a that `few` begins with are far fewer than those labelled b that
+// `many` begins with: both are counted side by side, one of the first for each eight of the second.
+// `mark_diamond_search` chooses by this between ways that all have the same answer.
 pub fn is_fewer(hops: &[u16], few: Rest, a: Label, many: Rest, b: Label) -> bool
     requires ready { ⌜ Indexable (now hops) ⌝ }
     requires row { ⌜ few .past ≤ count (now hops) ⌝ }
@@ -73,7 +74,8 @@ fn is_held(marks: &[u8], found: Found) -> bool
     }
 }
 
-// Whether a hop labelled a of `rest` leads to an s4 that closes s3. `m` goes along s3's hops with the ends of those of `rest`: it never goes back.
+// Whether a hop labelled a of `rest` leads to an s4 that closes s3. `m` goes along s3's hops with
+// the ends of those of `rest`: it never goes back.
 pub fn row_answers(
     hops: &[u16],
     starts: &[u16; STARTS],

@@ -1,1 +1,1 @@
-pub mod Rows  -- a state's hops from a label on, found by halving, and what need not be tried
+pub mod Rows  -- a state's hops from a label on, by binary search, and what need not be tried

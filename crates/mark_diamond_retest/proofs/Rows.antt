@@ -1,5 +1,6 @@
--- The hops of a state from a label on, found by halving: from where those of the label begin or would begin up to where the next state's begin.
--- And what need not be tried, in the words of the code. Assumes nothing.
+-- The hops of a state from a label on, found by binary search: from where those of the label begin
+-- or would begin up to where the next state's begin. And what need not be tried, in the words of
+-- the code. Assumes nothing.
 use Prim.Native.Nat.{ℕ, _+_, _<_, _≤_}
 use mathlib.Core.Path.{_≡_, sym, _∙_}
 use mathlib.Core.Bool.{true, false}
@@ -47,7 +48,8 @@ labelled-row hs up s a = record { within = first-within hs up (s + 1); own = own
 pub row-is : (hs : List ℕ) → Ascending hs → (s : ℕ) {a b at past : ℕ} → b ≡ a → at ≡ labelledFrom hs s b → past ≡ firstOf hs (s + 1) → Row hs s a at past
 row-is hs up s {a} q e p = rw (e, p, q) (labelled-row hs up s a)
 
--- a hop of the state that the one at place i leaves, tried against t, its end: where it leads to a state that is not shed it is answered
+-- a hop of the state that the one at place i leaves, tried against t, its end: if it leads to a
+-- state that is not dirty it is answered
 pub clean-at : (hs ms sh : List ℕ) (i : ℕ) → CleanAnswered hs ms sh i → {j t : ℕ} → j < count hs → from hs j ≡ from hs i → t ≡ to hs i →
     isMarked sh (to hs j) ≡ false → answered hs (markSet hs ms) t j ≡ true
 unfolding CleanAnswered

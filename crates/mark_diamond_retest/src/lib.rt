@@ -30,8 +30,8 @@ ghost use Rattle.mark_confluence.specs.Internal.MarkSet.{markSet};
 ghost use Rattle.graph_successors.specs.Internal.SuccessorIndex.{SuccessorIndex, Indexable};
 ghost use Rattle.mark_diamond_retest.specs.Internal.Retest.{CleanAnswered};
 
-// Y of the hop at place j against a silent hop to s2. The walk that `mark_diamond` goes side by side would pass over most of s2's hops here, so the like hop and
-// the place of the label are found by halving.
+// Y of the hop at place j against a silent hop to s2. The merge of `mark_diamond` would pass over
+// most of s2's hops here, so the like hop and the place of the label are found by binary search.
 fn passes(hops: &[u16], starts: &[u16; STARTS], marks: &[u8], s2: OldState, j: usize) -> bool
     requires ready { ⌜ Indexable (now hops) ⌝ }
     requires table { ⌜ SuccessorIndex (now hops) (now starts) ⌝ }
@@ -60,8 +60,8 @@ fn passes(hops: &[u16], starts: &[u16; STARTS], marks: &[u8], s2: OldState, j: u
     )
 }
 
-// X of a silent hop, the one at place i, tested again: of the hops from its start only those to shed states are tried, since the others are answered as
-// before.
+// X of a silent hop, the one at place i, tested again: of the hops from its start only those to
+// dirty states are tried, since the others are answered as before.
 pub fn closes_again(
     hops: &[u16],
     starts: &[u16; STARTS],

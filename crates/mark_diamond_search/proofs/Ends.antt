@@ -1,4 +1,5 @@
--- A trial answered from the side of s3: s3 itself, or the end of one of its marked hops, is where a hop of s2 leads. Assumes nothing.
+-- A trial answered from the side of s3: s3 itself, or the end of one of its marked hops, is where a
+-- hop of s2 leads. Assumes nothing.
 use Prim.Native.Nat.{ℕ, _+_, _<_, _≤_}
 use mathlib.Core.Path.{_≡_, refl, sym, _∙_}
 use mathlib.Core.Bool.{Bool, true, false}
@@ -29,7 +30,8 @@ end-answers hs u s2 a s3 s4 e z =
 pub leads-is : (hs : List ℕ) (s2 a : ℕ) {s4 t : ℕ} {v b : Bool} → s4 ≡ t → v ≡ has hs s2 a s4 → v ≡ b → has hs s2 a t ≡ b
 leads-is hs s2 a q e d = rw q at (sym e ∙ d)
 
--- A walk over the silent hops of s3 has come to place k: s2 leads neither to s3 nor to the end of a marked hop that was passed.
+-- A walk over the silent hops of s3 has come to place k: s2 leads neither to s3 nor to the end of a
+-- marked hop that was passed.
 pub record Passed (hs ms : List ℕ) (s2 a s3 past k : ℕ) : Type 0 where
   pub after : firstOf hs s3 ≤ k
   pub past-is : past ≡ firstOf hs (s3 + 1)

@@ -106,7 +106,8 @@ pub fn leads_to(hops: &[u16], starts: &[u16; STARTS], s2: OldState, a: Label, s4
     }
 }
 
-// Whether a hop labelled a of s2 leads to an s4 that closes s3, s3 itself and the end of each of its marked hops asked.
+// Whether a hop labelled a of s2 leads to an s4 that closes s3, s3 itself and the end of each of
+// its marked hops asked.
 fn ends_answer(
     hops: &[u16],
     starts: &[u16; STARTS],
@@ -142,7 +143,8 @@ fn ends_answer(
     false
 }
 
-// Whether a hop labelled a of `rest` leads to an s4 that closes s3: if s2's hops labelled a or s3's silent hops are far fewer, these are gone over, else both.
+// Whether a hop labelled a of `rest` leads to an s4 that closes s3: if s2's hops labelled a or s3's
+// silent hops are far fewer, each of these is looked up, else both are merged.
 fn long_answer(
     hops: &[u16],
     starts: &[u16; STARTS],
@@ -176,7 +178,7 @@ fn long_answer(
     row_answers(hops, starts, marks, rest, a, s3)
 }
 
-// Whether at most one hop of `rest` is labelled a: it needs no count of the others.
+// Whether at most one hop of `rest` is labelled a: then the others need not be counted.
 fn is_single(hops: &[u16], rest: Rest, a: Label) -> bool
     requires { ⌜ rest .past ≤ count (now hops) ⌝ }
 {

@@ -1,4 +1,5 @@
--- The answer of `mark` row by row, and what its acceptance gives: an admitted graph without rings, with room for one mark a hop. Assumes nothing.
+-- The answer of `mark` row by row, and what its acceptance implies: an admitted graph without
+-- rings, and an output with capacity for one mark a hop. Assumes nothing.
 use Prim.Native.Nat.{ℕ, _<_, _≤_}
 use mathlib.Core.Path.{_≡_, sym, _∙_}
 use mathlib.Core.List.{List}
@@ -59,7 +60,7 @@ module _ (sh : Shape) (hs : List ℕ) (k : ℕ) (out : List ℕ) where
       pub mark-later : b .number ≡ 0 → {d : Answer} → d ≡ behind-sense → d ≡ markAnswer sh hs k out
       mark-later y f = f ∙ sym (then-next (senseAnswer k) _ (rw g at y)) ∙ passed
 
-  -- what acceptance gives
+  -- what acceptance implies
   module _ (e : markAnswer sh hs k out .number ≡ 0) where
     pub mark-admitted : Admitted sh hs
     unfolding markAnswer

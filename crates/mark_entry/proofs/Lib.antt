@@ -1,1 +1,1 @@
-pub mod Entry  -- the answer of `mark` row by row, and what its acceptance gives
+pub mod Entry  -- the answer of `mark` row by row, and what its acceptance implies

@@ -20,6 +20,7 @@ marksMade sh hs k = marksOf hs (markedBy k sh hs)
 unfoldable pub markAnswer : Shape → List ℕ → ℕ → List ℕ → Answer
 markAnswer sh hs k out = andThen (checkOf sh hs) (andThen (senseAnswer k) (andThen (ringAnswer sh hs) (capacityAnswer (count hs) (length out))))
 
--- "A refusal leaves all lent elements untouched"; "Acceptance writes the named elements and none past them"
+-- "A refusal leaves all lent elements untouched"; "Acceptance writes the named elements and none
+-- past them"
 unfoldable pub markOutput : Shape → List ℕ → ℕ → List ℕ → List ℕ
 markOutput sh hs k out = written (markAnswer sh hs k out .number) (marksMade sh hs k) out

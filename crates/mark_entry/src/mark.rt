@@ -55,8 +55,9 @@ pub fn mark_answer(shape: Shape, hops: &[u16], sense: u32, marks: &[u8]) -> Answ
     later_answer(shape, hops, &starts, marks.len())
 }
 
-// Marks in the sense with the number: 1 in rounds that test only what is due, any other by sweeps. Each entry that marks has this
-// choice to itself: in one function the two would share a frame, and sense 1 would take the stack of the others.
+// Marks in the sense with the number: sense 1 by the worklist, any other by sweeps over batches.
+// `reduce` makes this choice in a function of its own: in a common one both would share a frame,
+// and sense 1 would take the stack of the others.
 fn mark_in(shape: Shape, hops: &[u16], starts: &[u16; STARTS], sense: u32, marks: &mut [u8])
     requires tabled { ⌜ Indexed shape (now hops) (now starts) ⌝ }
     requires free { ⌜ ringAnswer shape (now hops) .number ≡ 0 ⌝ }
@@ -71,8 +72,8 @@ fn mark_in(shape: Shape, hops: &[u16], starts: &[u16; STARTS], sense: u32, marks
     mark_by_sweeps(shape, hops, starts, sense, marks);
 }
 
-// The entry. A refusal writes nothing; acceptance writes one mark a hop and nothing past them. The table of first places is made once, for row 5 and for
-// marking.
+// The entry. A refusal writes nothing; acceptance writes one mark a hop and nothing past them. The
+// table of first places is made once, for row 5 and for marking.
 pub fn mark(shape: Shape, hops: &[u16], sense: u32, marks: &mut [u8]) -> Answer
     ensures answers { λ r. ⌜ r ≡ markAnswer shape (now (hops .entry)) sense (now (marks .entry)) ⌝ }
     ensures writes { λ r. ⌜ now (marks .exit) ≡ markOutput shape (now (hops .entry)) sense (now (marks .entry)) ⌝ }

@@ -1,4 +1,5 @@
--- The entry's marking is `mark`'s in sense 1: row 19 lets it pass, and the marked set of sense 1 is document 01's. Assumes nothing.
+-- The entry's marking is `mark`'s in sense 1: row 19 lets it pass, and the marked set of sense 1 is
+-- document 01's. Assumes nothing.
 use Prim.Native.Nat.{ℕ}
 use mathlib.Core.Path.{_≡_, refl, sym, ap, _∙_}
 use mathlib.Core.List.{List}

@@ -1,5 +1,6 @@
--- The first marking and the second are one: the marks at which sweeps rest, whatever order they took them in, and those at which rounds end are the same list,
--- both being the marks of the marked set. Assumes nothing.
+-- The two markings have one result: the marks at which sweeps end, in whatever order they took
+-- marks, and those at which rounds end are the same list, since both are the marks of the marked
+-- set. Assumes nothing.
 use Prim.Native.Nat.{ℕ}
 use mathlib.Core.Path.{_≡_, sym, _∙_}
 use mathlib.Core.List.{List}

@@ -1,5 +1,9 @@
--- Laws of the flat list of records: writing it record by record, and what the entries say of more records than a graph may have hops.
---     done ys xs i     xs with the first i of ys written at its front.        done-n, done-length, done-step: at last, as long as xs, and one record more
+-- Laws of the flat list of records: writing it record by record, and what the entries say of more
+-- records than a graph may have hops.
+--     done ys xs i     xs with the first i of ys written at its front
+--     done-n           all of ys are written
+--     done-length      it is as long as xs
+--     done-step        one record more
 -- Assumes nothing.
 use Prim.Native.Nat.{ℕ, suc, _+_, _<_, _≤_}
 use mathlib.Core.Path.{_≡_, refl, sym, _∙_, ap}
@@ -58,7 +62,8 @@ module _ (ys : List Hop) (xs : List ℕ) where
             ∙ ap (λ (z : List Hop). z ++ (h ∷ [])) (ap (λ (k : ℕ). front k hs) (sym as-many) ∙ front-over xs (take i ys))
             ∙ (sym (take-suc ys i noHop l) ∙ ap (λ (k : ℕ). take k ys) (sym (add-one i)))
 
--- what is said of a list that stands for another wherever there are not too many hops, and where there are, is known
+-- what is said of a list that stands for another wherever there are not too many hops, and where
+-- there are, is known
 pub unless-over : {A : Type 0} (n : ℕ) (z : A) (f : List ℕ → A) (a b : List ℕ) → (n ≤ most-hops → a ≡ b) → (most-hops < n → f b ≡ z) →
     unlessOver n z (f a) ≡ f b
 unless-over n z f a b few many = go (ltb most-hops n) refl where

@@ -1,5 +1,6 @@
--- What an entry over records knows of `flat_of`: that it meets its contract. `hops` is Copy: a copy of what it owns goes to `flat_of`, beside the lifetime's token, which comes back.
--- Assumes `Given`.
+-- What an entry over records knows of `flat_of`: that it meets its contract. `hops` is Copy: a copy
+-- of what it owns goes to `flat_of`, beside the lifetime's token, which comes back. Assumes
+-- `Given`.
 use mathlib.Core.Path.{_≡_}
 use Prim.Native.Nat.{ℕ, _≤_}
 use mathlib.Core.List.{List, [], _∷_}

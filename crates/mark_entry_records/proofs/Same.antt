@@ -1,5 +1,5 @@
--- "with the same answers": a list of records and the flat list that holds them are checked and marked alike, since that flat list is the records' own.
--- Assumes nothing.
+-- "with the same answers": a list of records and the flat list that holds them are checked and
+-- marked alike, since that flat list is the records' own. Assumes nothing.
 use Prim.Native.Nat.{ℕ, _%_, _<_}
 use mathlib.Core.Path.{_≡_, sym, ap, _∙_}
 use mathlib.Core.List.{List, [], _++_, append-nil}

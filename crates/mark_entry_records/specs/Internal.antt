@@ -1,1 +1,1 @@
-pub mod Records  -- what the functions below the entries say, and what it is that a flat list holds records
+pub mod Records  -- what the functions below the entries say; a flat list that holds records

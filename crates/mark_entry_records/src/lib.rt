@@ -24,7 +24,8 @@ ghost use Rattle.graph_check.specs.Check.{checkOf};
 ghost use Rattle.mark_entry.specs.Mark.{markAnswer, markOutput};
 ghost use Rattle.mark_entry_records.specs.Internal.Records.{unlessOver};
 
-// The flat list of the records at the front of an array. Of more records than a graph may have hops it says nothing.
+// The flat list of the records at the front of an array. Its contract says nothing of more records
+// than a graph may have hops.
 fn flat_of(hops: &[Hop]) -> [u16; MOST_NUMBERS]
     ensures { λ r. ⌜ (length (now (hops .entry)) ≤ most-hops → between r 0 (length (now (hops .entry))) ≡ flat (now (hops .entry))) ⌝ }
 {

@@ -1,4 +1,5 @@
--- The ways out of the entry: rows 1 to 4, then 9, then 10; and what is known where none of them speaks. Assumes nothing.
+-- The ways out of the entry: rows 1 to 4, then 9, then 10; and what is known where none of them
+-- speaks. Assumes nothing.
 use Prim.Native.Nat.{ℕ, suc, _<_, _≤_}
 use mathlib.Core.Path.{_≡_, refl, sym, ap, _∙_}
 use mathlib.Core.Bool.{Bool, true, false, cond, _&&_}
@@ -78,7 +79,7 @@ module _ (sh : Shape) (hs : List ℕ) (i k : ℕ) where
       unfolding questionAnswer
       answer-rounds y r = rw (← p, eq-eqb _ _ z, ← q, eq-eqb _ _ y, r)
 
-  -- the entry: a row speaks, or the hop is judged
+  -- the entry: a row speaks, or the equations decide
   module _ {a : Answer} (p : a ≡ questionAnswer sh hs i k) where
     pub question-refused : (a .number ≡ 0 → ⊥) → record { answer = a; survives = 0 } ≡ questionOf sh hs i k
     unfolding questionOf
@@ -92,6 +93,6 @@ module _ (sh : Shape) (hs : List ℕ) (i k : ℕ) where
           let (e, f) = both-accept (silentPlace hs i) (fewRounds k) d in
           (check-admitted sh hs c, (place-accepted hs i e .0, (place-accepted hs i e .1, rounds-accepted k f)))
 
-      pub question-judged : {v : Bool} → v ≡ survives hs k (from hs i) (to hs i) → record { answer = a; survives = boolByte v } ≡ questionOf sh hs i k
+      pub question-answered : {v : Bool} → v ≡ survives hs k (from hs i) (to hs i) → record { answer = a; survives = boolByte v } ≡ questionOf sh hs i k
       unfolding questionOf
-      question-judged {v} e = rw (← p, eq-eqb _ _ z, ← e, as-number v)
+      question-answered {v} e = rw (← p, eq-eqb _ _ z, ← e, as-number v)

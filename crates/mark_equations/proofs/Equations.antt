@@ -1,5 +1,5 @@
--- The ways out of X, Y and Z, in the words of their definitions, with the walks over the places of a state's hops instead of the whole
--- list. Assumes nothing.
+-- The ways out of X, Y and Z, in the words of their definitions, with the walks over the places of
+-- a state's hops instead of the whole list. Assumes nothing.
 use Prim.Native.Nat.{ℕ, zero, suc, _-_, _<_, _≤_}
 use mathlib.Core.Path.{_≡_, refl, sym, _∙_}
 use mathlib.Core.Bool.{Bool, true, false, not}
@@ -31,7 +31,8 @@ abbrev pub Through : (ℕ → Type 0) → ℕ → ℕ → Type 0
 Through P lo j = (q : ℕ) → lo ≤ q → q < j → P q
 
 module _ (hs : List ℕ) (up : Ascending hs) (u : Pairs) where
-  -- X of a silent hop s1 to s2: a walk over the hops of s1 up to `past` has passed all of them, or met one that is not answered from s2
+  -- X of a silent hop s1 to s2: a walk over the hops of s1 up to `past` has passed all of them, or
+  -- met one that is not answered from s2
   module _ (s1 s2 : ℕ) {past : ℕ} (e : past ≡ pastOf hs s1) {j : ℕ} where
     pub closes-all : past ≤ j → Through (λ (q : ℕ). answered hs u s2 q ≡ true) (firstOf hs s1) j → true ≡ closes hs u s1 s2
     unfolding closes
@@ -51,7 +52,8 @@ module _ (hs : List ℕ) (up : Ascending hs) (u : Pairs) where
         let w : answered hs u s2 j ≡ false = sym d ∙ not-true v n in
         sym (all-fails (tried hs (answers hs (closing u)) s1 s2) (count hs) l (tried-own hs u s1 s2 j (range-only hs up s1 l a (omega arith)) ∙ w))
 
-  -- Y of the hop at place i, labelled a to s3: a walk over the hops of s2 labelled a, up to `past`, comes to one whose end s4 closes s3 ..
+  -- Y of the hop at place i, labelled a to s3: a walk over the hops of s2 labelled a, up to `past`,
+  -- comes to one whose end s4 closes s3 ..
   module _ (s2 i : ℕ) {a s3 past j : ℕ} (x : a ≡ label hs i) (y : s3 ≡ to hs i) (p : past ≡ labelledPast hs s2 a) where
     pub answered-hop : j < past → labelledFrom hs s2 a ≤ j → {s4 : ℕ} {v : Bool} → s4 ≡ to hs j → v ≡ closing u s3 s4 → v ≡ true → true ≡ answered hs u s2 i
     answered-hop hi lo q e d =

@@ -1,4 +1,5 @@
--- Laws of the table of answers: what it says is right, and stays so when a right answer is written. Assumes nothing.
+-- Laws of the table of answers: what it says is right, and stays so when a right answer is written.
+-- Assumes nothing.
 use Prim.Native.Nat.{ℕ, zero, suc, _/_, _%_, _<_}
 use mathlib.Core.Path.{_≡_, refl, sym, ap, _∙_}
 use mathlib.Core.Bool.{Bool, true, false}
@@ -40,7 +41,7 @@ module _ (hs m : List ℕ) (right : Right hs m) (k i : ℕ) (v : Bool) (l : i < 
         word-same v w (sym (getD-set-same m (answerPlace k i) (wordFor v) 0 h) ∙ ap (λ (n : ℕ). getD (set m (answerPlace k i) (wordFor v)) n 0) (sym q) ∙ g)
     go (inr n) = right j w (sym (getD-set-other m (answerPlace k i) j (wordFor v) 0 n) ∙ g)
 
--- a table of noughts says nothing
+-- a table of zeros says nothing
 zero-at : (n j : ℕ) → _≡_ {A = ℕ} (getD (replicate n 0) j 0) 0
 zero-at zero j = refl
 zero-at (suc n) zero = refl

@@ -65,7 +65,8 @@ pub fn x(hops: &[u16], starts: &[u16; STARTS], i: usize, k: usize, known: &mut [
     true
 }
 
-// Y: is the hop at place i, tried against a silent hop to s2, answered from s2 with a closing that survives k rounds?
+// Y: is the hop at place i, tried against a silent hop to s2, answered from s2 with a closing that
+// survives k rounds?
 fn y(
     hops: &[u16],
     starts: &[u16; STARTS],

@@ -1,5 +1,6 @@
--- The marked set of a sense is of the sense, and it holds every set of it, decidable or not: so it is the union of all of them. The marks of a sense are
--- among those of a weaker one. The sense is an argument throughout; R1 is named last, where its marked set is document 01's. Assumes nothing.
+-- The marked set of a sense is of the sense, and it holds every set of it, decidable or not: so it
+-- is the union of all of them. The marks of a sense are among those of a weaker one. The sense is
+-- an argument throughout; R1 is named last, where its marked set is document 01's. Assumes nothing.
 use Prim.Native.Nat.{ℕ}
 use mathlib.Core.Path.{_≡_, ap, _∙_}
 use mathlib.Core.Bool.{true}
@@ -90,6 +91,7 @@ module _ (sh : Shape) (hs : List ℕ) (ranged : InRange sh hs) where
     (λ c. record { silent = c .silent; closed = r1-iff (HopOf hs) W .0 (c .closed) }),
   )
 
+  -- sense 1 marks document 01's marked set
   pub marked-in-r1 : markedIn r1 sh hs ≡ marked hs
   marked-in-r1 = λ k s t. same-test (markedIn r1 sh hs s t) (marked hs s t)
       (marked-greatest hs (In (markedIn r1 sh hs)) (confluent-r1-iff .1 (marked-confluent-in r1 sh hs)) s t)

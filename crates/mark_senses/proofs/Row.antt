@@ -53,7 +53,8 @@ pub sense-8 : senseOf 8 ≡ r8
 unfolding senseOf
 sense-8 = refl
 
--- how far the sense with the number lets hops lead, as the code asks it: before the answering hop ..
+-- how far the sense with the number lets hops lead, as the code asks it: before the answering hop
+-- ..
 abbrev chosen : Bool → Bool → Bool → Sense
 chosen x y z = cond x r1 (cond y r2 (cond z r3 r8))
 

@@ -1,5 +1,6 @@
--- What the tests of a sense say, and the other way round: `closesIn` is the condition of `lts: Closes`, with "in U" read as `u s t ≡ true`. And they only
--- grow with the set. No sense is named here. Assumes nothing.
+-- What the tests of a sense say, and the other way round: `closesIn` is the condition of
+-- `lts: Closes`, with "in U" read as `u s t ≡ true`. And they only grow with the set. No sense is
+-- named here. Assumes nothing.
 use Prim.Native.Nat.{ℕ, zero, suc, _<_}
 use mathlib.Core.Path.{_≡_, refl}
 use mathlib.Core.Bool.{Bool, true, _&&_}

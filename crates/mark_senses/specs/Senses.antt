@@ -20,7 +20,8 @@ use Rattle.mark_confluence.specs.Rounds.{Trials, tried, silentHops}
 unfoldable pub inSetAt : List ℕ → Pairs → ℕ → Bool
 inSetAt hs u i = eqb (label hs i) 0 && u (from hs i) (to hs i)
 
--- s comes to t: not at all (t is s), by at most one hop of u, or "by zero or more hops of U", for which as many as there are states are enough
+-- s comes to t: not at all (t is s), by at most one hop of u, or "by zero or more hops of U", for
+-- which as many as there are states are enough
 unfoldable pub reachesBy : List ℕ → ℕ → Pairs → Reach → Pairs
 reachesBy hs n u nowhere s t = eqb s t
 reachesBy hs n u single s t = eqb s t || u s t
@@ -50,7 +51,9 @@ answeredIn sense hs n u s2 a s3 = any n (answersFrom sense hs n u s2 a s3)
 unfoldable pub closesIn : Sense → Shape → List ℕ → Pairs → Pairs
 closesIn sense sh hs u s1 s2 = all (count hs) (tried hs (answeredIn sense hs (sh .states) u) s1 s2)
 
--- the marked set of the sense: what is left of the silent hops after as many rounds of dropping what does not close as there are hops
+-- the marked set of the sense: what is left of the silent hops after as many rounds of dropping
+-- what does not close as there are hops.
+-- In the field: the greatest tau-confluent set of a notion of confluence.
 unfoldable pub markedIn : Sense → Shape → List ℕ → Pairs
 markedIn sense sh hs = approximant (closesIn sense sh hs) (silentHops hs) (count hs)
 

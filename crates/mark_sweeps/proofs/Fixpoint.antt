@@ -1,5 +1,6 @@
--- Marks that lose what does not close until nothing falls, for any condition F: m is the greatest set that it keeps. What goes takes no hop of m as long as
--- hops of m close with any set that holds m; where every marked hop closes, the set that the marks are is m. Assumes nothing.
+-- Hops that do not close lose their marks until none does, for any condition F; m is the greatest
+-- set that F keeps. No hop of m loses its mark as long as hops of m close with any set that
+-- contains m. If every marked hop closes, the set that the marks are is m. Assumes nothing.
 use Prim.Native.Nat.{ℕ, _+_, _<_, _≤_}
 use mathlib.Core.Path.{_≡_, refl, sym, _∙_}
 use mathlib.Core.Bool.{true}
@@ -32,7 +33,7 @@ module _ {hs : List ℕ} {m : Pairs} where
   unfolding isMarked
   on-or-off {ms} k {i} l n = ⊎-elim (λ z. absurd (n z)) (λ o. eq-eqb (getD ms i 0) 1 o) (k .bits i l)
 
-  -- nothing went
+  -- no mark went
   pub swept-none : {Known : List ℕ → Type 0} {ms : List ℕ} → Marking hs m ms → Known ms → Swept hs m Known ms ms 0
   swept-none k s = record { marking = k; beyond = refl; fewer = omega arith; same = λ q. (refl, s) }
 
@@ -71,9 +72,9 @@ module _ {hs : List ℕ} {m : Pairs} (F : Operator)
     {ms : List ℕ} (up : Ascending hs) (k : Marking hs m ms)
     (rest : (i : ℕ) → i < count hs → isMarked ms i ≡ true → F (markSet hs ms) (from hs i) (to hs i) ≡ true) where
   -- where no marked hop fails to close, the set that the marks are is m
-  settled-set : markSet hs ms ≡ m
+  fixpoint-set : markSet hs ms ≡ m
   unfolding has
-  settled-set = only (markSet hs ms) silent closed (k .holds) where
+  fixpoint-set = only (markSet hs ms) silent closed (k .holds) where
     silent : (s t : ℕ) → markSet hs ms s t ≡ true → has hs s 0 t ≡ true
     silent s t e = let (i, l, h, o) = mark-set-says hs ms s t e in any-found (is hs s 0 t) (count hs) l h
 
@@ -97,4 +98,4 @@ module _ {hs : List ℕ} {m : Pairs} (F : Operator)
 
   -- so the marks are those of m
   pub fixpoint-marks : (out : List ℕ) → drop (count hs) ms ≡ drop (count hs) out → ms ≡ onFront (marksOf hs m) out
-  fixpoint-marks out e = rw (← settled-set) (marks-made hs (markSet hs ms) ms out (k .capacity) mark-is e)
+  fixpoint-marks out e = rw (← fixpoint-set) (marks-made hs (markSet hs ms) ms out (k .capacity) mark-is e)

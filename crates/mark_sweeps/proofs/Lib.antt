@@ -1,2 +1,2 @@
-pub mod Fixpoint  -- marks that lose what does not close until nothing falls, for any condition
+pub mod Fixpoint  -- hops that do not close lose their marks until none does, for any condition
 pub mod Sweeping  -- one test of strong confluence

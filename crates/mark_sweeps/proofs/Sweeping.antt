@@ -1,5 +1,5 @@
--- What one test of strong confluence does to the set that marks are: a mark that goes takes no hop of the marked set, since those close with any set that
--- holds the marked set. Assumes nothing.
+-- What one test of strong confluence does to the set that marks are: no hop of the marked set loses
+-- its mark, since such a hop closes with any set that contains the marked set. Assumes nothing.
 use Prim.Native.Nat.{ℕ, _<_}
 use mathlib.Core.Path.{_≡_, sym, _∙_}
 use mathlib.Core.Bool.{Bool, true, false}

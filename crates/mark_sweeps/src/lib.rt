@@ -2,9 +2,10 @@
 // (tau) hop that fails the condition loses its mark at once, until a sweep takes none.
 // Marks start at 1 for every silent hop; a sweep visits the places in list order. The marks contain
 // the marked set throughout, and at the fixpoint they are a confluent set. The entries mark sense 1
-// with `mark_worklist_loop`, which leaves the same marks (`mark_entry_fast: sweeps-same-marks`); this is the
-// plain algorithm, with a proof that needs no rounds. That removing marks ends with the greatest
-// set is proved here for any condition (proofs/Settling); `mark_batch_sweeps` rests on it too.
+// with `mark_worklist_loop`, which leaves the same marks (`mark_entry_fast: sweeps-same-marks`);
+// this is the plain algorithm, with a proof that needs no rounds. That removing marks ends with the
+// greatest set is proved here for any condition (proofs/Fixpoint); `mark_batch_sweeps` rests on it
+// too.
 // Uses `mark_confluence` for the marked set and its theorems, `mark_diamond` for the test of a hop.
 use graph::hops::hop_count;
 use graph_successors::STARTS;
@@ -58,7 +59,7 @@ fn sweep(hops: &[u16], starts: &[u16; STARTS], marks: &mut [u8]) -> usize
     lost
 }
 
-// Sweeps until one takes nothing.
+// Sweeps until one takes no mark.
 fn sweep_to_fixpoint(hops: &[u16], starts: &[u16; STARTS], marks: &mut [u8])
     requires ready { ⌜ Indexable (now hops) ⌝ }
     requires table { ⌜ SuccessorIndex (now hops) (now starts) ⌝ }
@@ -71,7 +72,7 @@ fn sweep_to_fixpoint(hops: &[u16], starts: &[u16; STARTS], marks: &mut [u8])
     }
 }
 
-// Marks by sweeps: the part of `mark` behind the refusals.
+// Marks by sweeps. No entry calls it: `mark` marks sense 1 by rounds, which leave the same marks.
 pub fn mark_all(hops: &[u16], marks: &mut [u8])
     requires ready { ⌜ Indexable (now hops) ⌝ }
     requires capacity { ⌜ count (now hops) ≤ length (now marks) ⌝ }

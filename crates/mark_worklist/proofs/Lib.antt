@@ -1,1 +1,1 @@
-pub mod Tests  -- a hop that is not due survives the round, and as many rounds as hops have all the tests
+pub mod Tests  -- a hop that is not tested survives the round; the number of tests

@@ -1,5 +1,7 @@
--- What testing only the due hops leaves: the same rounds. A hop that survives k rounds and is not due survives one more; a round without a due hop is the last;
--- as many rounds as hops have all the tests. Assumes nothing.
+-- The rounds are the same if only the hops on the worklist (`testedIn`) are tested. A hop that
+-- survives k rounds and is not tested in the next survives it too; after a round without a test
+-- there are no more tests; and as many rounds as there are hops have all the tests. Assumes
+-- nothing.
 use Prim.Native.Nat.{ℕ, zero, suc, _+_, _<_, _≤_}
 use mathlib.Core.Path.{_≡_, refl, sym, _∙_}
 use mathlib.Core.Bool.{true, false, not, _&&_, _||_}
@@ -57,7 +59,8 @@ module _ (hs : List ℕ) where
     pub affected-iff : (s1 s2 : ℕ) → (affected hs v s1 s2 ≡ true → Affected hs (In v) s1 s2) × (Affected hs (In v) s1 s2 → affected hs v s1 s2 ≡ true)
     affected-iff s1 s2 = (affected-says s1 s2, affected-yes s1 s2)
 
-  -- a hop that closes with a set, and is not shaken by what the set loses, closes with what is left
+  -- a hop that closes with a set, and is not affected by what the set loses, closes with what is
+  -- left
   closes-left : (u w v : Pairs) → ((s t : ℕ) → u s t ≡ true → w s t ≡ false → v s t ≡ true) →
       (s1 s2 : ℕ) → closes hs u s1 s2 ≡ true → affected hs v s1 s2 ≡ false → closes hs w s1 s2 ≡ true
   closes-left u w v f s1 s2 c n = closes-yes hs w s1 s2 closed where
@@ -92,7 +95,7 @@ module _ (hs : List ℕ) where
   still-marked-falls k i e =
       still-marked-yes k i (still-marked-silent (suc k) i e) (survives-falls k (from hs i) (to hs i) (still-marked-survives (suc k) i e))
 
-  -- a due hop is still marked
+  -- a hop that is tested is still marked
   pub tested-still-marked : (k i : ℕ) → i < count hs → testedIn hs k i ≡ true → stillMarked hs k i ≡ true
   unfolding testedIn
   tested-still-marked zero i l e =
@@ -100,7 +103,7 @@ module _ (hs : List ℕ) where
       still-marked-yes 0 i q (survives-none hs (from hs i) (to hs i) ∙ (rw q at (has-at hs l)))
   tested-still-marked (suc k) i l e = and-left (stillMarked hs (suc k) i) (affected hs (fell hs k) (from hs i) (to hs i)) e
 
-  -- (a) a hop that survives k rounds and is not due in round k + 1 survives that round
+  -- (a) a hop that survives k rounds and is not tested in round k + 1 survives that round
   pub untested-survives : (k i : ℕ) → stillMarked hs k i ≡ true → testedIn hs k i ≡ false → stillMarked hs (suc k) i ≡ true
   unfolding testedIn
   untested-survives zero i e n = clash (eq-eqb (label hs i) 0 (still-marked-silent 0 i e)) n
@@ -109,12 +112,12 @@ module _ (hs : List ℕ) where
       still-marked-yes (suc (suc k)) i (still-marked-silent (suc k) i e)
       (survives-yes (suc k) (from hs i) (to hs i) (survives-silent hs (suc k) (from hs i) (to hs i) s)
       (closes-left (survives hs k) (survives hs (suc k)) (fell hs k) (fell-yes k) (from hs i) (to hs i)
-      (survives-closes k (from hs i) (to hs i) s) unshaken)) where
-        unshaken : affected hs (fell hs k) (from hs i) (to hs i) ≡ false
-        unshaken =
+      (survives-closes k (from hs i) (to hs i) s) unaffected)) where
+        unaffected : affected hs (fell hs k) (from hs i) (to hs i) ≡ false
+        unaffected =
             no-test (affected hs (fell hs k) (from hs i) (to hs i)) (λ h. clash (and-yes e h) n)
 
-  -- (b) so a round takes the due hops that do not close, and no other
+  -- (b) so a round takes the marks of the tested hops that do not close, and no others
   pub round-takes : (k i : ℕ) → stillMarked hs (suc k) i ≡ (stillMarked hs k i && (not (testedIn hs k i) || closes hs (survives hs k) (from hs i) (to hs i)))
   round-takes k i =
       same-test (stillMarked hs (suc k) i) (stillMarked hs k i && (not (testedIn hs k i) || closes hs (survives hs k) (from hs i) (to hs i))) on back where
@@ -134,7 +137,7 @@ module _ (hs : List ℕ) where
               still-marked-yes (suc k) i (still-marked-silent k i h)
               (survives-yes k (from hs i) (to hs i) (survives-silent hs k (from hs i) (to hs i) (still-marked-survives k i h)) c)
 
-  -- what fell stood at a place, and was due there
+  -- what fell stood at a place, and was tested there
   pub record FellAt (k s t : ℕ) : Type 0 where
     pub at : ℕ
     pub within : at < count hs
@@ -161,20 +164,20 @@ module _ (hs : List ℕ) where
         tested = ⊎-elim (λ d. d) (λ d. clash (untested-survives k (p .at) on d) off) (decided (testedIn hs k (p .at)));
       }
 
-  -- a round without a due hop
+  -- a round without a test
   abbrev pub Stable : ℕ → Type 0
   Stable k = (i : ℕ) → i < count hs → testedIn hs k i ≡ false
 
-  -- (c) takes nothing,
-  idle-none-falls : (k : ℕ) → Stable k → (s t : ℕ) → fell hs k s t ≡ false
-  idle-none-falls k n s t = no-test (fell hs k s t) (λ e. let p = fell-place k s t e in clash (p .tested) (n (p .at) (p .within)))
+  -- (c) takes no mark,
+  stable-none-falls : (k : ℕ) → Stable k → (s t : ℕ) → fell hs k s t ≡ false
+  stable-none-falls k n s t = no-test (fell hs k s t) (λ e. let p = fell-place k s t e in clash (p .tested) (n (p .at) (p .within)))
 
-  idle-still : (k : ℕ) → Stable k → (s t : ℕ) → survives hs (suc k) s t ≡ survives hs k s t
-  idle-still k n s t =
+  stable-still : (k : ℕ) → Stable k → (s t : ℕ) → survives hs (suc k) s t ≡ survives hs k s t
+  stable-still k n s t =
       same-test (survives hs (suc k) s t) (survives hs k s t) (survives-falls k s t)
-      (λ e. ⊎-elim (λ h. h) (λ h. clash (fell-yes k s t e h) (idle-none-falls k n s t)) (decided (survives hs (suc k) s t)))
+      (λ e. ⊎-elim (λ h. h) (λ h. clash (fell-yes k s t e h) (stable-none-falls k n s t)) (decided (survives hs (suc k) s t)))
 
-  -- and after a round in which nothing falls no hop is due
+  -- and after a round in which nothing falls no hop is tested
   pub none-stable : (k : ℕ) → ((s t : ℕ) → fell hs k s t ≡ false) → Stable (suc k)
   unfolding testedIn
   none-stable k f i l =
@@ -182,14 +185,14 @@ module _ (hs : List ℕ) where
       (λ h. let (a, s3, x, (s4, y, e)) = affected-says (fell hs k) (from hs i) (to hs i) h in clash e (f s3 s4)))
 
   -- so only such rounds follow
-  idle-next : (k : ℕ) → Stable k → Stable (suc k)
-  idle-next k n = none-stable k (idle-none-falls k n)
+  stable-next : (k : ℕ) → Stable k → Stable (suc k)
+  stable-next k n = none-stable k (stable-none-falls k n)
 
   pub stable-after : (k : ℕ) → Stable k → (m : ℕ) → Stable (m + k)
   stable-after k n zero = rw zero-left n where
     zero-left : 0 + k ≡ k
     zero-left = omega arith
-  stable-after k n (suc m) = rw suc-left (idle-next (m + k) (stable-after k n m)) where
+  stable-after k n (suc m) = rw suc-left (stable-next (m + k) (stable-after k n m)) where
     suc-left : suc m + k ≡ suc (m + k)
     suc-left = omega arith
 
@@ -197,7 +200,7 @@ module _ (hs : List ℕ) where
   stable-rests k n zero s t = rw zero-left where
     zero-left : 0 + k ≡ k
     zero-left = omega arith
-  stable-rests k n (suc m) s t = rw suc-left (idle-still (m + k) (stable-after k n m) s t ∙ stable-rests k n m s t) where
+  stable-rests k n (suc m) s t = rw suc-left (stable-still (m + k) (stable-after k n m) s t ∙ stable-rests k n m s t) where
     suc-left : suc m + k ≡ suc (m + k)
     suc-left = omega arith
 
@@ -207,7 +210,8 @@ module _ (hs : List ℕ) where
     turned : count hs + k ≡ k + count hs
     turned = omega arith
 
-  -- each round with a due hop has lost a hop more: only as many rounds as hops have any
+  -- before each round with a test one more hop has fallen, so there are at most as many such rounds
+  -- as hops
   spent : (k i : ℕ) → i < count hs → testedIn hs k i ≡ true → tally (count hs) (stillMarked hs k) + k ≤ count hs
   unfolding testedIn
   spent zero i l e = omega (arith, tally-within (stillMarked hs 0) (count hs))
@@ -223,10 +227,10 @@ module _ (hs : List ℕ) where
   pub stable-late : (m : ℕ) → Stable (m + count hs)
   stable-late m i l = no-test (testedIn hs (m + count hs) i) (λ e. absurd (omega (arith, tested-early (m + count hs) i l e)))
 
-  -- so the number of tests is that of any number of rounds at whose end no hop is due
-  idle-tests : (k : ℕ) → Stable k → testsIn hs k ≡ 0
+  -- so the number of tests is that of any number of rounds after which no hop is tested
+  stable-tests : (k : ℕ) → Stable k → testsIn hs k ≡ 0
   unfolding testsIn
-  idle-tests k n = tally-zero (testedIn hs k) (count hs) n
+  stable-tests k n = tally-zero (testedIn hs k) (count hs) n
 
   tests-rest : (k : ℕ) → Stable k → (m : ℕ) → testsUpTo hs (m + k) ≡ testsUpTo hs k
   unfolding testsUpTo total
@@ -234,11 +238,11 @@ module _ (hs : List ℕ) where
     zero-left : 0 + k ≡ k
     zero-left = omega arith
   tests-rest k n (suc m) =
-      rw suc-left (omega (arith, idle-tests (m + k) (stable-after k n m), tests-rest k n m)) where
+      rw suc-left (omega (arith, stable-tests (m + k) (stable-after k n m), tests-rest k n m)) where
         suc-left : suc m + k ≡ suc (m + k)
         suc-left = omega arith
 
-  -- the bound is no cut
+  -- the bound cuts off no test
   pub tests-all : (m : ℕ) → testsUpTo hs (m + count hs) ≡ testsOf hs
   unfolding testsOf
   tests-all m = tests-rest (count hs) (rw zero-left at (stable-late 0)) m where

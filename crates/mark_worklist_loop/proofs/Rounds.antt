@@ -1,5 +1,7 @@
--- From one round to the next: what is noted from the hops that fell is what is due, and its tests, with the marks taken, make the next round. The first round,
--- and the end: where nothing falls the marks are those of the marked set and all tests are made. Assumes nothing.
+-- From one round to the next: what is pushed on the worklist for the hops that fell is what the
+-- next round tests, and testing it and taking the marks of what falls makes that round. The first
+-- round. And the end: where nothing falls the marks are those of the marked set, and all tests are
+-- made. Assumes nothing.
 use Prim.Native.Nat.{ℕ, zero, suc, _+_, _*_, _<_, _≤_}
 use mathlib.Core.Path.{_≡_, refl, sym, _∙_}
 use mathlib.Core.Bool.{Bool, true, false, cond, _&&_}
@@ -46,11 +48,11 @@ module _ (hs : List ℕ) where
         fell-yes hs k (from hs p) (to hs p) (still-marked-survives hs k p on)
         (no-test (survives hs (suc k) (from hs p) (to hs p)) (λ h. clash (still-marked-yes hs (suc k) p (still-marked-silent hs k p on) h) off))
 
-    closed-shaken : (i : ℕ) → ClosedByAny hs fl n i → affected hs (fell hs k) (from hs i) (to hs i) ≡ true
-    closed-shaken i (p, m, (a, h, x)) = affected-yes hs (fell hs k) (from hs i) (to hs i) (a, from hs p, h, (to hs p, x, fell-listed p m))
+    closed-affected : (i : ℕ) → ClosedByAny hs fl n i → affected hs (fell hs k) (from hs i) (to hs i) ≡ true
+    closed-affected i (p, m, (a, h, x)) = affected-yes hs (fell hs k) (from hs i) (to hs i) (a, from hs p, h, (to hs p, x, fell-listed p m))
 
-    shaken-closed : (i : ℕ) → affected hs (fell hs k) (from hs i) (to hs i) ≡ true → ClosedByAny hs fl n i
-    shaken-closed i e =
+    affected-closed : (i : ℕ) → affected hs (fell hs k) (from hs i) (to hs i) ≡ true → ClosedByAny hs fl n i
+    affected-closed i e =
         let (a, s3, h, (s4, x, d)) = affected-says hs (fell hs k) (from hs i) (to hs i) e in
         let p = fell-place hs k s3 s4 d in
         (p .at, f .all (p .at) (p .within) (p .stood) (p .falls), (a, rw (p .from-is) h, rw (p .to-is) x))
@@ -61,7 +63,7 @@ module _ (hs : List ℕ) where
       nothing : {i : ℕ} → Among fl n i → ⊥
       nothing (q, m, e) = omega arith
 
-    -- a round in which a hop falls has one that is due, so there are no more such rounds than hops
+    -- a round in which a hop falls tests one, so there are no more such rounds than hops
     pub falls-early : 0 < n → k < count hs
     falls-early l =
         let (w, a, b) = f .each 0 l in
@@ -77,18 +79,18 @@ module _ (hs : List ℕ) where
   tests-next k e d = rw (← add-one k) (total-more (testsIn hs) k e d)
 
   module _ {k : ℕ} {ms out fl : List ℕ} {n t : ℕ} (a : After hs k ms out fl n t) where
-    -- what is noted is what is due
+    -- what is pushed is what the next round tests
     module _ {f0 q0 fs qs : List ℕ} {r : ℕ} (q : Queue hs f0 q0 0) (g : Pushed hs ms (ClosedByAny hs fl n) f0 fs qs r) where
-      flag-due : (i : ℕ) → i < count hs → isMarked fs i ≡ testedIn hs (suc k) i
+      flag-tested : (i : ℕ) → i < count hs → isMarked fs i ≡ testedIn hs (suc k) i
       unfolding testedIn
-      flag-due i l = same-test (isMarked fs i) (stillMarked hs (suc k) i && affected hs (fell hs k) (from hs i) (to hs i)) on back where
+      flag-tested i l = same-test (isMarked fs i) (stillMarked hs (suc k) i && affected hs (fell hs k) (from hs i) (to hs i)) on back where
         empty : isMarked f0 i ≡ true → ⊥
         empty e = let (j, m, x) = q .all i l e in not-suc-le-zero m
 
         on : isMarked fs i ≡ true → (stillMarked hs (suc k) i && affected hs (fell hs k) (from hs i) (to hs i)) ≡ true
         on e =
             ⊎-elim (λ h. absurd (empty h))
-            (λ w. and-yes (sym (mark-test hs (suc k) ms out (a .marks) l) ∙ w .marked) (closed-shaken k (a .falls) i (w .inside))) (g .came i l e)
+            (λ w. and-yes (sym (mark-test hs (suc k) ms out (a .marks) l) ∙ w .marked) (closed-affected k (a .falls) i (w .inside))) (g .came i l e)
 
         back : (stillMarked hs (suc k) i && affected hs (fell hs k) (from hs i) (to hs i)) ≡ true → isMarked fs i ≡ true
         back e =
@@ -96,23 +98,23 @@ module _ (hs : List ℕ) where
             g .all i l (record {
               silent = still-marked-silent hs (suc k) i s;
               marked = mark-test hs (suc k) ms out (a .marks) l ∙ s;
-              inside = shaken-closed k (a .falls) i (and-right (stillMarked hs (suc k) i) (affected hs (fell hs k) (from hs i) (to hs i)) e);
+              inside = affected-closed k (a .falls) i (and-right (stillMarked hs (suc k) i) (affected hs (fell hs k) (from hs i) (to hs i)) e);
             })
 
       pub pushed-lists : Enumerates (count hs) (testedIn hs (suc k)) qs r
       pushed-lists = record {
-        counted = g .queue .counted ∙ tally-same (isMarked fs) (testedIn hs (suc k)) (count hs) flag-due;
-        each = λ j m. let (l, e) = g .queue .each j m in (l, sym (flag-due (getD qs j 0) l) ∙ e);
-        all = λ i l e. g .queue .all i l (flag-due i l ∙ e);
+        counted = g .queue .counted ∙ tally-same (isMarked fs) (testedIn hs (suc k)) (count hs) flag-tested;
+        each = λ j m. let (l, e) = g .queue .each j m in (l, sym (flag-tested (getD qs j 0) l) ∙ e);
+        all = λ i l e. g .queue .all i l (flag-tested i l ∙ e);
       }
 
       pub pushed-most : r ≤ count hs
       pushed-most = omega (arith, g .queue .counted, tally-within (isMarked fs) (count hs))
 
       -- what leads to a state that nothing fell from is answered as it was in the round before
-      pub pushed-spared : (sh : List ℕ) → DirtyStates hs fl n sh → SkipsClean hs ms sh false qs r
+      pub pushed-skipped : (sh : List ℕ) → DirtyStates hs fl n sh → SkipsClean hs ms sh false qs r
       unfolding SkipsClean DirtyStates CleanAnswered answered
-      pushed-spared sh f b m l j v e o = rw (held-survives hs (suc k) ms out (a .marks)) (answers-yes hs (survives hs (suc k)) (to hs i) (label hs j) (to hs j) (still (closes-says hs (survives hs k) (from hs i) (to hs i) closed (label hs j) (to hs j) (rw e at (has-at hs v))))) where
+      pushed-skipped sh f b m l j v e o = rw (held-survives hs (suc k) ms out (a .marks)) (answers-yes hs (survives hs (suc k)) (to hs i) (label hs j) (to hs j) (still (closes-says hs (survives hs k) (from hs i) (to hs i) closed (label hs j) (to hs j) (rw e at (has-at hs v))))) where
         i : ℕ
         i = getD qs m 0
 

@@ -31,8 +31,8 @@ ghost use Rattle.mark_worklist.specs.Tests.{testsOf};
 ghost use Rattle.mark_worklist_push.specs.Internal.Queue.{Queue};
 ghost use Rattle.mark_worklist_loop.specs.Internal.BetweenRounds.{AfterSome};
 
-// The rounds after the first, in which `lost` hops fell; returns the number of all tests. The table of the hops into a state is made here, since most
-// graphs need none: nothing falls in the first round.
+// The rounds after the first, in which `lost` hops fell; returns the number of all tests. The
+// predecessor index is made here, since most graphs need none: nothing falls in their first round.
 fn later_rounds(
     hops: &[u16],
     starts: &[u16; STARTS],
@@ -77,7 +77,8 @@ fn later_rounds(
     sum
 }
 
-// Marks by rounds, by the table of first places, which the refusals made already; returns the number of tests.
+// Marks by rounds, by the table of first places, which the caller has made already; returns the
+// number of tests.
 pub fn mark_rounds(hops: &[u16], starts: &[u16; STARTS], marks: &mut [u8]) -> usize
     requires ready { ⌜ Indexable (now hops) ⌝ }
     requires table { ⌜ SuccessorIndex (now hops) (now starts) ⌝ }

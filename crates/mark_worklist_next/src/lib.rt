@@ -24,10 +24,12 @@ ghost use Rattle.graph.specs.Answers.{most-hops};
 ghost use Rattle.graph_successors.specs.Internal.SuccessorIndex.{Indexable};
 ghost use Rattle.mark_worklist_push.specs.Internal.Queue.{Tables, Leaving, Queue, Pushed, Trying, ClosedBy, ClosedByAny, PlacesBelow};
 
-// A state with so few hops more than lead to s4 is gone over by its own: that asks for no search where none of them is marked.
+// Where s1 has at most this many hops more than lead to s4, its own hops are gone over: that needs
+// no search where none of them is marked.
 const FEW: usize = 16;
 
-// The states that a marked hop leaves: 1 for each of them. Marks only fall, so what is said of another state stays true.
+// The states that a marked hop leaves: 1 for each of them. Marks are only taken, so a 0 stays
+// right.
 pub fn leaving_of(hops: &[u16], marks: &[u8]) -> [u8; MOST_STATES]
     requires ready { ⌜ Indexable (now hops) ⌝ }
     requires capacity { ⌜ count (now hops) ≤ length (now marks) ⌝ }
@@ -46,7 +48,8 @@ pub fn leaving_of(hops: &[u16], marks: &[u8]) -> [u8; MOST_STATES]
     leaving
 }
 
-// Queues the silent hops that have the hop to try at place j and the end of the hop at place p for an s4, by the way that costs less.
+// Pushes the silent hops for which the hop at place j is one to try and the end of the hop at place
+// p is an s4, by the way that costs less.
 fn push_hop(
     hops: &[u16],
     starts: &[u16; STARTS],
@@ -82,7 +85,8 @@ fn push_hop(
     push_into(hops, starts, begins, places, marks, flags, queue, n, j, p)
 }
 
-// Queues the marked hops of which the hop at place p, s3 to s4, is a closing hop: each hop into s3 is one to try.
+// Pushes the marked hops of which the hop at place p, s3 to s4, is a closing hop: each hop into s3
+// is one to try.
 fn push_fallen(
     hops: &[u16],
     starts: &[u16; STARTS],
@@ -127,7 +131,8 @@ fn push_fallen(
     length
 }
 
-// Queues the marked hops of which one of the fallen hops is a closing hop; returns how many there are.
+// Pushes the marked hops of which one of the fallen hops is a closing hop; returns how many there
+// are.
 pub fn next_queue(
     hops: &[u16],
     starts: &[u16; STARTS],

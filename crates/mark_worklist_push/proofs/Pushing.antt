@@ -1,4 +1,5 @@
--- Laws of the queue: nothing comes, one place comes, one set comes after another, and a set said otherwise. Assumes nothing.
+-- Laws of the queue: nothing is pushed, one place, one set after another; and the same set stated
+-- otherwise. Assumes nothing.
 use Prim.Native.Nat.{ℕ, _+_, _<_, _≤_}
 use mathlib.Core.Path.{_≡_, refl, sym, _∙_}
 use mathlib.Core.Bool.{true, false}
@@ -17,7 +18,7 @@ use Rattle.graph.specs.Hops.{count, from, label}
 use Rattle.mark_confluence.specs.Internal.MarkSet.{isMarked}
 use Rattle.mark_worklist_push.specs.Internal.Queue.{Among, Queue, Wanted, Pushed, OnlyPlace, Unset}
 
--- flags, as they are set and taken
+-- flags, as they are set and cleared
 pub flag-yes : (fs : List ℕ) (i : ℕ) → getD fs i 0 ≡ 1 → isMarked fs i ≡ true
 unfolding isMarked
 flag-yes fs i e = eq-eqb (getD fs i 0) 1 e
@@ -66,7 +67,7 @@ module _ (hs ms : List ℕ) where
     all = λ i l e. clash e (u i l);
   }
 
-  -- a queue that a hop is missing in has room
+  -- while a hop is missing from the queue, the queue has capacity for one more
   pub queue-capacity : {fs qs : List ℕ} {n i : ℕ} → Queue hs fs qs n → i < count hs → isMarked fs i ≡ false → n < count hs
   queue-capacity {fs} q l e =
       omega (arith, q .counted, tally-less (isMarked fs) (λ (j : ℕ). true) (count hs) (λ j m h. refl) l e refl, tally-within (λ (j : ℕ). true) (count hs))
@@ -74,11 +75,11 @@ module _ (hs ms : List ℕ) where
   pub queue-most : {fs qs : List ℕ} {n : ℕ} → Queue hs fs qs n → n ≤ count hs
   queue-most {fs} q = omega (arith, q .counted, tally-within (isMarked fs) (count hs))
 
-  -- nothing comes where each wanted hop is queued
+  -- nothing is pushed if each wanted hop is in the queue
   pub pushed-none : {W : ℕ → Type 0} {fs qs : List ℕ} {n : ℕ} → Queue hs fs qs n → ((i : ℕ) → i < count hs → Wanted hs ms W i → isMarked fs i ≡ true) → Pushed hs ms W fs fs qs n
   pushed-none q f = record { queue = q; kept = λ i l e. e; came = λ i l e. inl e; all = f }
 
-  -- the one wanted hop comes
+  -- the one wanted hop is pushed
   module _ {fs qs : List ℕ} {n i : ℕ} (q : Queue hs fs qs n) (l : i < count hs) (off : isMarked fs i ≡ false) where
     one-kept : (j : ℕ) → j < count hs → isMarked fs j ≡ true → isMarked (set fs i 1) j ≡ true
     one-kept j k e = ⊎-elim (λ d. clash (rw d at e) off) (λ m. flag-there fs i 1 j m ∙ e) (eq-or-not j i)
@@ -133,7 +134,7 @@ module _ (hs ms : List ℕ) where
     all i l w = ⊎-elim (λ a. h .kept i l (g .all i l (record { silent = w .silent; marked = w .marked; inside = a })))
         (λ a. h .all i l (record { silent = w .silent; marked = w .marked; inside = a })) (d i w)
 
-  -- the same set said otherwise, of the wanted hops
+  -- the same set stated otherwise, of the wanted hops
   pub pushed-same : {W X : ℕ → Type 0} {old new qs : List ℕ} {r : ℕ} → Pushed hs ms W old new qs r →
       ((x : ℕ) → W x → X x) → ((x : ℕ) → x < count hs → Wanted hs ms X x → W x) → Pushed hs ms X old new qs r
   pushed-same {W} {X} g f e = record {

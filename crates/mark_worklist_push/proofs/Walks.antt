@@ -1,5 +1,6 @@
--- Walks that bring to the queue what each of their steps brings: over the hops into a state, over the silent hops of one, over a list of places; and that
--- what they bring together are the sets of the contracts. Assumes nothing.
+-- Walks that push what each of their steps pushes: over the hops into a state, over the silent hops
+-- of one, over a list of places; and that together they push the sets of the contracts. Assumes
+-- nothing.
 use Prim.Native.Nat.{ℕ, _+_, _<_, _≤_}
 use mathlib.Core.Path.{_≡_, refl, sym, _∙_}
 use mathlib.Core.Bool.{true, false}
@@ -29,7 +30,7 @@ use Rattle.mark_confluence.specs.Internal.MarkSet.{isMarked}
 use Rattle.mark_worklist_push.specs.Internal.Queue.{Tables, Leaving, Queue, Wanted, Pushed, OnlyPlace, Joining, Like, AnsweredTo, Trying, Asked, DecidesPoint, ClosedBy, ClosedByAny}
 use Rattle.mark_worklist_push.proofs.Pushing.{flag-yes, flag-says, pushed-none, pushed-then, pushed-same}
 
--- what the steps from lo on and before k bring, if step y brings X y
+-- what the steps from lo on and before k push, if step y pushes X y
 abbrev pub Walked : (ℕ → ℕ → Type 0) → ℕ → ℕ → ℕ → Type 0
 Walked X lo k x = (y : ℕ) × (lo ≤ y) × (y < k) × X y x
 
@@ -46,7 +47,7 @@ module _ (hs ms : List ℕ) (X : ℕ → ℕ → Type 0) where
     more : (x : ℕ) → Walked X lo (k + 1) x → Walked X lo k x ⊎ X k x
     more x (y, a, b, w) = ⊎-elim (λ m. inl (y, a, m, w)) (λ m. let e : y ≡ k = omega arith in inr (rw e at w)) (lt-or-le y k)
 
-    -- the step at k brings its own
+    -- the step at k pushes its own
     pub walk-more : {new q : List ℕ} {r : ℕ} → Pushed hs ms (X k) mid new q r → Pushed hs ms (Walked X lo (k + 1)) old new q r
     walk-more h = pushed-then hs ms g h less (λ x w. (k, l, omega arith, w)) (λ x w. more x (w .inside))
 
@@ -231,7 +232,7 @@ pub begin-is : (hs bs : List ℕ) → PredecessorStarts hs bs → {x r : ℕ} (y
 unfolding PredecessorStarts
 begin-is hs bs t y q l e = e ∙ (rw q (t y l))
 
--- no place that the tables give is past the hops
+-- no place in the tables is past the hops
 pub start-most : {hs st bs ps : List ℕ} → Tables hs st bs ps → {x r : ℕ} → r ≡ getD st x 0 → x ≤ most-states → r ≤ most-hops
 start-most {hs} {st} t {x} e l = omega (arith, start-is hs st (t .table) x refl l e, first-within hs (t .ready .ascending) x, t .ready .hops-most)
 

@@ -1,1 +1,1 @@
-pub mod Queue  -- the queue of the hops that a round tests, and the sets of places that come to it
+pub mod Queue  -- the queue of the hops that a round tests, and the sets that are pushed on it

@@ -28,7 +28,8 @@ ghost use Rattle.graph.specs.Answers.{most-states};
 ghost use Rattle.graph_successors.specs.Internal.SuccessorIndex.{SuccessorIndex, Indexable};
 ghost use Rattle.mark_worklist_push.specs.Internal.Queue.{Tables, Queue, Pushed, OnlyPlace, Joining, Like, AnsweredTo, Trying, Asked, DecidesPoint};
 
-// Queues the silent hop at place i if it is marked, and not queued yet; returns how long the queue is.
+// Pushes the silent hop at place i if it is marked and not in the queue yet; returns how long the
+// queue is.
 fn push(
     hops: &[u16],
     marks: &[u8],
@@ -55,7 +56,7 @@ fn push(
     n + 1
 }
 
-// Queues the silent hop from s1 to s2.
+// Pushes the silent hop from s1 to s2.
 fn push_pair(
     hops: &[u16],
     starts: &[u16; STARTS],
@@ -80,7 +81,8 @@ fn push_pair(
     push(hops, marks, flags, queue, n, i)
 }
 
-// Queues the silent hop from where the hop at place j begins to where the one at place m does, if the two have one label.
+// Pushes the silent hop from where the hop at place j begins to where the one at place m begins, if
+// the two have the same label.
 fn push_like(
     hops: &[u16],
     starts: &[u16; STARTS],
@@ -116,7 +118,8 @@ fn push_like(
     )
 }
 
-// Queues s1's silent hops to states that have a hop to s4 of the label of the hop at place j, which leaves s1: each hop into s4 is asked.
+// Pushes s1's silent hops to states that have a hop to s4 with the label of the hop at place j,
+// which leaves s1: each hop into s4 is asked.
 fn push_answers(
     hops: &[u16],
     starts: &[u16; STARTS],
@@ -197,7 +200,8 @@ fn is_point(hops: &[u16], starts: &[u16; STARTS], s2: OldState, a: Label, s4: Ol
     }
 }
 
-// Queues the silent hop at place i if it is marked, not queued yet, and the end of the one at p is an s4 of its end for the label of the one at j.
+// Pushes the silent hop at place i if it is marked and not in the queue yet, and the end of the one
+// at p is an s4 of its end for the label of the one at j.
 fn push_answered(
     hops: &[u16],
     starts: &[u16; STARTS],

@@ -1,5 +1,6 @@
--- The parts of a round, place by place, and that together they make one: what is tested and does not close is what falls, and without the marks of what fell
--- the marks are those of the hops that survive the round. Where nothing falls the rounds are over. Assumes nothing.
+-- The parts of a round, place by place, and that together they make one: what is tested and does
+-- not close is what falls, and without the marks of what fell the marks are those of the hops that
+-- survive the round. Where nothing falls the rounds are over. Assumes nothing.
 use Prim.Native.Nat.{ℕ, zero, suc, _+_, _<_, _≤_}
 use mathlib.Core.Path.{_≡_, refl, sym, _∙_}
 use mathlib.Core.Bool.{Bool, true, false, not, cond}
@@ -188,7 +189,7 @@ module _ (hs : List ℕ) where
     pub held-survives : markSet hs ms ≡ survives hs k
     held-survives = mark-set-set hs (survives hs k) ms out e (survives-silent hs k)
 
-    -- what is due and does not close falls
+    -- what is tested and does not close falls
     module _ (qs : List ℕ) (n : ℕ) (d : Enumerates (count hs) (testedIn hs k) qs n) {old new fl : List ℕ} {r : ℕ} (t : Tested hs ms qs n old new fl r) where
       closes-is : (i : ℕ) → closesAt hs (markSet hs ms) i ≡ closes hs (survives hs k) (from hs i) (to hs i)
       closes-is i = rw held-survives

@@ -28,8 +28,9 @@ ghost use Rattle.mark_worklist.specs.Tests.{testedIn};
 ghost use Rattle.mark_worklist_push.specs.Internal.Queue.{PlacesBelow};
 ghost use Rattle.mark_worklist_round.specs.Internal.Round.{Enumerates, SkipsClean, DirtyStates, Tested, Unmarked};
 
-// Lists the silent hops: the first round tests them all. Returns how many there are. Each place is put behind the list, and stays in it if it is silent, so
-// that nothing hangs on a branch that cannot be foreseen.
+// Lists the silent hops: the first round tests them all. Returns how many there are. Each place is
+// written behind the list, and kept if its hop is silent, so that no write depends on a branch that
+// is hard to predict.
 pub fn list_silent(hops: &[u16], queue: &mut [u16; MOST_HOPS]) -> usize
     requires ready { ⌜ Indexable (now hops) ⌝ }
     requires capacity { ⌜ most-hops ≤ length (now queue) ⌝ }
@@ -49,11 +50,12 @@ pub fn list_silent(hops: &[u16], queue: &mut [u16; MOST_HOPS]) -> usize
     n
 }
 
-// The states that a fallen hop leaves: 1 for each of them. Of the hops tried only those to such a state can have lost an answer.
+// The dirty states, those that a fallen hop leaves: 1 for each of them. Of the hops tried only
+// those to a dirty state can have lost an answer.
 pub fn dirty_of(hops: &[u16], fallen: &[u16; MOST_HOPS], n: usize) -> [u8; MOST_STATES]
     requires ready { ⌜ Indexable (now hops) ⌝ }
     requires most { ⌜ n ≤ most-hops ⌝ }
-    requires listed { ⌜ PlacesBelow (now hops) (now fallen) n ⌝ }
+    requires places { ⌜ PlacesBelow (now hops) (now fallen) n ⌝ }
     ensures { λ r. ⌜ DirtyStates (now (hops .entry)) (now (fallen .entry)) n r ⌝ }
 {
     let mut dirty = [0u8; MOST_STATES];
@@ -66,7 +68,7 @@ pub fn dirty_of(hops: &[u16], fallen: &[u16; MOST_HOPS], n: usize) -> [u8; MOST_
     dirty
 }
 
-// One test: in the first round of every hop tried, and later of those to a state that a hop fell from.
+// One test: in the first round every hop of the state is tried, later only those to dirty states.
 fn still_closes(
     hops: &[u16],
     starts: &[u16; STARTS],
@@ -88,8 +90,8 @@ fn still_closes(
     closes_again(hops, starts, marks, dirty, i)
 }
 
-// Tests the first n hops of the queue against the marks, which stay as they are, and takes their flags; lists those that do not close, and returns how
-// many.
+// Tests the first n hops of the queue against the marks, which stay as they are, and clears their
+// flags; lists those that do not close, and returns how many.
 pub fn test_queue(
     hops: &[u16],
     starts: &[u16; STARTS],
@@ -104,11 +106,11 @@ pub fn test_queue(
     requires ready { ⌜ Indexable (now hops) ⌝ }
     requires table { ⌜ SuccessorIndex (now hops) (now starts) ⌝ }
     requires marks { ⌜ count (now hops) ≤ length (now marks) ⌝ }
-    requires spared { ⌜ SkipsClean (now hops) (now marks) (now dirty) first (now queue) n ⌝ }
+    requires clean { ⌜ SkipsClean (now hops) (now marks) (now dirty) first (now queue) n ⌝ }
     requires flags { ⌜ count (now hops) ≤ length (now flags) ⌝ }
     requires capacity { ⌜ most-hops ≤ length (now fallen) ⌝ }
     requires most { ⌜ n ≤ most-hops ⌝ }
-    requires listed { ⌜ PlacesBelow (now hops) (now queue) n ⌝ }
+    requires places { ⌜ PlacesBelow (now hops) (now queue) n ⌝ }
     ensures { λ r. ⌜ Tested (now (hops .entry)) (now (marks .entry)) (now (queue .entry)) n
         (now (flags .entry)) (now (flags .exit)) (now (fallen .exit)) r ⌝ }
 {

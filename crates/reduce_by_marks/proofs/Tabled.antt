@@ -1,4 +1,5 @@
--- What `reduce_marked` leaves and returns by its tables, in the words of the definitions. Assumes nothing.
+-- What `reduce_marked` leaves and returns by its tables, in the words of the definitions. Assumes
+-- nothing.
 use Prim.Native.Nat.{ℕ, _<_, _≤_}
 use mathlib.Core.Path.{_≡_, ap, _∙_}
 use mathlib.Core.List.{List, _++_}

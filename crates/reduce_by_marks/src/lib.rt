@@ -60,7 +60,7 @@ pub fn reduce_marked(
     short: &mut [u16],
 ) -> ShortGraph
     requires admitted { ⌜ Admitted shape (now hops) ⌝ }
-    requires settles { ⌜ Terminating shape (now hops) (markSet (now hops) (now marks)) ⌝ }
+    requires terminating { ⌜ Terminating shape (now hops) (markSet (now hops) (now marks)) ⌝ }
     requires marks { ⌜ SilentMarks (now hops) (now marks) ⌝ }
     requires map_capacity { ⌜ shape .states ≤ length (now map) ⌝ }
     requires short_capacity { ⌜ length (now hops) ≤ length (now short) ⌝ }

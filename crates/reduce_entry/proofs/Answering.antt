@@ -1,4 +1,5 @@
--- The answer of `reduce` row by row, what its acceptance gives, and what is returned and written in either case. Assumes nothing.
+-- The answer of `reduce` row by row, what follows from acceptance, and what is returned and written
+-- in either case. Assumes nothing.
 use Prim.Native.Nat.{ℕ, _<_, _≤_}
 use mathlib.Core.Path.{_≡_, refl, sym, ap, _∙_}
 use mathlib.Core.Bool.{Bool, true, false, _||_}
@@ -78,7 +79,7 @@ module _ (sh : Shape) (hs : List ℕ) (k m n : ℕ) where
   unfolding reduceAnswer
   answer-later e z f = f ∙ sym (then-next (checkOf sh hs) (laterAnswer sh hs k m n) (rw e at z))
 
-  -- what acceptance gives
+  -- what follows from acceptance
   module _ (z : reduceAnswer sh hs k m n .number ≡ 0) where
     checked : (checkOf sh hs .number ≡ 0) × (laterAnswer sh hs k m n .number ≡ 0)
     unfolding reduceAnswer

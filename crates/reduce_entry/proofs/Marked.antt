@@ -1,5 +1,7 @@
--- Of every graph that rows 1 to 5 let pass: the marked set of any sense settles and is weakly confluent, so that what representatives and short say of
--- any such set holds of it; and what is reduced along the marks of a set is reduced along the set. Assumes nothing.
+-- For every graph that rows 1 to 5 let pass: the marked set of any sense is terminating and weakly
+-- confluent, so that what `reduce_representatives` and `reduce_short_graph` prove of any such set
+-- holds of it; and what is reduced along the marks of a set is reduced along the set. Assumes
+-- nothing.
 use Prim.Native.Nat.{ℕ, _≤_}
 use mathlib.Core.Path.{_≡_, ap, _∙_}
 use mathlib.Core.List.{List}
@@ -34,7 +36,7 @@ use Rattle.reduce_entry.specs.Reduce.{reduction, reducedHops}
 use Rattle.reduce_entry.specs.declared.Reduction.{Reduction}
 
 module _ {sh : Shape} {hs : List ℕ} (red : Reducible sh hs) (sense : Sense) where
-  -- walks along marked hops come to rest
+  -- walks along marked hops terminate
   pub marked-terminating : Terminating sh hs (markedIn sense sh hs)
   marked-terminating = silent-terminating red (markedIn sense sh hs) (in-silent sense sh hs)
 
@@ -42,7 +44,8 @@ module _ {sh : Shape} {hs : List ℕ} (red : Reducible sh hs) (sense : Sense) wh
   pub marked-weakly : Confluent (HopOf hs) (In (markedIn sense sh hs))
   marked-weakly = confluent-in-weak (HopOf hs) (In (markedIn sense sh hs)) (marked-confluent-in sense sh hs) (rank sh hs) (falls red)
 
--- what marking with the silent hops u leaves in ms is marks, one a hop, of which no visible hop has one, and they are of u
+-- the marks that marking with the silent hops u leaves in ms: one a hop, none at a visible hop, and
+-- the set of them is u
 module _ (sh : Shape) (hs : List ℕ) (u : Pairs) (ms out : List ℕ) (e : ms ≡ onFront (marksOf hs u) out) where
   pub after-marks : count hs ≤ length out → SilentMarks hs ms
   after-marks l = record { capacity = omega (arith, marks-capacity hs u ms out e l); silent = marks-silent hs u ms out e }

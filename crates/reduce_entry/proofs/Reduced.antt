@@ -1,5 +1,6 @@
--- Of every graph that rows 1 to 5 let pass, in any sense: the short graph is admitted and can be reduced again, it has fewer states if a hop was marked, and
--- the map to it keeps branching bisimilarity. Assumes nothing.
+-- Of every graph that rows 1 to 5 let pass, in any sense: the short graph is admitted and can be
+-- reduced again, it has fewer states if a hop was marked, and the map to it keeps branching
+-- bisimilarity. Assumes nothing.
 use Prim.Native.Nat.{ℕ, _<_}
 use mathlib.Core.List.{List}
 use Rattle.graph.specs.Hops.{flat}
@@ -25,7 +26,7 @@ module _ {sh : Shape} {hs : List ℕ} (red : Reducible sh hs) (sense : Sense) wh
   pub short-admitted : Admitted (shortShape sh hs (markedIn sense sh hs)) (flat (shortHops sh hs (markedIn sense sh hs)))
   short-admitted = short.shape-admitted (red .admitted) (marked-terminating red sense)
 
-  -- it loses no hop and makes none up
+  -- it loses no hop and leaves none unmatched
   pub short-reduces : {D : ℕ → Type 0} → Reduces D (HopOf hs) (HopOf (flat (shortHops sh hs (markedIn sense sh hs)))) (mapOf sh hs (markedIn sense sh hs))
   short-reduces = short.map-reduces (marked-terminating red sense) (marked-weakly red sense)
 

@@ -1,5 +1,5 @@
--- Of every graph that rows 1 to 5 let pass, in any sense: the state that the walk along marked hops comes to is the representative of its class. Assumes
--- nothing.
+-- Of every graph that rows 1 to 5 let pass, in any sense: the state that the walk along marked hops
+-- comes to is the representative of its class. Assumes nothing.
 use Prim.Native.Nat.{ℕ}
 use mathlib.Core.Path.{_≡_}
 use mathlib.Core.Bool.{true}
@@ -18,7 +18,7 @@ use Rattle.reduce_representatives.proofs.Mapped.{map-own}
 use Rattle.reduce_entry.proofs.Marked.{marked-terminating, marked-weakly}
 
 module _ {sh : Shape} {hs : List ℕ} (red : Reducible sh hs) (sense : Sense) where
-  -- a state rests exactly when no marked hop leaves it
+  -- a state is normal exactly when no marked hop leaves it
   pub normal-iff : (s : ℕ) → (isNormal hs (markedIn sense sh hs) s ≡ true) ↔ Normal (In (markedIn sense sh hs)) s
   normal-iff = is-normal-iff (marked-terminating red sense)
 

@@ -21,7 +21,8 @@ use Rattle.reduce_entry.specs.declared.Reduction.{Reduction}
 abbrev pub reducedMap : Shape → List ℕ → ℕ → List ℕ
 reducedMap sh hs k = mapList sh hs (markedBy k sh hs)
 
--- "The short graph holds, for each hop r, a, t of a representative r, the hop new(r), a, map(t), once, in ascending order."
+-- "The short graph holds, for each hop r, a, t of a representative r, the hop new(r), a, map(t),
+-- once, in ascending order."
 abbrev pub reducedHops : Shape → List ℕ → ℕ → List Hop
 reducedHops sh hs k = shortHops sh hs (markedBy k sh hs)
 
@@ -29,8 +30,8 @@ reducedHops sh hs k = shortHops sh hs (markedBy k sh hs)
 abbrev pub reducedShape : Shape → List ℕ → ℕ → Shape
 reducedShape sh hs k = shortShape sh hs (markedBy k sh hs)
 
--- rows 1 to 4, then "19 for another sense, after 4 and before 5", 5, then 6: "map, one a state; short hops, three a hop of the input", four by wish 2, which
--- is as many as the input has
+-- rows 1 to 4, then "19 for another sense, after 4 and before 5", 5, then 6: "map, one a state;
+-- short hops, three a hop of the input", four by wish 2, which is as many as the input has
 unfoldable pub reduceAnswer : Shape → List ℕ → ℕ → ℕ → ℕ → Answer
 reduceAnswer sh hs k map-capacity short-capacity =
     andThen (checkOf sh hs)
@@ -48,7 +49,8 @@ reduction sh hs k a =
 unfoldable pub reduceOf : Shape → List ℕ → ℕ → ℕ → ℕ → Reduction
 reduceOf sh hs k map-capacity short-capacity = reduction sh hs k (reduceAnswer sh hs k map-capacity short-capacity)
 
--- the outputs afterwards: "Acceptance writes the named elements and none past them", and a refusal writes none
+-- the outputs afterwards: "Acceptance writes the named elements and none past them", and a refusal
+-- writes none
 unfoldable pub mapOutput : Shape → List ℕ → ℕ → List ℕ → List ℕ → List ℕ
 mapOutput sh hs k map short = written (reduceAnswer sh hs k (length map) (length short) .number) (reducedMap sh hs k) map
 

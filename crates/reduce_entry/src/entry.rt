@@ -72,8 +72,9 @@ pub fn reduce_answer(
     later_answer(shape, hops, &starts, sense, entries, numbers)
 }
 
-// Marks in the sense with the number: 1 in rounds that test only what is due, any other by sweeps; for `reduce` and for the repeated reduction. `mark` makes
-// the choice for itself: in one function for all, sense 1 would take stack of the others'.
+// Marks in the sense with the given number: sense 1 by rounds with a worklist, any other by sweeps.
+// It serves `reduce` and the repeated reduction. `mark` has a choice of its own: with one function
+// for all, sense 1 would take as much stack as the other senses.
 pub fn mark_in(shape: Shape, hops: &[u16], starts: &[u16; STARTS], sense: u32, marks: &mut [u8])
     requires tabled { ⌜ Indexed shape (now hops) (now starts) ⌝ }
     requires free { ⌜ ringAnswer shape (now hops) .number ≡ 0 ⌝ }
@@ -88,7 +89,8 @@ pub fn mark_in(shape: Shape, hops: &[u16], starts: &[u16; STARTS], sense: u32, m
     mark_by_sweeps(shape, hops, starts, sense, marks);
 }
 
-// The reduction of a graph that every row lets pass: it is marked in the sense, and reduced along the marks.
+// The reduction of a graph that every row lets pass: it is marked in the sense, and reduced along
+// the marks.
 fn accepted_reduction(
     shape: Shape,
     hops: &[u16],
@@ -131,8 +133,8 @@ fn refused_reduction(answer: Answer) -> Reduction
     }
 }
 
-// The entry. A refusal writes nothing; acceptance writes the map and the short hops, and nothing past them. The table of first places is made once, for
-// row 5 and for marking.
+// The entry. A refusal writes nothing; acceptance writes the map and the short hops, and nothing
+// past them. The table of first places is made once, for row 5 and for marking.
 pub fn reduce(
     shape: Shape,
     hops: &[u16],

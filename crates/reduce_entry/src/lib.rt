@@ -8,7 +8,8 @@
 // `mark_batch_sweeps` for the marking, and `reduce_by_marks` for the reduction.
 pub mod entry; // entry.rt: the entry `reduce`
 
-// What `reduce` returns: the answer, and the short graph's counts and initial state (all 0 with a refusal).
+// What `reduce` returns: the answer, and the short graph's counts and initial state (all 0 with a
+// refusal).
 pub struct Reduction {
     pub answer: graph::Answer,
     pub shape: graph::Shape,

@@ -1,5 +1,5 @@
--- Representatives noted in the table of next states: a table with the representative of some states in the place of their next states leads where the first
--- one does, and its walks come to rest as soon. Assumes nothing.
+-- Path compression: a table that has the representative of some states in place of their next
+-- states leads where the first one does, and its walks terminate no later. Assumes nothing.
 use Prim.Native.Nat.{ℕ, zero, suc, _<_, _≤_}
 use mathlib.Core.Path.{_≡_, refl, sym, ap, _∙_}
 use mathlib.Core.List.{List}
@@ -11,11 +11,11 @@ use Rattle.base_bounded.proofs.Bools.{eq-or-not}
 use Rattle.reduce_representatives.specs.Internal.Tables.{ClosedTable, RankFalls, TerminatingTable, Compressed, tableSteps}
 use Rattle.reduce_representatives.proofs.Nexts.{table-steps-rest, table-steps-in}
 
--- nothing noted yet
+-- no representative entered yet
 pub compressed-none : (n : ℕ) (next : List ℕ) → ClosedTable n next → Compressed n next next
 compressed-none n next closed = record { long = refl; closed = closed; same = λ s l. refl; falls = λ rank f. f }
 
--- noted in turn
+-- one compression after another
 pub compressed-then : {n : ℕ} {next known more : List ℕ} → Compressed n next known → Compressed n known more → Compressed n next more
 compressed-then a b = record { long = b .long ∙ a .long; closed = b .closed; same = λ s l. b .same s l ∙ a .same s l; falls = λ rank f. b .falls rank (a .falls rank f) }
 

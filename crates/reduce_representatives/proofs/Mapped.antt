@@ -1,4 +1,5 @@
--- A representative is its own, so that its new number is its map; and the map of a state is below how many representatives there are. Assumes nothing.
+-- A representative is its own, so that its new number is its map; and the map of a state is below
+-- how many representatives there are. Assumes nothing.
 use Prim.Native.Nat.{ℕ, _<_}
 use mathlib.Core.Path.{_≡_, ap}
 use mathlib.Core.Bool.{true}

@@ -1,5 +1,5 @@
--- Marks of a set in a list: any list of marks is that of the set that it is, if visible hops have none; and that set settles where the graph has no
--- ring. Assumes nothing.
+-- Marks of a set in a list: any list of marks without a mark at a visible hop is that of the set of
+-- its marked hops; and that set is terminating where the graph has no ring. Assumes nothing.
 use Prim.Native.Nat.{ℕ, _<_, _≤_}
 use mathlib.Core.Path.{_≡_, refl, sym, _∙_}
 use mathlib.Core.Bool.{Bool, true, false, _&&_}
@@ -32,7 +32,7 @@ mark-set-marks {hs} {ms} up m = record { capacity = m .capacity; marks = mark } 
     go (inl z) = rw (eq-eqb (label hs i) 0 z) (mark-set-at hs ms up (from hs i) (to hs i) l (is-yes hs (from hs i) 0 (to hs i) i refl z refl))
     go (inr n) = rw (ne-eqb (label hs i) 0 n) (no-test (isMarked ms i) (λ o. n (m .silent i l o)))
 
--- in a graph without rings every set of silent hops settles
+-- in a graph without rings every set of silent hops is terminating
 module _ {sh : Shape} {hs : List ℕ} (red : Reducible sh hs) where
   pub falls : (s t : ℕ) → HopOf hs s 0 t → rank sh hs t < rank sh hs s
   falls = rank-falls-accepted (red .admitted .range) (red .free)

@@ -1,5 +1,5 @@
--- The table of next states, filled from the last hop to the first, holds where the first hop of each state in the set leads; a walk by the table
--- is a walk along these hops. Assumes nothing.
+-- The table of next states, filled from the last hop to the first, holds where the first hop of
+-- each state in the set leads; a walk by the table is a walk along these hops. Assumes nothing.
 use Prim.Native.Nat.{ℕ, zero, suc, _+_, _-_, _<_, _≤_}
 use mathlib.Core.Path.{_≡_, refl, sym, ap, _∙_, subst}
 use mathlib.Core.Bool.{Bool, true, false, cond, _&&_}

@@ -1,5 +1,6 @@
--- A state rests exactly when no hop of the set leaves it; the walk along first hops of the set comes to rest, and where it rests is the representative
--- of the state's class, if the set is weakly confluent. Assumes nothing.
+-- A state is normal exactly when no hop of the set leaves it. The walk along first hops of the set
+-- terminates; where it ends is the representative of the state's class, if the set is weakly
+-- confluent. Assumes nothing.
 use Prim.Native.Nat.{ℕ, zero, suc, _<_, _≤_}
 use mathlib.Core.Path.{_≡_, refl, sym, ap, _∙_, subst}
 use mathlib.Core.Bool.{true, false}
@@ -37,7 +38,7 @@ module _ (hs : List ℕ) (u : Pairs) (s i : ℕ) where
       (and-right (eqb (label hs i) 0) _ (and-right (eqb (from hs i) s) _ e))
 
 module _ (hs : List ℕ) (u : Pairs) where
-  -- the first hop in u of a state that does not rest
+  -- the first hop in u of a state that is not normal
   pub first-marked : (s : ℕ) → isNormal hs u s ≡ false →
       (least (count hs) (markedFrom hs u s) < count hs) × (markedFrom hs u s (least (count hs) (markedFrom hs u s)) ≡ true)
   unfolding isNormal
@@ -61,7 +62,7 @@ module _ (hs : List ℕ) (u : Pairs) where
   pub normal-is-normal : (s : ℕ) → Normal (In u) s → isNormal hs u s ≡ true
   normal-is-normal s n = ⊎-elim (λ e. e) (λ e. absurd (n _ (next-state-marked s e))) (decided (isNormal hs u s))
 
-  -- a walk from a state that rests stays
+  -- a walk from a normal state stays there
   pub after-steps-rest : (k s : ℕ) → nextState hs u s ≡ s → afterSteps hs u k s ≡ s
   unfolding afterSteps
   after-steps-rest zero s e = refl
@@ -96,15 +97,15 @@ module _ {sh : Shape} {hs : List ℕ} {u : Pairs} (sett : Terminating sh hs u) w
       (and-yes (eq-eqb _ _ (p .from-is)) (and-yes (eq-eqb _ _ (p .label-is)) (rw (p .from-is, p .to-is) m))))
       (not-true (any (count hs) (markedFrom hs u s)) e)
 
-  -- a state rests exactly when no hop of u leaves it
+  -- a state is normal exactly when no hop of u leaves it
   pub is-normal-iff : (s : ℕ) → (isNormal hs u s ≡ true) ↔ Normal (In u) s
   is-normal-iff s = (is-normal-normal s, normal-is-normal hs u s)
 
-  -- a state that does not rest moves on to another
+  -- a state that is not normal moves on to another
   pub next-state-falls : (s : ℕ) → isNormal hs u s ≡ false → sett .rank (nextState hs u s) < sett .rank s
   next-state-falls s e = sett .falls s _ (next-state-marked hs u s e)
 
-  -- a state rests exactly when the walk stays there
+  -- a state is normal exactly when the walk stays there
   pub is-normal-stays : (s : ℕ) → isNormal hs u s ≡ eqb (nextState hs u s) s
   is-normal-stays s = ⊎-elim (λ e. e ∙ sym (eq-eqb _ _ (rests-next-state hs u s e))) (λ e. e ∙ sym (ne-eqb _ _ (λ q. moved e q))) (decided (isNormal hs u s)) where
     moved : isNormal hs u s ≡ false → nextState hs u s ≡ s → ⊥
@@ -135,6 +136,6 @@ module _ {sh : Shape} {hs : List ℕ} {u : Pairs} (sett : Terminating sh hs u) w
     only = λ q j n. sym (rep-normal conf rep-rests n) ∙ sym (joined→rep conf rep-rests j);
   }
 
--- a weakly confluent set without rings settles, where the rank that says so is bounded
+-- a weakly confluent set without rings is terminating, if its rank is bounded
 pub confluent-terminating : (sh : Shape) {hs : List ℕ} {u : Pairs} (conf : Confluent (HopOf hs) (In u)) → ((s : ℕ) → conf .rank s ≤ sh .states) → Terminating sh hs u
 confluent-terminating sh conf bound = record { silent = conf .silent; rank = conf .rank; falls = λ s t m. conf .falls s t (conf .silent s t m); bound = bound }

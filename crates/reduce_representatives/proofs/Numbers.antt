@@ -1,4 +1,5 @@
--- New numbers rise with old ones, so that no two representatives share one, and each is below how many there are. Assumes nothing.
+-- New numbers rise with old ones, so that no two representatives share one, and each is below how
+-- many there are. Assumes nothing.
 use Prim.Native.Nat.{ℕ, _<_, _≤_}
 use mathlib.Core.Path.{_≡_}
 use mathlib.Core.Bool.{true}

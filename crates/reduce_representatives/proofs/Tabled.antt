@@ -1,5 +1,6 @@
--- What the tables of next states and of new numbers hold, in the words of the definitions: a walk by the one is a walk along first hops of the set,
--- and the two together give the map. Assumes nothing.
+-- What the tables of next states and of new numbers hold, in the words of the definitions: a walk
+-- by the one is a walk along first hops of the set, and the two together give the map. Assumes
+-- nothing.
 use Prim.Native.Nat.{ℕ, zero, suc, _<_, _≤_}
 use mathlib.Core.Path.{_≡_, refl, sym, _∙_}
 use mathlib.Core.List.{List}
@@ -34,7 +35,7 @@ module _ {sh : Shape} {hs : List ℕ} {u : Pairs} (adm : Admitted sh hs) (sett :
   unfolding isFixed NextTable
   tabled-stays s l = rw (on s l) (sym (is-normal-stays sett s))
 
-  -- a walk by the table comes to rest, as one along the hops does
+  -- a walk by the table terminates, as one along the hops does
   pub tabled-terminating : TerminatingTable (sh .states) next
   unfolding RankFalls
   tabled-terminating = record { rank = sett .rank; bound = λ s l. sett .bound s; falls = falling } where

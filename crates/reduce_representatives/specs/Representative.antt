@@ -13,7 +13,9 @@ use Rattle.lts.specs.Star.{Joined}
 use Rattle.lts.specs.Sense.{Normal}
 use Rattle.base_fixpoint.specs.Pairs.{Pairs, In}
 
--- "A class is a set of states joined by marked hops taken either way." "each class has exactly one state that no marked hop leaves: its representative"
+-- "A class is a set of states joined by marked hops taken either way." "each class has exactly one
+-- state that no marked hop leaves: its representative"
+-- In the field: the normal form under marked hops, one for each class.
 pub record IsRepresentative (u : Pairs) (s r : ℕ) : Type 0 where
   pub joined : Joined (In u) s r
   pub rests : Normal (In u) r
@@ -40,10 +42,12 @@ afterSteps hs u (suc k) s = afterSteps hs u k (nextState hs u s)
 unfoldable pub repOf : Shape → List ℕ → Pairs → ℕ → ℕ
 repOf sh hs u s = afterSteps hs u (sh .states) s
 
--- "Representatives are renumbered 0, 1, 2 in ascending old order": a representative's new number is how many stand below it
+-- "Representatives are renumbered 0, 1, 2 in ascending old order": a representative's new number is
+-- how many stand below it
 unfoldable pub newOf : List ℕ → Pairs → ℕ → ℕ
 newOf hs u r = tally r (isNormal hs u)
 
 -- "The map gives each old state the new number of its representative."
+-- In the field: a representation map.
 unfoldable pub mapOf : Shape → List ℕ → Pairs → ℕ → ℕ
 mapOf sh hs u s = newOf hs u (repOf sh hs u s)

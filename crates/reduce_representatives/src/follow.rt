@@ -1,6 +1,6 @@
 // Where the first marked hop of each state leads, and the representative that these hops lead to.
 // Path compression: a walk writes the representative into the table for every state that it passed,
-// so that no later walk passes them again.
+// so that later walks go from these states straight to it.
 use graph::MOST_STATES;
 use graph::OldState;
 use graph::hops::from_at;
@@ -85,13 +85,13 @@ pub fn follow(next: &[u16; MOST_STATES], states: usize, s: OldState) -> OldState
     OldState(at)
 }
 
-// Walks from s to its representative, and notes it with every state on the way.
+// Walks from s to its representative, and enters it for every state on the way.
 pub fn compress_path(next: &mut [u16; MOST_STATES], states: usize, s: OldState, rep: OldState)
     requires inside { ⌜ s .0 < states ⌝ }
     requires few { ⌜ states ≤ most-states ⌝ }
     requires capacity { ⌜ most-states ≤ length (now next) ⌝ }
     requires closed { ⌜ ClosedTable states (now next) ⌝ }
-    requires sinks { ⌜ TerminatingTable states (now next) ⌝ }
+    requires terminating { ⌜ TerminatingTable states (now next) ⌝ }
     requires rep { ⌜ rep .0 ≡ tableSteps (now next) states (s .0) ⌝ }
     ensures { λ r. ⌜ Compressed states (now (next .entry)) (now (next .exit)) ⌝ }
 {

@@ -9,5 +9,6 @@
 pub mod follow; // follow.rt: where first marked hops lead, and the representatives
 pub mod renumber; // renumber.rt: new numbers and the map
 
-// How many new numbers the table has: how many representatives stand below each state that can be, and below the one past the last.
+// How many new numbers the table has: how many representatives stand below each state that can be,
+// and below the one past the last.
 pub const NUMBERS: usize = graph::MOST_STATES + 1;

@@ -14,7 +14,8 @@ ghost use Rattle.base_outputs.specs.Output.{onFront};
 ghost use Rattle.graph.specs.Answers.{most-states};
 ghost use Rattle.reduce_representatives.specs.Internal.Tables.{ClosedTable, TerminatingTable, NewNumbers, newNumber};
 
-// How many states below s rest, for each s up to the one past the last: the new number of s where s rests.
+// How many states below s lead to themselves, for each s up to one past the last: this is the new
+// number of s where s is one of them, a representative.
 pub fn new_numbers(next: &[u16; MOST_STATES]) -> [u16; NUMBERS]
     ensures { λ r. ⌜ NewNumbers (now (next .entry)) r ⌝ }
 {
@@ -31,14 +32,14 @@ pub fn new_numbers(next: &[u16; MOST_STATES]) -> [u16; NUMBERS]
     news
 }
 
-// The map: each state has the new number of its representative. The table of next states comes by value, to have representatives noted in it, so that each
-// state is passed once.
+// The map: each state has the new number of its representative. The table of next states comes by
+// value: representatives are entered in it (path compression), so that no long walk is made twice.
 pub fn fill_map(states: usize, mut next: [u16; MOST_STATES], news: &[u16], map: &mut [u16])
     requires few { ⌜ states ≤ most-states ⌝ }
     requires numbers { ⌜ states ≤ length (now news) ⌝ }
     requires capacity { ⌜ states ≤ length (now map) ⌝ }
     requires closed { ⌜ ClosedTable states next ⌝ }
-    requires sinks { ⌜ TerminatingTable states next ⌝ }
+    requires terminating { ⌜ TerminatingTable states next ⌝ }
     ensures { λ r. ⌜ now (map .exit) ≡ onFront (tabulate states (newNumber next (now (news .entry)) states)) (now (map .entry)) ⌝ }
 {
     let mut s = 0;

@@ -1,5 +1,5 @@
--- The short graph can be reduced again: rows 1 to 5 let it pass, rings included. It has fewer states if a hop was in the set, and as many if none was.
--- Assumes nothing.
+-- The short graph can be reduced again: rows 1 to 5 let it pass, rings included. It has fewer
+-- states if a hop was in the set, and as many if none was. Assumes nothing.
 use Prim.Native.Nat.{ℕ, _<_}
 use mathlib.Core.Path.{_≡_, refl, _∙_}
 use mathlib.Core.Bool.{true}

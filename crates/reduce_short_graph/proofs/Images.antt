@@ -1,4 +1,5 @@
--- The short hops are strictly ascending and are exactly the images of the hops that leave a representative. Assumes nothing.
+-- The short hops are strictly ascending and are exactly the images of the hops that leave a
+-- representative. Assumes nothing.
 use Prim.Native.Nat.{ℕ, _≤_}
 use mathlib.Core.Path.{_≡_, ap, _∙_, subst}
 use mathlib.Core.Bool.{true}
@@ -17,6 +18,7 @@ use Rattle.reduce_representatives.specs.Representative.{isNormal, newOf, mapOf}
 use Rattle.reduce_short_graph.specs.Short.{ShortHop, image, shortUpTo, shortHops}
 
 module _ (sh : Shape) (hs : List ℕ) (u : Pairs) where
+  -- "once, in ascending order"
   pub short-ascending : Ascending (flat (shortHops sh hs u))
   unfolding shortHops shortUpTo
   short-ascending = sorted-ascending _ (collected-sorted (λ (i : ℕ). isNormal hs u (from hs i)) (image sh hs u) (count hs))
@@ -53,5 +55,6 @@ module _ (sh : Shape) (hs : List ℕ) (u : Pairs) where
         q .same-to,
       )
 
+  -- the short graph has exactly the images of the representatives' hops
   pub short-iff : (n a m : ℕ) → (has (flat (shortHops sh hs u)) n a m ≡ true) ↔ ShortHop sh hs u n a m
   short-iff n a m = (short-only n a m, short-has n a m)

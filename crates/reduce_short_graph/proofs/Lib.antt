@@ -1,4 +1,4 @@
-pub mod Collecting  -- one turn of the code that lists the places, and that the images of the hops at them are the short hops
+pub mod Collecting  -- one step of the loop that lists places, and the short hops by them
 pub mod Images  -- the short hops ascend, and are exactly the images of the representatives' hops
 pub mod Lines  -- the line of a short hop is the smallest that is not 0 of the hops it comes from
 pub mod Reduces  -- the short graph is admitted, and the map to it keeps branching bisimilarity

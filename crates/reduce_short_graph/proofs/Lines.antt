@@ -1,4 +1,5 @@
--- "A short hop carries the smallest nonzero line among the hops it comes from, else 0": which line, and that it is one of theirs. Assumes nothing.
+-- "A short hop carries the smallest nonzero line among the hops it comes from, else 0": which line,
+-- and that it is one of theirs. Assumes nothing.
 use Prim.Native.Nat.{ℕ, _<_}
 use mathlib.Core.Path.{_≡_, sym, ap, _∙_, subst}
 use mathlib.Core.List.{List}
@@ -18,6 +19,7 @@ module _ (sh : Shape) (hs : List ℕ) (u : Pairs) {i : ℕ} (l : i < count (flat
   abbrev shortHop : Hop
   shortHop = hopAt (flat (shortHops sh hs u)) i
 
+  -- the line of the short hop at place i, as a definition that is computed
   pub short-line : lineAt (flat (shortHops sh hs u)) i ≡ smallestLine (comesFrom sh hs u shortHop) (lineAt hs) (count hs)
   unfolding shortHops shortUpTo comesFrom
   short-line =
@@ -25,7 +27,8 @@ module _ (sh : Shape) (hs : List ℕ) (u : Pairs) {i : ℕ} (l : i < count (flat
       rw (flat-at (shortHops sh hs u) i)
       (collected-line (λ (j : ℕ). isNormal hs u (from hs j)) (image sh hs u) (count hs) (rw (count-flat (shortHops sh hs u)) at l))
 
-  -- what that means: the line is one of those of the representatives' own hops whose image it is, and none of theirs that is not 0 is smaller
+  -- what that means: the line is one of those of the representatives' own hops whose image it is,
+  -- and none of theirs that is not 0 is smaller
   pub short-line-smallest : Smallest (comesFrom sh hs u (hopAt (flat (shortHops sh hs u)) i)) (lineAt hs) (count hs) (lineAt (flat (shortHops sh hs u)) i)
   short-line-smallest =
       subst (λ (x : ℕ). Smallest (comesFrom sh hs u shortHop) (lineAt hs) (count hs) x) (sym short-line) (smallest-is (comesFrom sh hs u shortHop) (lineAt hs) (count hs))

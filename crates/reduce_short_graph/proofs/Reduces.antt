@@ -1,4 +1,5 @@
--- The short graph is admitted, and the map to it keeps branching bisimilarity: it loses no hop and makes none up. Assumes nothing.
+-- The short graph is admitted, and the map to it keeps branching bisimilarity: it loses no hop and
+-- leaves none unmatched. Assumes nothing.
 use Prim.Native.Nat.{ℕ, _<_}
 use mathlib.Core.Path.{refl, ap, subst}
 use mathlib.Core.List.{List}
@@ -35,7 +36,8 @@ module _ {sh : Shape} {hs : List ℕ} {u : Pairs} (sett : Terminating sh hs u) w
         (t, subst (λ (x : ℕ). HopOf hs x a t) (new-injective hs u r _ e (rep-is-normal sett s) d) k, g);
   }
 
-  -- the map to the short graph keeps branching bisimilarity: it loses no hop and makes none up
+  -- the map to the short graph keeps branching bisimilarity: it loses no hop and leaves none
+  -- unmatched
   pub map-reduces : Confluent (HopOf hs) (In u) → {D : ℕ → Type 0} → Reduces D (HopOf hs) (HopOf (flat (shortHops sh hs u))) (mapOf sh hs u)
   map-reduces conf = renumbered-reduces conf (rep-rests sett) short-renumbered
 

@@ -1,4 +1,5 @@
--- What the map and the short hops by the tables are, in the words of the definitions. Assumes nothing.
+-- What the map and the short hops by the tables are, in the words of the definitions. Assumes
+-- nothing.
 use Prim.Native.Nat.{ℕ, zero, suc, _<_, _≤_}
 use mathlib.Core.Path.{_≡_, refl, sym, _∙_}
 use mathlib.Core.Bool.{true}

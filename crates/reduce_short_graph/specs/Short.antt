@@ -25,6 +25,8 @@ image sh hs u i = becomes sh hs u (hopAt hs i)
 unfoldable pub shortUpTo : Shape → List ℕ → Pairs → ℕ → List Hop
 shortUpTo sh hs u = collected (λ (i : ℕ). isNormal hs u (from hs i)) (image sh hs u)
 
+-- the short hops: the images of all the representatives' hops.
+-- In the field: the transitions of the quotient by a representation map.
 unfoldable pub shortHops : Shape → List ℕ → Pairs → List Hop
 shortHops sh hs u = shortUpTo sh hs u (count hs)
 
@@ -34,7 +36,8 @@ abbrev pub ShortHop : Shape → List ℕ → Pairs → ℕ → ℕ → ℕ → T
 ShortHop sh hs u n a m =
     (r : ℕ) × (t : ℕ) × (isNormal hs u r ≡ true) × (has hs r a t ≡ true) × (newOf hs u r ≡ n) × (mapOf sh hs u t ≡ m)
 
--- the hop at place i is among "the hops it comes from", of a hop h of the short graph: it leaves a representative, and what it becomes is like h
+-- the hop at place i is among "the hops it comes from", of a hop h of the short graph: it leaves a
+-- representative, and what it becomes is like h
 unfoldable pub comesFrom : Shape → List ℕ → Pairs → Hop → ℕ → Bool
 comesFrom sh hs u h i = isNormal hs u (from hs i) && same (image sh hs u i) h
 

@@ -1,4 +1,5 @@
--- The smallest line of the places that pass is one of theirs, and none is smaller; nothing else is, so that it does not hang on their order. Assumes nothing.
+-- The smallest line of the places that pass is one of theirs, and none is smaller. It is the only
+-- such line, so that it does not depend on their order. Assumes nothing.
 use Prim.Native.Nat.{ℕ, zero, suc, _<_, _≤_}
 use mathlib.Core.Path.{_≡_, refl, sym, _∙_}
 use mathlib.Core.Bool.{Bool, true, false, cond}
@@ -71,7 +72,8 @@ module _ (pass : ℕ → Bool) (line : ℕ → ℕ) where
       none-smaller = λ i l p k. ⊎-elim (λ q. clash (rw q at p) e) (λ m. before .none-smaller i m p k) (eq-or-lt-of-le (le-of-suc-le-suc l));
     }
 
--- nothing else is: where each line of the one is one of the other's and each of the other's one of the one's, the smallest are the same
+-- it is the only such line: where the places of two lists have the same lines, their smallest lines
+-- are the same
 module _ {pass pass' : ℕ → Bool} {line line' : ℕ → ℕ} {n n' : ℕ} where
   pub smallest-same : {l l' : ℕ} → Smallest pass line n l → Smallest pass' line' n' l' →
       ((i : ℕ) → i < n → pass i ≡ true → (j : ℕ) × (j < n') × (pass' j ≡ true) × (line' j ≡ line i)) →

@@ -15,7 +15,8 @@ lesserLine a b = cond (eqb a 0) b (cond (eqb b 0) a (cond (ltb b a) b a))
 abbrev pub mergedHop : Hop → Hop → Hop
 mergedHop x h = linedHop (x .from) (x .label) (x .to) (lesserLine (x .line) (h .line))
 
--- What that is to mean: l is one of their lines if it is not 0, and none of them that is not 0 is smaller, nor is there one if l is 0
+-- What that is to mean: l is one of their lines if it is not 0, and none of them that is not 0 is
+-- smaller, nor is there one if l is 0
 pub record Smallest (pass : ℕ → Bool) (line : ℕ → ℕ) (n l : ℕ) : Type 0 where
   pub one-of-theirs : 0 < l → (i : ℕ) × (i < n) × (pass i ≡ true) × (line i ≡ l)
   pub none-smaller : (i : ℕ) → i < n → pass i ≡ true → 0 < line i → (0 < l) × (l ≤ line i)

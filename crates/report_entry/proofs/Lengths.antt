@@ -1,5 +1,6 @@
--- How long texts are at most, and that the buffer holds the longest: a number below 10,000 takes 4 digits, one below 100,000 takes 5, any takes 20; and a
--- hop is marked or becomes a short hop, and never both. Assumes nothing.
+-- How long texts are at most, and that the buffer holds the longest: a number below 10,000 takes 4
+-- digits, one below 100,000 takes 5, any takes 20; and a hop is marked or becomes a short hop, and
+-- never both. Assumes nothing.
 use Prim.Native.Nat.{ℕ, zero, suc, _+_, _*_, _/_, _%_, _<_, _≤_}
 use mathlib.Core.Path.{_≡_, refl}
 use mathlib.Core.Bool.{Bool, true, false, cond, _&&_}
@@ -31,7 +32,8 @@ use Rattle.reduce_short_graph.specs.Short.{shortHops, shortShape}
 use Rattle.reduce_short_graph.proofs.Images.{short-few}
 use Rattle.reduce_short_graph.proofs.Lines.{short-line-smallest}
 use Rattle.reduce_short_graph.proofs.Reduces.{shape-admitted, map-inside}
-use Rattle.report_text.specs.Text.{digits, decimal, spaced, spacedNumbers, textLine, textLines, in-word, marked-word, map-word, out-word, hop-word, no-word}
+use Rattle.report_text.specs.Text.{digits, decimal, spaced, spacedNumbers, textLine, in-word, marked-word, map-word, out-word, hop-word, no-word}
+use Rattle.base_outputs.specs.Concat.{concat}
 use Rattle.report_rows.specs.Rows.{markedLine, mapLine, hopLine, linesOf, refusalOf}
 use Rattle.report_entry.specs.Report.{reportOf, most-text}
 
@@ -63,7 +65,7 @@ digits-step b j k h n l = go (ltb n 10) where
   go true = omega arith
   go false = omega (arith, length-append (digits k (n / 10)) ((48 + n % 10) ∷ []), h (n / 10) (omega arith))
 
--- a number of up to four digits, where there is room for k digits more
+-- a number of up to four digits, where k digits more may be put
 digits-four : (k n : ℕ) → n < 10000 → length (digits (suc (suc (suc (suc k)))) n) ≤ 4
 digits-four k =
     digits-step 1000 3 (suc (suc (suc k))) (digits-step 100 2 (suc (suc k)) (digits-step 10 1 (suc k) (digits-one k)))
@@ -97,16 +99,16 @@ module _ (w : ℕ) (word : List ℕ) (a b : ℕ) (p : length (decimal a) ≤ w) 
     line4-most v d t = simp length-append (omega arith)
 
 -- the lines of the places that pass p, w each, where the others have none
-lines-most : (f : ℕ → List ℕ) (p : ℕ → Bool) (w n : ℕ) → ((i : ℕ) → i < n → length (f i) ≤ cond (p i) w 0) → length (textLines n f) ≤ tally n p * w
-unfolding textLines tally
+lines-most : (f : ℕ → List ℕ) (p : ℕ → Bool) (w n : ℕ) → ((i : ℕ) → i < n → length (f i) ≤ cond (p i) w 0) → length (concat n f) ≤ tally n p * w
+unfolding concat tally
 lines-most f p w zero h = omega arith
 lines-most f p w (suc n) h = go (p n) (h n (omega arith)) (lines-most f p w n (λ i l. h i (omega arith))) where
-  go : (x : Bool) → length (f n) ≤ cond x w 0 → length (textLines n f) ≤ tally n p * w → length (textLines n f ++ f n) ≤ (cond x 1 0 + tally n p) * w
-  go true l ih = omega (arith, length-append (textLines n f) (f n), suc-mul (tally n p) w)
-  go false l ih = omega (arith, length-append (textLines n f) (f n))
+  go : (x : Bool) → length (f n) ≤ cond x w 0 → length (concat n f) ≤ tally n p * w → length (concat n f ++ f n) ≤ (cond x 1 0 + tally n p) * w
+  go true l ih = omega (arith, length-append (concat n f) (f n), suc-mul (tally n p) w)
+  go false l ih = omega (arith, length-append (concat n f) (f n))
 
 -- a line of w at each place
-lines-each : (f : ℕ → List ℕ) (w n : ℕ) → ((i : ℕ) → i < n → length (f i) ≤ w) → length (textLines n f) ≤ n * w
+lines-each : (f : ℕ → List ℕ) (w n : ℕ) → ((i : ℕ) → i < n → length (f i) ≤ w) → length (concat n f) ≤ n * w
 lines-each f w n h = rw (tally-full (λ (i : ℕ). true) n (λ i l. refl)) at (lines-most f (λ (i : ℕ). true) w n h)
 
 pub refusal-most : (a : Answer) → length (refusalOf a) ≤ most-text
@@ -133,7 +135,8 @@ module _ (sh : Shape) (hs : List ℕ) (adm : Admitted sh hs) where
       (decimal-four (label hs i) (omega (arith, adm .range .label-in i l, adm .labels-most)))
       (to hs i) (state-most (adm .range .to-in i l)) 5 (lineAt hs i) (decimal-five (lineAt hs i) (omega arith))
 
--- a hop of u leaves no state at rest: how many are marked, and how many short hops there are, is together at most how many hops there are
+-- a state that a hop of u leaves is not normal: so the marked hops and the short hops together are
+-- at most as many as the hops
 module _ (sh : Shape) (hs : List ℕ) (u : Pairs) where
   moved : (i : ℕ) → i < count hs → isIn hs u i ≡ true → isNormal hs u (from hs i) ≡ false
   unfolding isNormal markedFrom

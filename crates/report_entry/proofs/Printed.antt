@@ -1,4 +1,5 @@
--- What is printed where a check refuses and where all accept: with outputs of full size row 6 never speaks. Assumes nothing.
+-- What is printed where a check refuses and where all accept: with outputs of full size row 6 never
+-- speaks. Assumes nothing.
 use Prim.Native.Nat.{ℕ, _+_, _-_, _<_, _≤_}
 use mathlib.Core.Path.{_≡_, refl, sym, ap, _∙_}
 use mathlib.Core.Bool.{Bool, true, false, cond}
@@ -123,7 +124,7 @@ module _ {sh : Shape} {hs : List ℕ} (red : Reducible sh hs) where
   unfolding reportOf
   reduced-lines f g d e = report-same sh hs f g d e
 
--- reading with room for the hops of any graph
+-- reading into an output that holds the hops of any graph
 module _ (b : List ℕ) where
   hops-fit : checkOf (shapeIn b) (hopListIn b) .number ≡ 0 → count (hopListIn b) ≤ most-hops
   hops-fit z = check-admitted (shapeIn b) (hopListIn b) z .hops-most

@@ -19,7 +19,8 @@ use Rattle.file_fields.specs.Format.{shapeIn, hopListIn}
 use Rattle.file_format.specs.Rows.{formatAnswer}
 use Rattle.report_rows.specs.Rows.{linesOf, refusalOf}
 
--- the report of an accepted graph: its marks, its map and its short graph ("the program keeps 1", whose marked set is document 01's)
+-- the report of an accepted graph: its marks, its map and its short graph ("the program keeps 1",
+-- whose marked set is document 01's)
 unfoldable pub reportOf : Shape → List ℕ → List ℕ
 reportOf sh hs = linesOf sh hs (markOf hs (marked hs)) (mapOf sh hs (marked hs)) (shortShape sh hs (marked hs)) (flat (shortHops sh hs (marked hs)))
 
@@ -39,12 +40,14 @@ printedFile b = unlessRefused (formatAnswer b) (printedGraph (shapeIn b) (hopLis
 abbrev pub most-input : ℕ
 most-input = 65536
 
--- "The program reads a file from standard input, reduces and prints"; it "prints `no 13 65536` for more"
+-- "The program reads a file from standard input, reduces and prints"; it "prints `no 13 65536` for
+-- more"
 unfoldable pub printedOf : List ℕ → List ℕ
 printedOf b = cond (ltb most-input (length b)) (refusalOf (refused 13 most-input)) (printedFile b)
 
--- a buffer of this many bytes holds whatever is printed; a shorter one is given nothing. `in` takes 13 bytes at most, a state's `map` 14, `out` 19; a hop is
--- either marked and printed with 17, or becomes a short hop with 25, alone or with others, or is not printed
+-- a buffer of this many bytes holds whatever is printed; a shorter one is given nothing. `in` takes
+-- 13 bytes at most, a state's `map` 14, `out` 19; a hop is either marked and printed with 17, or
+-- becomes a short hop with 25, alone or with others, or is not printed
 abbrev pub most-text : ℕ
 most-text = 13 + 14 * most-states + 19 + 25 * most-hops
 

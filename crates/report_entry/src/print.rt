@@ -26,7 +26,8 @@ ghost use Rattle.report_entry.specs.Report.{most-text, reportOf, printed
 // The longest input that is looked at.
 pub const MOST_INPUT: usize = 65536;
 
-// 13 bytes for `in`, 14 a state, 19 for `out`, and 25 a hop, which is either marked or becomes a short hop: 116,768 for the largest graph.
+// 13 bytes for `in`, 14 a state, 19 for `out`, and 25 a hop, which is either marked or becomes a
+// short hop: 116,768 for the largest graph.
 pub const MOST_TEXT: usize = 13 + 14 * MOST_STATES + 19 + 25 * MOST_HOPS;
 
 // The report of a graph that every row lets pass: it is marked once, and reduced along the marks.
@@ -60,7 +61,8 @@ fn print_graph(shape: Shape, hops: &[u16], out: &mut [u8]) -> usize
     print_reduced(shape, hops, &starts, out)
 }
 
-// The same of a file. Reading has checked the graph, so that nothing is checked, searched for rings or marked twice.
+// The same of a file. Reading has checked the graph, so that nothing is checked, searched for rings
+// or marked twice.
 fn print_contents(file: &[u8], out: &mut [u8]) -> usize
     requires { ⌜ most-text ≤ length (now out) ⌝ }
     ensures { λ r. ⌜ TextPut (now (out .entry)) 0 (printedFile (now (file .entry))) r (now (out .exit)) ⌝ }
@@ -87,7 +89,8 @@ fn print_input(file: &[u8], out: &mut [u8]) -> usize
     print_contents(file, out)
 }
 
-// The entry. What is printed stands in the buffer's front, and how long it is is returned; a buffer too short for the longest report gets nothing.
+// The entry. What is printed stands at the front of the buffer, and its length is returned; a
+// buffer too short for the longest report gets nothing.
 pub fn print_file(file: &[u8], out: &mut [u8]) -> usize
     ensures counts { λ r. ⌜ r ≡ length (printedIn (length (now (out .entry))) (printedOf (now (file .entry)))) ⌝ }
     ensures shows { λ r. ⌜ now (out .exit) ≡ onFront (printedIn (length (now (out .entry))) (printedOf (now (file .entry)))) (now (out .entry)) ⌝ }

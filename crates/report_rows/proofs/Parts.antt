@@ -1,4 +1,5 @@
--- The lines of a report in the words of the code that puts them, reports that show the same, and the parts of a report put one behind the other. Assumes nothing.
+-- The lines of a report in the words of the code that puts them, reports that show the same, and
+-- the parts of a report put one behind the other. Assumes nothing.
 use Prim.Native.Nat.{ℕ, zero, suc, _<_}
 use mathlib.Core.Path.{_≡_, refl, sym}
 use mathlib.Core.List.{List, [], _∷_, _++_}
@@ -6,7 +7,8 @@ use native.Mathlib.Omega.{arith}
 use borrow.Author.Tests.{eq-eqb, ne-eqb}
 use Rattle.graph.specs.Hops.{count, from, label, to, lineAt}
 use Rattle.graph.specs.declared.Shape.{Shape}
-use Rattle.report_text.specs.Text.{textLine, textLines, in-word, marked-word, map-word, out-word, hop-word}
+use Rattle.report_text.specs.Text.{textLine, in-word, marked-word, map-word, out-word, hop-word}
+use Rattle.base_outputs.specs.Concat.{concat}
 use Rattle.report_text.specs.Internal.Text.{TextFits, TextPut}
 use Rattle.report_text.proofs.Puts.{put-same, put-then, capacity-same, capacity-first, capacity-rest}
 use Rattle.report_rows.specs.Internal.Rows.{byPlace, markedLines, mapLines, hopLines, lentLines}
@@ -33,14 +35,14 @@ hop-parts hs i p q r e = rw (p, q, r, e)
 pub report-parts : (sh : Shape) (hs : List ℕ) (mark map : ℕ → ℕ) (new : Shape) (short : List ℕ) {n m : ℕ} → n ≡ count hs → m ≡ count short →
     linesOf sh hs mark map new short ≡
     textLine in-word (sh .states ∷ n ∷ []) ++
-    (textLines (count hs) (markedLine hs mark) ++
-    (textLines (sh .states) (mapLine map) ++ (textLine out-word (new .states ∷ m ∷ new .initial ∷ []) ++ textLines (count short) (hopLine short))))
+    (concat (count hs) (markedLine hs mark) ++
+    (concat (sh .states) (mapLine map) ++ (textLine out-word (new .states ∷ m ∷ new .initial ∷ []) ++ concat (count short) (hopLine short))))
 unfolding linesOf
 report-parts sh hs mark map new short e d = rw (e, d)
 
 -- lines of two functions that agree
-pub lines-same : (f g : ℕ → List ℕ) (n : ℕ) → ((i : ℕ) → i < n → f i ≡ g i) → textLines n f ≡ textLines n g
-unfolding textLines
+pub lines-same : (f g : ℕ → List ℕ) (n : ℕ) → ((i : ℕ) → i < n → f i ≡ g i) → concat n f ≡ concat n g
+unfolding concat
 lines-same f g zero h = refl
 lines-same f g (suc n) h = rw (h n (omega arith), lines-same f g n (λ i l. h i (omega arith)))
 
@@ -52,7 +54,8 @@ unfolding linesOf markedLine mapLine
 report-same sh hs {mark} {mark'} {map} {map'} f g e d =
     rw (e, d, lines-same (markedLine hs mark) (markedLine hs mark') (count hs) (λ i l. rw (f i l)), lines-same (mapLine map) (mapLine map') (sh .states) (λ s l. rw (g s l)))
 
--- the five parts of a report, put one behind the other: what room there is for each, and that they are the report
+-- the five parts of a report, put one behind the other: that each fits, and that together they are
+-- the report
 module _ (sh : Shape) (hs ms m : List ℕ) (new : Shape) (short out : List ℕ) (n k : ℕ) (e : n ≡ count hs) (d : k ≡ count short)
     (capacity : TextFits 0 (lentLines sh hs ms m new short) out) where
   abbrev inLine : List ℕ
@@ -70,11 +73,11 @@ module _ (sh : Shape) (hs ms m : List ℕ) (new : Shape) (short out : List ℕ) 
   abbrev from-marks : List ℕ
   from-marks = markedLines hs ms ++ from-map
 
-  parts : lentLines sh hs ms m new short ≡ inLine ++ from-marks
-  parts = report-parts sh hs (byPlace ms) (byPlace m) new short e d
+  as-parts : lentLines sh hs ms m new short ≡ inLine ++ from-marks
+  as-parts = report-parts sh hs (byPlace ms) (byPlace m) new short e d
 
   whole : TextFits 0 (inLine ++ from-marks) out
-  whole = capacity-same parts capacity
+  whole = capacity-same as-parts capacity
 
   pub capacity-in : TextFits 0 inLine out
   capacity-in = capacity-first inLine from-marks whole
@@ -106,7 +109,7 @@ module _ (sh : Shape) (hs ms m : List ℕ) (new : Shape) (short out : List ℕ) 
 
           pub report-put : {o5 : List ℕ} {a5 : ℕ} → TextPut o4 a4 (hopLines short) a5 o5 → TextPut out 0 (lentLines sh hs ms m new short) a5 o5
           report-put p5 =
-              put-same (sym parts)
+              put-same (sym as-parts)
               (put-then inLine from-marks whole p1
               (put-then (markedLines hs ms) from-map rest1 p2
               (put-then (mapLines (sh .states) m) from-out rest2 p3 (put-then outLine (hopLines short) rest3 p4 p5))))

@@ -1,4 +1,5 @@
--- The decimal of a number shows that number, and has no zero in front, for every number of 64 bits. Assumes nothing.
+-- The decimal of a number shows that number, and has no zero in front, for every number of 64 bits.
+-- Assumes nothing.
 use Prim.Native.Nat.{ℕ, zero, suc, _+_, _*_, _/_, _%_, _^_, _<_, _≤_}
 use mathlib.Core.Path.{_≡_, refl}
 use mathlib.Core.Bool.{Bool, true, false, cond}

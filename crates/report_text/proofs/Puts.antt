@@ -1,4 +1,5 @@
--- Texts put one behind the other are the joined text, and what room is left. Lines one behind the other, as a loop puts them. Assumes nothing.
+-- Texts put one behind the other are the joined text, and each fits in what is left of the buffer.
+-- Lines one behind the other, as a loop puts them. Assumes nothing.
 use Prim.Native.Nat.{ℕ, zero, suc, _+_, _-_, _/_, _%_, _<_, _≤_}
 use mathlib.Core.Path.{_≡_, refl, sym, ap, _∙_}
 use mathlib.Core.List.{List, [], _∷_, _++_, append-assoc, append-nil}
@@ -11,7 +12,8 @@ use lib.ListN.{length, getD, set, length-append, length-drop}
 use lib.Seq.{set-split, length-take-le}
 use Rattle.base_outputs.specs.Internal.Output.{overAt}
 use Rattle.base_outputs.proofs.Front.{over-none, over-then}
-use Rattle.report_text.specs.Text.{digits, decimal, spaced, spacedNumbers, textLine, textLines}
+use Rattle.report_text.specs.Text.{digits, decimal, spaced, spacedNumbers, textLine}
+use Rattle.base_outputs.specs.Concat.{concat}
 use Rattle.report_text.specs.Internal.Text.{TextFits, TextPut}
 
 length-over : (at : ℕ) (text old : List ℕ) → at + length text ≤ length old → length (overAt at text old) ≡ length old
@@ -76,41 +78,41 @@ line-parts word ns = refl
 abbrev pub spacedAt : List ℕ → ℕ → List ℕ
 spacedAt ns i = spaced (getD ns i 0)
 
-lines-first : (f : ℕ → List ℕ) (n : ℕ) → textLines (suc n) f ≡ f 0 ++ textLines n (λ (i : ℕ). f (suc i))
-unfolding textLines
+lines-first : (f : ℕ → List ℕ) (n : ℕ) → concat (suc n) f ≡ f 0 ++ concat n (λ (i : ℕ). f (suc i))
+unfolding concat
 lines-first f zero = sym (append-nil (f 0))
-lines-first f (suc n) = ap (λ (xs : List ℕ). xs ++ f (suc n)) (lines-first f n) ∙ append-assoc (f 0) (textLines n (λ (i : ℕ). f (suc i))) (f (suc n))
+lines-first f (suc n) = ap (λ (xs : List ℕ). xs ++ f (suc n)) (lines-first f n) ∙ append-assoc (f 0) (concat n (λ (i : ℕ). f (suc i))) (f (suc n))
 
-pub numbered-lines : (ns : List ℕ) → spacedNumbers ns ≡ textLines (length ns) (spacedAt ns)
-unfolding spacedNumbers textLines
+pub numbered-lines : (ns : List ℕ) → spacedNumbers ns ≡ concat (length ns) (spacedAt ns)
+unfolding spacedNumbers concat
 numbered-lines [] = refl
 numbered-lines (n ∷ ns) = ap (λ (xs : List ℕ). spaced n ++ xs) (numbered-lines ns) ∙ sym (lines-first (spacedAt (n ∷ ns)) (length ns))
 
 -- lines, the first i of n being put
 module _ (f : ℕ → List ℕ) where
-  lines-within : (n : ℕ) {i : ℕ} → i ≤ n → length (textLines i f) ≤ length (textLines n f)
-  unfolding textLines
+  lines-within : (n : ℕ) {i : ℕ} → i ≤ n → length (concat i f) ≤ length (concat n f)
+  unfolding concat
   lines-within zero {i} l = let q : i ≡ 0 = omega arith in rw q (le-refl 0)
   lines-within (suc n) {i} l =
-      ⊎-elim (λ q. rw q (le-refl (length (textLines n f ++ f n))))
-      (λ m. let h : length (textLines i f) ≤ length (textLines n f) = lines-within n {i = i} (omega arith) in omega (arith, length-append (textLines n f) (f n))) (eq-or-lt-of-le l)
+      ⊎-elim (λ q. rw q (le-refl (length (concat n f ++ f n))))
+      (λ m. let h : length (concat i f) ≤ length (concat n f) = lines-within n {i = i} (omega arith) in omega (arith, length-append (concat n f) (f n))) (eq-or-lt-of-le l)
 
   module _ {old : List ℕ} {at : ℕ} where
-    pub lines-none : TextPut old at (textLines 0 f) at old
-    unfolding textLines
+    pub lines-none : TextPut old at (concat 0 f) at old
+    unfolding concat
     lines-none = put-none old at
 
-    module _ (n : ℕ) {i : ℕ} (capacity : TextFits at (textLines n f) old) (l : i < n) {mid : List ℕ} {k : ℕ} (p : TextPut old at (textLines i f) k mid) where
-      next-capacity : TextFits at (textLines i f ++ f i) old
-      unfolding textLines
-      next-capacity = let h : length (textLines (suc i) f) ≤ length (textLines n f) = lines-within n l in record { fits = omega arith }
+    module _ (n : ℕ) {i : ℕ} (capacity : TextFits at (concat n f) old) (l : i < n) {mid : List ℕ} {k : ℕ} (p : TextPut old at (concat i f) k mid) where
+      next-capacity : TextFits at (concat i f ++ f i) old
+      unfolding concat
+      next-capacity = let h : length (concat (suc i) f) ≤ length (concat n f) = lines-within n l in record { fits = omega arith }
 
       pub lines-capacity : TextFits k (f i) mid
-      lines-capacity = capacity-rest (textLines i f) (f i) next-capacity p
+      lines-capacity = capacity-rest (concat i f) (f i) next-capacity p
 
-      pub lines-more : {new : List ℕ} {r : ℕ} → TextPut mid k (f i) r new → TextPut old at (textLines (i + 1) f) r new
-      unfolding textLines
-      lines-more q = rw (add-one i) (put-then (textLines i f) (f i) next-capacity p q)
+      pub lines-more : {new : List ℕ} {r : ℕ} → TextPut mid k (f i) r new → TextPut old at (concat (i + 1) f) r new
+      unfolding concat
+      lines-more q = rw (add-one i) (put-then (concat i f) (f i) next-capacity p q)
 
-    pub lines-done : {n i : ℕ} → i ≤ n → n ≤ i → {mid : List ℕ} {k : ℕ} → TextPut old at (textLines i f) k mid → TextPut old at (textLines n f) k mid
+    pub lines-done : {n i : ℕ} → i ≤ n → n ≤ i → {mid : List ℕ} {k : ℕ} → TextPut old at (concat i f) k mid → TextPut old at (concat n f) k mid
     lines-done {n} {i} l m p = let q : n ≡ i = omega arith in rw q p

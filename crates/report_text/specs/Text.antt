@@ -27,11 +27,6 @@ spacedNumbers (n ∷ ns) = spaced n ++ spacedNumbers ns
 unfoldable pub textLine : List ℕ → List ℕ → List ℕ
 textLine word ns = word ++ (spacedNumbers ns ++ (10 ∷ []))
 
--- f 0, f 1, .. up to f (n - 1), one behind the other
-unfoldable pub textLines : ℕ → (ℕ → List ℕ) → List ℕ
-textLines zero f = []
-textLines (suc n) f = textLines n f ++ f n
-
 -- the words of the lines
 abbrev pub in-word : List ℕ
 in-word = 105 ∷ 110 ∷ []

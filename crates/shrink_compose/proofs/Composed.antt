@@ -1,5 +1,5 @@
--- The law under the repeated reduction, about the audit's own count: maps without faults compose. And each state's own number is a map without faults
--- from a graph to itself. Assumes nothing.
+-- The law under the repeated reduction, about the audit's own count: maps without faults compose.
+-- And each state's own number is a map without faults from a graph to itself. Assumes nothing.
 use Prim.Native.Nat.{ℕ, _<_}
 use mathlib.Core.Path.{_≡_, refl, ap, _∙_}
 use mathlib.Core.List.{List}
@@ -20,8 +20,9 @@ module _ (sh1 sh2 sh3 : Shape) (h1 h2 h3 m n : List ℕ) where
   pub audited-composes : Audited sh1 sh2 h1 h2 m → Audited sh2 sh3 h2 h3 n → Audited sh1 sh3 h1 h3 (composed m n)
   audited-composes a b = record { first = a .first; second = b .second; labels = a .labels ∙ b .labels; map = composed-admitted (a .map) (b .map) }
 
-  -- "if one map has 0 faults from graph 1 to graph 2, and another 0 from graph 2 to graph 3, one after the other has 0 from graph 1 to graph 3": of
-  -- admitted graphs and maps, with equal label counts
+  -- "if one map has 0 faults from graph 1 to graph 2, and another 0 from graph 2 to graph 3, one
+  -- after the other has 0 from graph 1 to graph 3": of admitted graphs and maps, with equal label
+  -- counts
   pub faults-zero-compose : Audited sh1 sh2 h1 h2 m → Audited sh2 sh3 h2 h3 n → faultsOf sh1 sh2 h1 h2 m ≡ 0 → faultsOf sh2 sh3 h2 h3 n ≡ 0 →
       faultsOf sh1 sh3 h1 h3 (composed m n) ≡ 0
   faults-zero-compose a b y z =

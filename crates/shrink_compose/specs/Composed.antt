@@ -6,7 +6,9 @@ use lib.ListN.{length}
 use Rattle.base_bounded.specs.Quantifiers.{tabulate}
 use Rattle.graph.specs.Map.{mapped}
 
--- "one after the other": m leads from graph 1 to graph 2, n from graph 2 to graph 3, and this from graph 1 to graph 3
+-- "one after the other": m leads from graph 1 to graph 2, n from graph 2 to graph 3, and this from
+-- graph 1 to graph 3.
+-- In the field: composition of functions.
 unfoldable pub composed : List ℕ → List ℕ → List ℕ
 composed m n = tabulate (length m) (λ (s : ℕ). mapped n (mapped m s))
 

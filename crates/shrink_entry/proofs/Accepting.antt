@@ -1,4 +1,5 @@
--- What `shrink` returns and writes where every row lets the graph pass: the last stage. Assumes nothing.
+-- What `shrink` returns and writes where every row lets the graph pass: the last stage. Assumes
+-- nothing.
 use Prim.Native.Nat.{ℕ, _-_, _≤_}
 use mathlib.Core.Path.{_≡_, sym, ap, _∙_}
 use mathlib.Core.List.{List, _++_}
@@ -25,7 +26,8 @@ pub front-hops : {sh : Shape} {hs : List ℕ} → Admitted sh hs → (old : List
 front-hops {hs = hs} adm old {n = n} c e =
     ap (λ (x : List ℕ). between x 0 n) e ∙ take-at hs (drop (length hs) old) (numberPlace n - numberPlace 0) (omega (arith, adm .whole-hops))
 
--- the loop stands at the last stage: what is returned, and what is written over what the outputs held
+-- the loop stands at the last stage: what is returned, and what is written over what the outputs
+-- held
 module _
     (k : ℕ) (sh : Shape) {hs : List ℕ} (r : Progress) (last map : List ℕ)
     {seen : List ℕ} (s : seen ≡ hs) (e : stageOf r last map ≡ lastStage k sh seen) (l : r .hops ≤ count last)
@@ -50,6 +52,6 @@ module _
       pub shortened : (old : List ℕ) {out : List ℕ} → out ≡ onFront part old → out ≡ onFront (lastStage k sh hs .hops) old
       shortened old q = q ∙ ap (λ (x : List ℕ). onFront x old) (p ∙ hops-are)
 
-      -- the last hops have room where the first had
+      -- the last hops fit where the first did
       pub capacity : Reducible sh hs → {n : ℕ} → length hs ≤ n → length part ≤ n
       capacity red q = omega (arith, ap length (p ∙ hops-are), last-staged k red .fits)

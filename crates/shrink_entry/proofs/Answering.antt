@@ -1,4 +1,5 @@
--- What `shrink` returns and writes in either case, a being its answer, which is that of `reduce`. Assumes nothing.
+-- What `shrink` returns and writes in either case, a being its answer, which is that of `reduce`.
+-- Assumes nothing.
 use Prim.Native.Nat.{ℕ}
 use mathlib.Core.Path.{_≡_, sym, ap, _∙_}
 use mathlib.Core.Bool.{false}

@@ -1,5 +1,6 @@
--- What an accepted `shrink` left in its outputs, whatever they held before, passes the audit: the front of the map output, one element a state, and the front
--- of the hops' output, as long as the returned hop count takes, with the returned counts and initial state. Assumes nothing.
+-- What an accepted `shrink` left in its outputs, whatever they held before, passes the audit: the
+-- front of the map output, one element a state, and the front of the hops' output, as long as the
+-- returned hop count takes, with the returned counts and initial state. Assumes nothing.
 use Prim.Native.Nat.{ℕ, _<_}
 use mathlib.Core.Path.{_≡_, refl, sym, ap, _∙_}
 use mathlib.Core.List.{List}

@@ -1,4 +1,5 @@
--- What the stage that the code holds keeps from turn to turn: it is one of the repetition's, and leads to its last. Assumes nothing.
+-- The invariant of the loop: the stage that the code holds is one of the repetition, and leads to
+-- its last stage. Assumes nothing.
 use Prim.Native.Nat.{ℕ, _+_, _<_, _≤_}
 use mathlib.Core.Path.{_≡_, refl, sym, ap, _∙_}
 use mathlib.Core.Bool.{Bool, true, false, cond, not, _&&_}
@@ -24,18 +25,18 @@ use Rattle.shrink_iterate.proofs.Once.{next-still}
 use Rattle.shrink_step.specs.Internal.Progress.{stageOf}
 use Rattle.shrink_step.specs.declared.Progress.{Progress}
 
--- the code stands at a stage of the repetition from the graph sh, hs under the sense k
+-- the code holds a stage of the repetition from the graph sh, hs under the sense k
 pub record Standing (k : ℕ) (sh : Shape) (hs : List ℕ) (at : Progress) (hops map : List ℕ) : Type 0 where
   pub staged : Staged sh hs (stageOf at hops map)
   pub there : at .hops ≤ count hops
   pub leads : lastOf k (stageOf at hops map) ≡ lastStage k sh hs
   pub done : at .more ≡ false → marksSome k (stageOf at hops map) ≡ false
 
--- what falls from turn to turn
+-- the measure of the loop, which falls with each iteration
 abbrev pub left : Progress → ℕ
 left at = at .shape .states + cond (at .more) 1 0
 
--- before the first turn
+-- before the first iteration
 pub first-stands : (k : ℕ) (sh : Shape) (hops map : List ℕ) (n : ℕ) → Reducible sh (between hops 0 n) → n ≤ count hops → map ≡ identityMap (sh .states) →
     Standing k sh (between hops 0 n) (record { shape = sh; hops = n; reductions = 0; more = true }) hops map
 first-stands k sh hops map n red l e = rw e (record { staged = first-staged red; there = l; leads = refl; done = λ d. clash refl d })
@@ -44,7 +45,7 @@ module _ (k : ℕ) {sh : Shape} {hs : List ℕ} {at : Progress} {hops map : List
   abbrev g : Stage
   g = stageOf at hops map
 
-  -- what a turn asks
+  -- what an iteration requires
   audited : Audited sh (at .shape) hs (g .hops) map
   audited = faultless-iff sh (at .shape) hs (g .hops) map .0 (stands .staged .right) .0
 
@@ -64,7 +65,7 @@ module _ (k : ℕ) {sh : Shape} {hs : List ℕ} {at : Progress} {hops map : List
   pub stands-last : at .more ≡ false → g ≡ lastStage k sh hs
   stands-last e = sym (last-still k g (stands .done e)) ∙ stands .leads
 
-  -- a turn
+  -- one iteration
   module _
       {r : Progress} (after then : List ℕ) (m : r .more ≡ (marksSome k g && not (eqb k 8))) (t : stageOf r after then ≡ cond (marksSome k g) (nextStage k g) g) (l : r .hops ≤ count after)
     where

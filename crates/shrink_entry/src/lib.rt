@@ -25,7 +25,8 @@ ghost use Rattle.shrink_iterate.specs.Iterate.{lastStage};
 ghost use Rattle.shrink_step.specs.Internal.Progress.{stageOf};
 ghost use Rattle.shrink_entry.specs.Shrink.{refusedShrinking, shrinking, shrinkOf, shrinkMapOutput, shrinkHopsOutput};
 
-// What `shrink` returns: the answer, the last graph's counts and initial state, and the number of reductions that marked something (all 0 with a refusal).
+// What `shrink` returns: the answer, the last graph's counts and initial state, and the number of
+// reductions that marked something (all 0 with a refusal).
 pub struct Shrinking {
     pub answer: Answer,
     pub shape: Shape,
@@ -33,7 +34,7 @@ pub struct Shrinking {
     pub reductions: usize,
 }
 
-// Turn after turn until nothing is marked, from a graph at the front of the hops; the map is made anew.
+// Iterates until nothing is marked, from a graph at the front of the hops; the map is made anew.
 fn repeat(shape: Shape, hops: &mut [u16], n: usize, sense: u32, map: &mut [u16]) -> Progress
     requires reducible { ⌜ Reducible shape (between (now hops) 0 n) ⌝ }
     requires there { ⌜ n ≤ count (now hops) ⌝ }
@@ -54,8 +55,8 @@ fn repeat(shape: Shape, hops: &mut [u16], n: usize, sense: u32, map: &mut [u16])
     at
 }
 
-// The last graph of a graph that every row lets pass. Between the first hops and the last, hops stand in a list of the call's own: what is past the last
-// ones in the output stays as it was.
+// The last graph of a graph that every row lets pass. The hops of the stages on the way stand in a
+// list local to the call, so that the output past the last hops stays as it was.
 fn accepted_shrinking(
     shape: Shape,
     hops: &[u16],
@@ -102,7 +103,8 @@ fn refused_shrinking(answer: Answer) -> Shrinking
     }
 }
 
-// The entry. A refusal writes nothing; acceptance writes the map and the last hops, and nothing past them.
+// The entry. A refusal writes nothing; acceptance writes the map and the last hops, and nothing
+// past them.
 pub fn shrink(
     shape: Shape,
     hops: &[u16],

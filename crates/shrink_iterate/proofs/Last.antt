@@ -1,5 +1,6 @@
--- The last stage of a repetition. It is where the repetition ends, and no other stage is; no hop of its graph is marked; the audit of the first graph
--- against it finds no fault; and fewer reductions led to it than the first graph has states. Assumes nothing.
+-- The last stage of a repetition. It is where the repetition ends, and no other stage is; no hop of
+-- its graph is marked; the audit of the first graph against it finds no fault; and fewer reductions
+-- led to it than the first graph has states. Assumes nothing.
 use Prim.Native.Nat.{ℕ, zero, suc, _<_, _≤_}
 use mathlib.Core.Path.{_≡_, refl, sym, _∙_}
 use mathlib.Core.Bool.{true, false}

@@ -1,5 +1,6 @@
--- Lines through the repetition: "each reduction's rule in turn" is the smallest line that is not 0 among the first graph's hops that a last hop comes from
--- through all reductions. Assumes nothing.
+-- Lines through the repetition: "each reduction's rule in turn" is the smallest nonzero line among
+-- the hops of the first graph that a hop of the last comes from through all reductions. Assumes
+-- nothing.
 use Prim.Native.Nat.{ℕ, zero, suc, _<_}
 use mathlib.Core.Path.{_≡_, refl, sym, ap, _∙_}
 use mathlib.Core.Bool.{Bool, true, false, cond, _&&_}
@@ -50,7 +51,8 @@ own-line hs up {p} l = record {
   none-smaller = λ i m e k. let q : i ≡ p = ascending-place hs up m l (same-alike (hopAt hs i) (hopAt hs p) e) in (rw q at k, rw q (le-refl (lineAt hs p)));
 }
 
--- one reduction: if l is the smallest of the lines that come on from the short graph, it is the smallest of those that come on from the graph itself
+-- one reduction: if l is the smallest of the lines that come on from the short graph, it is the
+-- smallest of those that come on from the graph itself
 module _ (sh : Shape) (hs : List ℕ) (u : Pairs) (on : Hop → Bool) (alike : (x y : Hop) → Alike x y → on x ≡ true → on y ≡ true) where
   abbrev short : List ℕ
   short = flat (shortHops sh hs u)
@@ -102,11 +104,13 @@ module _ (k : ℕ) where
         (λ x y e c. through-alike k n (nextStage k g) _ e c) (ih p l)
     go false ih p l = own-line (g .hops) up l
 
--- "the smallest nonzero line among the first graph's hops that a last hop comes from through all of them", and what that means
+-- "the smallest nonzero line among the first graph's hops that a last hop comes from through all of
+-- them", and what that means
 module _ (k : ℕ) (sh : Shape) (hs : List ℕ) (up : Ascending hs) {p : ℕ} (l : p < count (lastStage k sh hs .hops)) where
   pub last-line-smallest : Smallest (lastComesFrom k sh hs p) (lineAt hs) (count hs) (lineAt (lastStage k sh hs .hops) p)
   unfolding lastOf
   last-line-smallest = iterated-line k (sh .states) (firstStage sh hs) up p l
 
+  -- the same, as a definition that is computed
   pub last-line : lineAt (lastStage k sh hs .hops) p ≡ smallestLine (lastComesFrom k sh hs p) (lineAt hs) (count hs)
   last-line = smallest-only last-line-smallest (smallest-is (lastComesFrom k sh hs p) (lineAt hs) (count hs))

@@ -1,5 +1,5 @@
--- Under R8 what a reduction leaves has no marked hop: so at most one reduction of a repetition marks something. It fails for the other senses, as the
--- worked table shows. Assumes nothing.
+-- Under R8 what a reduction leaves has no marked hop: so at most one reduction of a repetition
+-- marks something. It fails for the other senses, as the worked table shows. Assumes nothing.
 use Prim.Native.Nat.{ℕ, _≤_}
 use mathlib.Core.Path.{_≡_, ap, _∙_}
 use mathlib.Core.Bool.{true, false}

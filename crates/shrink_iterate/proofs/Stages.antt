@@ -1,5 +1,6 @@
--- What every stage of a repetition keeps: rows 1 to 5 let its graph pass, the audit of the first graph against it finds no fault, its reductions and states
--- together are no more than the first states, and its hops no more than the first hops. Assumes nothing.
+-- What every stage of a repetition keeps: rows 1 to 5 let its graph pass, the audit of the first
+-- graph against it finds no fault, its reductions and states together are no more than the first
+-- states, and its hops no more than the first hops. Assumes nothing.
 use Prim.Native.Nat.{ℕ, _+_, _<_, _≤_}
 use mathlib.Core.Path.{_≡_}
 use mathlib.Core.Bool.{true, false}

@@ -15,7 +15,8 @@ use Rattle.reduce_short_graph.specs.Short.{becomes}
 use Rattle.reduce_entry.specs.Reduce.{reducedMap, reducedHops, reducedShape}
 use Rattle.shrink_compose.specs.Composed.{composed, identityMap}
 
--- how far a repetition has come: a graph, the map to it from the first states, and how many reductions marked something on the way
+-- how far a repetition has come: a graph, the map to it from the first states, and how many
+-- reductions marked something on the way
 pub record Stage : Type 0 where
   pub shape : Shape
   pub hops : List ℕ
@@ -51,16 +52,18 @@ unfoldable pub iterated : ℕ → ℕ → Stage → Stage
 iterated k zero g = g
 iterated k (suc n) g = cond (marksSome k g) (iterated k n (nextStage k g)) g
 
--- the last stage that a stage leads to: each reduction that marks something leaves fewer states, so that as many as there are states are enough
+-- the last stage that a stage leads to: each reduction that marks something leaves fewer states, so
+-- that as many as there are states are enough
 unfoldable pub lastOf : ℕ → Stage → Stage
 lastOf k g = iterated k (g .shape .states) g
 
--- the last stage of a graph
+-- the last stage of a graph.
+-- In the field: reduction iterated to a fixpoint.
 abbrev pub lastStage : ℕ → Shape → List ℕ → Stage
 lastStage k sh hs = lastOf k (firstStage sh hs)
 
--- the hop x of a stage's graph is one that the hop h of the last graph comes from, through at most n reductions: at each it leaves a representative, and
--- what it has become by all of them is like h
+-- the hop x of a stage's graph is one that the hop h of the last graph comes from, through at most
+-- n reductions: at each it leaves a representative, and what it has become by all of them is like h
 unfoldable pub comesThrough : ℕ → ℕ → Stage → Hop → Hop → Bool
 comesThrough k zero g h x = same x h
 comesThrough k (suc n) g h x =

@@ -22,19 +22,20 @@ module _ (hs : List ℕ) (u : Pairs) (ms out : List ℕ) (e : ms ≡ onFront (ma
   told true = refl
   told false = refl
 
-  mark-told : (i : ℕ) → i < count hs → isMarked ms i ≡ inSetAt hs u i
+  mark-result : (i : ℕ) → i < count hs → isMarked ms i ≡ inSetAt hs u i
   unfolding isMarked markOf inSetAt
-  mark-told i l = ap (λ (x : ℕ). eqb x 1) (marks-at hs u ms out e l) ∙ told (eqb (label hs i) 0 && u (from hs i) (to hs i))
+  mark-result i l = ap (λ (x : ℕ). eqb x 1) (marks-at hs u ms out e l) ∙ told (eqb (label hs i) 0 && u (from hs i) (to hs i))
 
-  any-told : any (count hs) (isMarked ms) ≡ any (count hs) (inSetAt hs u)
-  any-told = any-same (isMarked ms) (inSetAt hs u) (count hs) mark-told
+  any-result : any (count hs) (isMarked ms) ≡ any (count hs) (inSetAt hs u)
+  any-result = any-same (isMarked ms) (inSetAt hs u) (count hs) mark-result
 
 pub some-result : (k : ℕ) (sh : Shape) (hs ms out : List ℕ) → ms ≡ onFront (marksOf hs (markedBy k sh hs)) out → {n : ℕ} {r : Bool} → n ≡ count hs →
     r ≡ any n (isMarked ms) → r ≡ someMarked k sh hs
 unfolding someMarked
-some-result k sh hs ms out e c d = d ∙ ap (λ (n : ℕ). any n (isMarked ms)) c ∙ any-told hs (markedBy k sh hs) ms out e
+some-result k sh hs ms out e c d = d ∙ ap (λ (n : ℕ). any n (isMarked ms)) c ∙ any-result hs (markedBy k sh hs) ms out e
 
--- a part of the hops that is a graph's list can be reduced as it can, and what is told of the one is told of the other
+-- a part of the hops that equals a graph's list can be reduced as the graph can, and has a marked
+-- hop exactly when the graph has
 pub seen-reducible : {sh : Shape} {seen hs : List ℕ} → seen ≡ hs → Reducible sh hs → Reducible sh seen
 seen-reducible p red = rw p red
 

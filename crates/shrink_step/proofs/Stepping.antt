@@ -1,4 +1,5 @@
--- One turn of the code that marked something: what stands in the lists afterwards is the next stage. Assumes nothing.
+-- One iteration that marked something: what stands in the lists afterwards is the next stage.
+-- Assumes nothing.
 use Prim.Native.Nat.{ℕ, _+_, _≤_}
 use mathlib.Core.Path.{_≡_, ap, _∙_}
 use mathlib.Core.Bool.{true}
@@ -29,7 +30,8 @@ use Rattle.shrink_iterate.specs.Iterate.{Stage, nextStage}
 use Rattle.shrink_step.specs.Internal.Progress.{stageOf}
 use Rattle.shrink_step.specs.declared.Progress.{Progress}
 
--- where the code stands, the part of the hops that it has marked and reduced, and what that returned
+-- where the code stands, the part of the hops that it has marked and reduced, and what that
+-- returned
 module _
     (k : ℕ) (at : Progress) (hops map : List ℕ) {seen : List ℕ} (p : seen ≡ between hops 0 (at .hops)) (ms out : List ℕ)
     (e : ms ≡ onFront (marksOf seen (markedBy k (at .shape) seen)) out) {made : ShortGraph} (made-is : made ≡ shortGraph (at .shape) seen (markSet seen ms))
@@ -62,7 +64,7 @@ module _
           ap (λ (x : List ℕ). between x 0 (made .hops)) (rw p at (after-short (at .shape) seen u ms out e silent old s)) ∙
           flat-front (reducedHops (g .shape) (g .hops) k) _ hops-are
 
-      -- they have room where the hops were
+      -- they fit where the hops were
       pub short-capacity : {part : List ℕ} → part ≡ between short 0 (made .hops) → at .hops ≤ count hops → length part ≤ length hops
       short-capacity q l = omega (arith, ap length (q ∙ short-hops), length-flat (reducedHops (g .shape) (g .hops) k), hops-are, hops-fewer l)
 

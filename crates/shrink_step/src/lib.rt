@@ -32,7 +32,8 @@ ghost use Rattle.shrink_compose.specs.Internal.Composed.{Into};
 ghost use Rattle.shrink_iterate.specs.Iterate.{someMarked, marksSome, nextStage};
 ghost use Rattle.shrink_step.specs.Internal.Progress.{stageOf};
 
-// How far the repetition has come, besides the hops and the map; and whether there may be more to do.
+// How far the repetition has come, besides the hops and the map; and whether there may be more to
+// do.
 pub struct Progress {
     pub shape: Shape,
     pub hops: usize,
@@ -55,7 +56,7 @@ fn is_any(marks: &[u8], n: usize) -> bool
     false
 }
 
-// A look at a graph that every row lets pass: it is marked, and whether some hop is marked is told.
+// Marks a graph that every row lets pass, and returns whether some hop is marked.
 fn mark_stage(shape: Shape, hops: &[u16], sense: u32, marks: &mut [u8]) -> bool
     requires reducible { ⌜ Reducible shape (now hops) ⌝ }
     requires capacity { ⌜ count (now hops) ≤ length (now marks) ⌝ }
@@ -68,8 +69,9 @@ fn mark_stage(shape: Shape, hops: &[u16], sense: u32, marks: &mut [u8]) -> bool
     is_any(marks, hop_count(hops))
 }
 
-// One turn, of the graph at the front of the hops. Where nothing is marked all stays as it was, and there is no more to do; nor is there behind a reduction
-// under R8, which leaves nothing that R8 marks (repeating: next-still).
+// One iteration, on the graph at the front of the hops. Where nothing is marked all stays as it
+// was, and there is no more to do; nor is there after a reduction under R8, which leaves nothing
+// that R8 marks (`shrink_iterate`: `next-still`).
 pub fn step(at: Progress, hops: &mut [u16], sense: u32, map: &mut [u16]) -> Progress
     requires reducible { ⌜ Reducible (at .shape) (between (now hops) 0 (at .hops)) ⌝ }
     requires there { ⌜ at .hops ≤ count (now hops) ⌝ }
@@ -77,7 +79,7 @@ pub fn step(at: Progress, hops: &mut [u16], sense: u32, map: &mut [u16]) -> Prog
     requires into { ⌜ Into (now map) (at .shape .states) ⌝ }
     requires counted { ⌜ at .reductions < most-states ⌝ }
     ensures more { λ r. ⌜ r .more ≡ (marksSome sense (stageOf at (now (hops .entry)) (now (map .entry))) && not (eqb sense 8)) ⌝ }
-    ensures turned { λ r. ⌜ stageOf r (now (hops .exit)) (now (map .exit)) ≡
+    ensures stepped { λ r. ⌜ stageOf r (now (hops .exit)) (now (map .exit)) ≡
         cond (marksSome sense (stageOf at (now (hops .entry)) (now (map .entry))))
         (nextStage sense (stageOf at (now (hops .entry)) (now (map .entry))))
         (stageOf at (now (hops .entry)) (now (map .entry))) ⌝ }

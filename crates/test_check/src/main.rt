@@ -93,7 +93,8 @@ fn main() {
     limits(&hops);
     bad_numbers(&hops);
     changed(b"the largest line", &mut hops, 3, 65535);
-    // the place is the first such hop, and a hop out of range speaks before any out of order; a line is any number, and tells no hop from another
+    // the place is that of the first such hop; a hop out of range is refused before any out of
+    // order; a line may be any number, and hops that differ in it alone are equal
     changed(b"the largest state", &mut hops, 400, 65535);
     changed(b"a hop below the one before", &mut hops, 400, 24);
     changed(b"a hop equal to the one before", &mut hops, 401, 3);

@@ -1,7 +1,9 @@
--- The front of a local array `[T; n]` that holds xs, its first k elements, lent as a `&[T]` for a lifetime κ, and the array back whole. It says nothing of records.
---     Front            what the `&κ [T]` to the front owns.        Kept     what the lender keeps: its part, and the elements behind the front
---     lends-front      the cell, holding v ∗ own xs v  ⊢ ⇛ ∃ γ. Front γ ∗ Kept
---     front-back       [†κ] ∗ Kept  ⊢ ⇛ ∃ v. the cell, holding v ∗ own xs v
+-- The front of a local array `[T; n]` that holds xs, its first k elements, lent as a `&[T]` for a
+-- lifetime κ, and the array back whole. It says nothing of records.
+--     Front        what the `&κ [T]` to the front owns
+--     Kept         what the lender keeps: its part, and the elements behind the front
+--     lends-front  the cell, holding v ∗ own xs v  ⊢ ⇛ ∃ γ. Front γ ∗ Kept
+--     front-back   [†κ] ∗ Kept  ⊢ ⇛ ∃ v. the cell, holding v ∗ own xs v
 -- Assumes `Given`.
 use mathlib.Core.Path.{_≡_, refl, sym, subst}
 use Prim.Native.Nat.{ℕ}

@@ -65,7 +65,7 @@ fn records_of(nums: &[u16]) -> [Hop; RECORDS]
     hops
 }
 
-// Both entries over the records of a flat list, with the first `room` elements for marks.
+// Both entries over the records of a flat list, with the first `capacity` elements for marks.
 fn ask_list(shape: Shape, nums: &[u16], sense: u32, marks: &mut [u8], capacity: usize) {
     let n = hop_count(nums);
     if RECORDS < n {
@@ -77,7 +77,7 @@ fn ask_list(shape: Shape, nums: &[u16], sense: u32, marks: &mut [u8], capacity: 
     ask(shape, records_of(nums), n, sense, &mut marks[..capacity]);
 }
 
-// A list of few records, and six elements, of which the first `room` were lent.
+// A list of few records, and six elements, of which the first `capacity` were lent.
 fn few(name: &[u8], shape: Shape, nums: &[u16], sense: u32, capacity: usize) {
     let mut marks = [7u8; 6];
     text(name);
@@ -98,8 +98,10 @@ fn ones(marks: &[u8]) -> usize {
     n
 }
 
-// A list at the limit of 4,096 hops, five a state: the silent one leads to the next state, the others to the state itself. So each silent hop is
-// marked but that of state 818, since 4,096 hops end with the silent hop of state 819, which has no other to answer with. Each has its place for a line.
+// A list at the limit of 4,096 hops, five a state: the silent one leads to the next state, the
+// others to the state itself. So each silent hop is marked but that of state 818, since 4,096 hops
+// end with the silent hop of state 819, which has no other to answer with. Each has its place for a
+// line.
 fn stair(i: usize) -> Hop
     requires { ⌜ i < most-hops + 1 ⌝ }
 {
@@ -129,8 +131,8 @@ fn ask_first(nums: &[u16], n: usize, marks: &mut [u8], capacity: usize) {
     ask_list(shape_of(1024, 5, 0), part(nums, 0, n), 1, marks, capacity);
 }
 
-// The first n hops of the list at the limit, and of 4,098 elements, of which the first `room` were lent: the first six, the last thirteen, and how
-// many are 1.
+// The first n hops of the list at the limit, and of 4,098 elements, of which the first `capacity`
+// were lent: the first six, the last thirteen, and how many are 1.
 fn many(name: &[u8], n: usize, capacity: usize) {
     let nums = stairs();
     let mut marks = [7u8; 4098];
@@ -181,7 +183,7 @@ fn others() {
     );
 }
 
-// The case of the text, in which 0 to 1 is marked by R8 alone, and P8, whose ring speaks behind a sense that is none.
+// The case of wish 7, in which 0 to 1 is marked by R8 alone.
 fn in_sense(name: &[u8], sense: u32, capacity: usize) {
     let hops = [
         0u16,

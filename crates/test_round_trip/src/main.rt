@@ -32,7 +32,8 @@ fn copy_front(file: &[u8], out: &mut [u8], capacity: usize) {
     print_written(copy_file(file, &mut out[..capacity]));
 }
 
-// What is answered and how many bytes were written, and 33 elements, of which the first `room` were lent.
+// What is answered and how many bytes were written, and 33 elements, of which the first `capacity`
+// were lent.
 fn copied(name: &[u8], file: &[u8], capacity: usize) {
     let mut out = [7u8; 33];
     text(name);
@@ -80,7 +81,8 @@ fn back_front(
     ));
 }
 
-// What is answered, and 46 bytes and 18 numbers, of which the first `room` and the first `hop_room` were lent.
+// What is answered, and 46 bytes and 18 numbers, of which the first `capacity` and the first
+// `hop_capacity` were lent.
 fn back(
     name: &[u8],
     shape1: Shape,
@@ -136,7 +138,8 @@ fn other_copies() {
     );
 }
 
-// A hop with a line, which stands behind the names, and the same cut; and lines all 0, which no file has.
+// A hop with a line, which stands behind the names, and the same cut; and lines all 0, which no
+// file has.
 fn lined_copies() {
     copied(
         b"a hop with a line behind the names",
@@ -156,7 +159,7 @@ fn lined_copies() {
     copied(b"bit 3 over no hops", b"\x08\x01\x00\x01\x00", 33);
 }
 
-// P1 with lines, a name and so much room.
+// P1 with lines and a name, into a file output of the given capacity.
 fn lined_back(name: &[u8], capacity: usize) {
     let hops = [0u16, 0, 1, 3, 0, 1, 2, 4, 1, 1, 3, 5, 2, 0, 3, 2];
     back(name, shape_of(4, 2, 0), &hops, b"\x04open", capacity, 18);

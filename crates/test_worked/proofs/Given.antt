@@ -1,4 +1,5 @@
--- The definitions give every figure of the table of graphs worked by hand: one proof, by computation. Assumes nothing.
+-- The definitions give every figure of the table of graphs worked by hand: one proof, by
+-- computation. Assumes nothing.
 use mathlib.Core.Path.{_≡_, refl}
 use Rattle.base_bounded.specs.Quantifiers.{all, any, least, tabulate, tally, total}
 use Rattle.graph.specs.Hops.{flat, is, labelled, has}

@@ -23,7 +23,8 @@ use Rattle.audit_entry.specs.declared.Audit.{Audit}
 use Rattle.graph_find.specs.Find.{findOf}
 use Rattle.graph_find.specs.declared.Finding.{Finding}
 
--- a hop as document 01 writes it; a state count, a label count and an initial state, and the same with initial state 0
+-- a hop as document 01 writes it; a state count, a label count and an initial state, and the same
+-- with initial state 0
 abbrev pub hop : ℕ → ℕ → ℕ → Hop
 hop s a t = hopOf s a t
 
@@ -33,9 +34,10 @@ shapeFrom n l i = record { states = n; labels = l; initial = i }
 abbrev pub shape : ℕ → ℕ → Shape
 shape n l = shapeFrom n l 0
 
--- what is said of a graph: what `mark` and `reduce` return for outputs that are long enough ("Reduce .. returns the short graph's state, label and hop
--- counts and initial state"), the marks, for each hop the round in which it falls (0: it is visible, or survives every round), the number of tests that
--- `mark_fast` returns ("3 for P10"), the map and the short hops
+-- what is said of a graph: what `mark` and `reduce` return for outputs that are long enough
+-- ("Reduce .. returns the short graph's state, label and hop counts and initial state"), the marks,
+-- for each hop the round in which it falls (0: it is visible, or survives every round), the number
+-- of tests that `mark_fast` returns ("3 for P10"), the map and the short hops
 pub record Outcome : Type 0 where
   pub answer : Answer
   pub reduced : Reduction
@@ -154,7 +156,8 @@ p8 = hop 0 0 1 ∷ hop 1 0 2 ∷ hop 2 0 1 ∷ []
 abbrev p10 : List Hop
 p10 = hop 0 0 1 ∷ hop 0 1 2 ∷ hop 1 1 3 ∷ hop 2 0 3 ∷ hop 2 2 4 ∷ []
 
--- the marks, the falls, the number of tests, the map, the short graph's shape, its hop count and its hops
+-- the marks, the falls, the number of tests, the map, the short graph's shape, its hop count and
+-- its hops
 abbrev accepts : List ℕ → List ℕ → ℕ → List ℕ → Shape → ℕ → List Hop → Outcome
 accepts m f k t sh n s = record {
   answer = accepted;
@@ -215,7 +218,8 @@ table = record {
         hops = p10;
         outcome = accepts (0 ∷ 0 ∷ 0 ∷ 0 ∷ 0 ∷ []) (2 ∷ 0 ∷ 0 ∷ 1 ∷ 0 ∷ []) 3 (0 ∷ 1 ∷ 2 ∷ 3 ∷ 4 ∷ []) (shape 5 3) 5 p10;
       } ∷
-      -- ours: P1 begun in state 2, whose representative is state 3, of new number 1 ("Its initial state is the map of the old one")
+      -- ours: P1 begun in state 2, whose representative is state 3, of new number 1 ("Its initial
+      -- state is the map of the old one")
       record {
         graph = shapeFrom 4 2 2;
         hops = p1;
@@ -234,9 +238,11 @@ table = record {
         map = 0 ∷ 0 ∷ 1 ∷ 1 ∷ [];
         audit = finds 2 (fault 3 1 2);
       } ∷
-      -- ours: the same begun in state 2, with a short graph that begins in its state 0 and not in 1, the map of 2
+      -- ours: the same begun in state 2, with a short graph that begins in its state 0 and not in
+      -- 1, the map of 2
       record { shape1 = shapeFrom 4 2 2; hops1 = p1; shape2 = shape 2 2; hops2 = hop 0 1 1 ∷ []; map = 0 ∷ 0 ∷ 1 ∷ 1 ∷ []; audit = finds 1 (fault 1 0 0) } ∷
-      -- ours: a fault of each kind, (1,1,1) for the short hop, and the first is that of the initial states
+      -- ours: a fault of each kind, (1,1,1) for the short hop, and the first is that of the initial
+      -- states
       record { shape1 = shapeFrom 4 2 2; hops1 = p1; shape2 = shape 2 2; hops2 = hop 1 1 1 ∷ []; map = 0 ∷ 0 ∷ 1 ∷ 1 ∷ []; audit = finds 5 (fault 1 0 0) } ∷
       -- ours: a later state has the fault of an earlier hop, and that is the first
       record {
@@ -248,7 +254,8 @@ table = record {
         audit = finds 2 (fault 3 0 1);
       } ∷
       [];
-  -- ours: hops of P1; a hop that it has not, which would stand between two, before all or behind all; and numbers that no graph has
+  -- ours: hops of P1; a hop that it has not, which would stand between two, before all or behind
+  -- all; and numbers that no graph has
   searches =
       inP1 (hop 0 0 1) 1 0 ∷
       inP1 (hop 2 0 3) 1 3 ∷

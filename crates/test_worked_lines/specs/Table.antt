@@ -22,7 +22,8 @@ pub record Carried : Type 0 where
   pub hops : List Hop
   pub short : List Hop
 
--- what is said of an answer: the graph, for how many numbers the output for short hops has room, and what `reduce` answers under sense 1
+-- what is said of an answer: the graph, the capacity of the output for short hops, and what
+-- `reduce` answers under sense 1
 pub record CapacityAsked : Type 0 where
   pub graph : Shape
   pub hops : List Hop
@@ -51,7 +52,8 @@ tableOf t = record { carried = map carriedOf (t .carried); answers = map capacit
 abbrev pub table : LinesTable
 table = record {
   carried =
-      -- M4: "P1 with lines 3, 4, 5, 2", of which the representative 1 has the hop with 5, and the like hop of 0 has 4
+      -- M4: "P1 with lines 3, 4, 5, 2", of which the representative 1 has the hop with 5, and the
+      -- like hop of 0 has 4
       record {
         graph = shape 4 2;
         hops = hop 0 0 1 3 ∷ hop 0 1 2 4 ∷ hop 1 1 3 5 ∷ hop 2 0 3 2 ∷ [];
@@ -71,7 +73,8 @@ table = record {
       } ∷
       -- M4: "P6 with lines 3, 4, 5: the short hop carries 5, not 4"
       record { graph = shape 2 2; hops = hop 0 0 1 3 ∷ hop 0 1 0 4 ∷ hop 1 1 1 5 ∷ []; short = hop 0 1 0 5 ∷ [] } ∷
-      -- M5: "Lines 0, 7, 3 give 3": three hops of state 0 become one, since 1 and 2 lead silently to 3
+      -- M5: "Lines 0, 7, 3 give 3": three hops of state 0 become one, since 1 and 2 lead silently
+      -- to 3
       record {
         graph = shape 4 2;
         hops = hop 0 1 1 0 ∷ hop 0 1 2 7 ∷ hop 0 1 3 3 ∷ hop 1 0 3 1 ∷ hop 2 0 3 2 ∷ [];

@@ -30,7 +30,8 @@ pub record Marked : Type 0 where
   pub in3 : List ℕ
   pub in8 : List ℕ
 
--- what is said of a reduction: the graph, the number of the sense, what `reduce` returns for outputs that are long enough, the map and the short hops
+-- what is said of a reduction: the graph, the number of the sense, what `reduce` returns for
+-- outputs that are long enough, the map and the short hops
 pub record Reduced : Type 0 where
   pub graph : Shape
   pub hops : List Hop
@@ -39,7 +40,8 @@ pub record Reduced : Type 0 where
   pub map : List ℕ
   pub short : List Hop
 
--- what is said of an answer: the graph, the number of the sense, how long the two outputs are, and what `reduce` answers
+-- what is said of an answer: the graph, the number of the sense, how long the two outputs are, and
+-- what `reduce` answers
 pub record SenseAsked : Type 0 where
   pub graph : Shape
   pub hops : List Hop
@@ -90,7 +92,7 @@ senseAskedOf q = record {
 abbrev pub tableOf : SensesTable → SensesTable
 tableOf t = record { marks = map markedOf (t .marks); reductions = map reducedOf (t .reductions); answers = map senseAskedOf (t .answers) }
 
--- wish 7's case, and the two that tell R2 from R3
+-- wish 7's case, and the two that separate R2 from R3
 abbrev case : List Hop
 case = hop 0 0 1 ∷ hop 0 1 2 ∷ hop 1 1 3 ∷ hop 2 0 4 ∷ hop 4 0 3 ∷ []
 
@@ -122,7 +124,8 @@ says sh hs k m n a = record { graph = sh; hops = hs; sense = k; entries = m; num
 abbrev pub table : SensesTable
 table = record {
   marks =
-      -- "(0,0,1) (0,1,2) (1,1,3) (2,0,4) (4,0,3) has 0 to 1 marked by R8 alone; the other silent hops are marked by all four"
+      -- "(0,0,1) (0,1,2) (1,1,3) (2,0,4) (4,0,3) has 0 to 1 marked by R8 alone; the other silent
+      -- hops are marked by all four"
       record {
         graph = shape 5 2;
         hops = case;
@@ -131,7 +134,8 @@ table = record {
         in3 = 0 ∷ 0 ∷ 0 ∷ 1 ∷ 1 ∷ [];
         in8 = 1 ∷ 0 ∷ 0 ∷ 1 ∷ 1 ∷ [];
       } ∷
-      -- ours: "R8 (both, and s3 reaches s4 by zero or more too)": 1 to 0 is marked by R8 alone, since R2 and R3 close by at most one hop
+      -- ours: "R8 (both, and s3 reaches s4 by zero or more too)": 1 to 0 is marked by R8 alone,
+      -- since R2 and R3 close by at most one hop
       record {
         graph = shape 3 2;
         hops = hop 0 1 0 ∷ hop 1 0 0 ∷ hop 1 1 2 ∷ hop 2 0 1 ∷ [];
@@ -169,7 +173,8 @@ table = record {
       } ∷
       -- ours: a silent hop alone is answered by s2 itself
       record { graph = shape 2 1; hops = hop 0 0 1 ∷ []; in1 = 1 ∷ []; in2 = 1 ∷ []; in3 = 1 ∷ []; in8 = 1 ∷ [] } ∷
-      -- ours, with a ring, which `mark` refuses: walks have an end there too, and R3 does not mark 0 to 1
+      -- ours, with a ring, which `mark` refuses: walks have an end there too, and R3 does not mark
+      -- 0 to 1
       record { graph = shape 2 2; hops = ring; in1 = 0 ∷ 0 ∷ 1 ∷ []; in2 = 0 ∷ 0 ∷ 1 ∷ []; in3 = 0 ∷ 0 ∷ 1 ∷ []; in8 = 0 ∷ 0 ∷ 1 ∷ [] } ∷
       [];
   reductions =

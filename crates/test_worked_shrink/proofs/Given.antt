@@ -1,5 +1,6 @@
--- The definitions give every figure of the table: one proof. The stages of a repetition are computed one by one, each from the one before as the table says
--- it, and the last of them is the last stage. Assumes nothing.
+-- The definitions give every figure of the table: one proof. The stages of a repetition are
+-- computed one by one, each from the one before as the table says it, and the last of them is the
+-- last stage. Assumes nothing.
 use Prim.Native.Nat.{ℕ, zero, suc, _≤_}
 use mathlib.Core.Path.{_≡_, refl, sym, ap, _∙_}
 use mathlib.Core.Bool.{Bool, true, false}
@@ -53,7 +54,8 @@ next g u = record {
   reductions = suc (g .reductions);
 }
 
--- the reductions from g on: each but the last look marks something and leads to the next, and the last look marks nothing
+-- the reductions from g on: each marks something and leads to the next stage, and in the last stage
+-- nothing is marked
 data Steps (k : ℕ) : Stage → List Step → Type 0 where
   still : {g : Stage} → Marks k g [] → some g (markSet (g .hops) []) ≡ false → Steps k g []
   step : {g : Stage} {t : Step} {ts : List Step} → Marks k g (t .marks) → some g (markSet (g .hops) (t .marks)) ≡ true →
@@ -63,7 +65,7 @@ unfoldable end : Stage → List Step → Stage
 end g [] = g
 end g (t ∷ ts) = end (t .stage) ts
 
--- what a step gives, in the definitions' words
+-- what a step says, in the definitions' words
 module _ {k : ℕ} {g : Stage} {ms : List ℕ} (m : Marks k g ms) where
   some-is : {b : Bool} → some g (markSet (g .hops) ms) ≡ b → marksSome k g ≡ b
   unfolding someMarked

@@ -1,5 +1,6 @@
--- Marks that can be checked by hand: if each marked hop closes with the marked ones, and one round of dropping what does not close leaves no other, they are
--- those of the marked set, which the definition finds by as many rounds as there are hops. Assumes nothing.
+-- Marks that can be checked by hand: if each marked hop closes with the marked ones, and one round
+-- of removing what does not close leaves no other hop, they are the marks of the marked set, which
+-- the definition finds by as many rounds as there are hops. Assumes nothing.
 use Prim.Native.Nat.{ℕ}
 use mathlib.Core.Path.{_≡_}
 use mathlib.Core.Bool.{Bool, true, cond, _&&_}

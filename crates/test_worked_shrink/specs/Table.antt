@@ -30,8 +30,9 @@ pub record Step : Type 0 where
   pub marks : List ℕ
   pub stage : Stage
 
--- what is said of a repeated reduction: the graph, the number of the sense, what the two outputs hold before, the reductions that mark something, what
--- `shrink` returns, and what the outputs hold afterwards
+-- what is said of a repeated reduction: the graph, the number of the sense, what the two outputs
+-- hold before, the reductions that mark something, what `shrink` returns, and what the outputs hold
+-- afterwards
 pub record Shrunk : Type 0 where
   pub graph : Shape
   pub hops : List Hop
@@ -43,7 +44,8 @@ pub record Shrunk : Type 0 where
   pub map-after : List ℕ
   pub short-after : List ℕ
 
--- what is said of a refusal: the graph, the number of the sense, how long the two outputs are, and what `shrink` answers; the outputs stay as they are
+-- what is said of a refusal: the graph, the number of the sense, how long the two outputs are, and
+-- what `shrink` answers; the outputs stay as they are
 pub record Refused : Type 0 where
   pub graph : Shape
   pub hops : List Hop
@@ -87,8 +89,8 @@ refusedOf q = record {
 abbrev pub tableOf : ShrinkTable → ShrinkTable
 tableOf t = record { shrunk = map shrunkOf (t .shrunk); refused = map refusedOf (t .refused) }
 
--- W13.6 with three states: a silent chain in which state i has a hop labelled 1 to itself for odd i and to 0 for even i, and one labelled 2 the other way
--- round
+-- W13.6 with three states: a silent chain in which state i has a hop labelled 1 to itself for odd i
+-- and to 0 for even i, and one labelled 2 the other way round
 abbrev chain : List Hop
 chain = lined 0 0 1 1 ∷ lined 0 1 0 2 ∷ hop 0 2 0 ∷ hop 1 0 2 ∷ lined 1 1 1 9 ∷ lined 1 2 0 8 ∷ lined 2 1 0 7 ∷ hop 2 2 2 ∷ []
 
@@ -103,16 +105,19 @@ p2 = hop 0 0 1 ∷ hop 0 1 2 ∷ hop 1 1 3 ∷ []
 abbrev twice : List Hop
 twice = lined 0 1 1 4 ∷ hop 1 0 2 ∷ lined 1 1 0 3 ∷ lined 2 0 0 5 ∷ []
 
--- so many nines, which are no number of these graphs: what an output held before, and holds past what is written
+-- so many nines, which are no number of these graphs: what an output held before, and holds past
+-- what is written
 abbrev nines : ℕ → List ℕ
 nines n = tabulate n (λ (_ : ℕ). 9)
 
--- a reduction: the marks, and of the stage after it the states and labels, with initial state 0, the hops, the map and how many reductions led to it
+-- a reduction: the marks, and of the stage after it the states and labels, with initial state 0,
+-- the hops, the map and how many reductions led to it
 abbrev step : List ℕ → ℕ → ℕ → List Hop → List ℕ → ℕ → Step
 step ms n l hs m r = record { marks = ms; stage = record { shape = shape n l; hops = flat hs; map = m; reductions = r } }
 
--- what `shrink` leaves of a graph under a sense, in outputs that have one place more than they must: the reductions on the way; how many states, the hops and
--- the map of the last graph; how many reductions; and how many numbers of the hops' output stay
+-- what `shrink` leaves of a graph under a sense, in outputs that have one place more than they
+-- must: the reductions on the way; how many states, the hops and the map of the last graph; how
+-- many reductions; and how many numbers of the hops' output stay
 abbrev leaves : Shape → List Hop → ℕ → List Step → ℕ → List Hop → List ℕ → ℕ → ℕ → Shrunk
 leaves sh hs k steps n s m r stay = record {
   graph = sh;
@@ -129,7 +134,8 @@ leaves sh hs k steps n s m r stay = record {
 abbrev refuses : Shape → List Hop → ℕ → ℕ → ℕ → Answer → Refused
 refuses sh hs k m n a = record { graph = sh; hops = hs; sense = k; entries = m; numbers = n; answer = a }
 
--- what the reductions of the chain leave: states 0 and 1 become one first, and then that one and 2; under R8 all three at once
+-- what the reductions of the chain leave: states 0 and 1 become one first, and then that one and 2;
+-- under R8 all three at once
 abbrev shorter : List Hop
 shorter = hop 0 0 1 ∷ lined 0 1 0 9 ∷ lined 0 2 0 8 ∷ lined 1 1 0 7 ∷ hop 1 2 1 ∷ []
 
@@ -143,7 +149,8 @@ one-by-one =
 abbrev at-once : List Step
 at-once = step (1 ∷ 0 ∷ 0 ∷ 1 ∷ 0 ∷ 0 ∷ 0 ∷ 0 ∷ []) 1 3 shortest (0 ∷ 0 ∷ 0 ∷ []) 1 ∷ []
 
--- W13.6: the chain "takes n - 1 reductions (R8: one)": by R1, R2 and R3 one fewer than the first states, so that no smaller bound holds
+-- W13.6: the chain "takes n - 1 reductions (R8: one)": by R1, R2 and R3 one fewer than the first
+-- states, so that no smaller bound holds
 abbrev pub chain-r1 : Shrunk
 chain-r1 = leaves (shape 3 3) chain 1 one-by-one 1 shortest (0 ∷ 0 ∷ 0 ∷ []) 2 25
 
@@ -175,7 +182,8 @@ abbrev pub table : ShrinkTable
 table = record {
   shrunk = chain-r1 ∷ chain-r2 ∷ chain-r3 ∷ chain-r8 ∷ p1-r1 ∷ p2-r1 ∷ twice-r2 ∷ [];
   refused =
-      -- ours: "Outputs and refusals are as in reduce": 19 before 5, 5 before 6, and the rooms are those of the input
+      -- ours: "Outputs and refusals are as in reduce": 19 before 5, 5 before 6, and the capacities
+      -- asked are those for the input
       refuses (shape 2 1) (hop 0 0 1 ∷ hop 1 0 0 ∷ []) 4 2 8 (refused 19 0) ∷
       refuses (shape 2 1) (hop 0 0 1 ∷ hop 1 0 0 ∷ []) 1 0 0 (refused 5 0) ∷
       refuses (shape 3 3) chain 1 2 32 (refused 6 0) ∷

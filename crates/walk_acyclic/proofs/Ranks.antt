@@ -1,5 +1,6 @@
--- Laws of ranking: a state whose silent hops all lead to states on no ring is on no ring, so that ranking keeps ranked states off rings; and
--- where all states are ranked there is none. Assumes nothing.
+-- Laws of ranking: a state whose silent hops all lead to states on no ring is on no ring, so that
+-- ranking keeps ranked states off rings; and where all states are ranked there is none. Assumes
+-- nothing.
 use Prim.Native.Nat.{ℕ, _+_, _<_, _≤_}
 use mathlib.Core.Path.{_≡_, refl, sym, ap, _∙_}
 use mathlib.Core.Bool.{Bool, true, false, not, _||_}
@@ -34,7 +35,7 @@ ring-goes-on hs v (t, r, stay) = (v, r, (v, r, stay))
 ring-goes-on hs v (t, r, go {m} a p) = (t, r, (m, a, join p (one r)))
 
 module _ (hs ranked : List ℕ) (v : ℕ) where
-  -- the hop at place i is no silent one of v, or leads to a noted state
+  -- the hop at place i is no silent one of v, or leads to a visited state
   abbrev fine : ℕ → Bool
   fine i = not (labelled hs v 0 i) || visited ranked (to hs i)
 

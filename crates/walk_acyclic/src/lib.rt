@@ -103,7 +103,7 @@ fn is_unentered(shape: Shape, t: OldState, ranked: &[u8], entered: &[u8; MOST_ST
     (ranked[at] != 1) & (entered[at] == 0)
 }
 
-// Enters t and notes the place of the hop by which it is entered.
+// Enters t and records the place of the hop by which it is entered.
 fn enter(t: OldState, place: usize, entered: &mut [u8; MOST_STATES], via: &mut [u16; MOST_STATES])
     requires state { ⌜ t .0 < most-states ⌝ }
     requires place { ⌜ place ≤ most-hops ⌝ }
@@ -121,8 +121,8 @@ fn entry_place(t: OldState, via: &[u16; MOST_STATES]) -> usize
     wide(via[at])
 }
 
-// The first place from `first` on, and before `past`, whose hop leads to a state that the search may enter, if no labelled hop stands before it; else
-// `past`.
+// The first place from `first` on and before `past` whose hop is silent and leads to a state that
+// the search may enter, if only silent hops stand before it; else `past`.
 fn next_unentered(
     shape: Shape,
     hops: &[u16],
@@ -148,8 +148,9 @@ fn next_unentered(
     past
 }
 
-// Enters a state that v leads to by a silent hop from the place on, then one that this leads to, and so on until there is none to enter; returns the
-// last. No state is entered twice, so that there are no more turns than states.
+// Enters a state that v leads to by a silent hop from the place on, then one that this state leads
+// to, and so on until there is none to enter; returns the last one. No state is entered twice, so
+// the loop has no more steps than there are states.
 fn descend(
     shape: Shape,
     hops: &[u16],
@@ -182,8 +183,10 @@ fn descend(
     top
 }
 
-// Ranks what v leads to and then v, as far as they can be ranked, unless v was entered before; returns how many states that ranked. Every state is
-// left once, so that there are no more turns than states; the way back from v itself is past the last hop.
+// Ranks the states that v leads to and then v, as far as they can be ranked, unless v was ranked or
+// entered before; returns how many states it ranked. Every state is left once, so the loop has no
+// more steps than there are states. The place by which v is entered is past the last hop: there the
+// search ends.
 fn rank_from(
     shape: Shape,
     hops: &[u16],
@@ -221,8 +224,8 @@ fn rank_from(
     got
 }
 
-// Ranks every state that can be: by one pass and, where that leaves states, by a search from each that is left; returns how many states
-// that ranked.
+// Ranks every state that can be ranked: by one pass and, if that leaves states, by a search from
+// each that is left; returns how many states it ranked.
 pub fn rank_all(shape: Shape, hops: &[u16], starts: &[u16; STARTS], ranked: &mut [u8]) -> usize
     requires tabled { ⌜ Indexed shape (now hops) (now starts) ⌝ }
     requires ranks { ⌜ Ranks (now hops) (shape .states) (now ranked) ⌝ }

@@ -1,5 +1,5 @@
--- Noting the ends of the chosen hops of v, all of whose hops stand from `lo` up to `hi`: what holds before each turn, that a turn keeps it, and
--- that in the end all are noted. Assumes nothing.
+-- The visits of the ends of the chosen hops of v, whose hops stand from `lo` up to `hi`: the
+-- invariant, that each step keeps it, and that in the end all are visited. Assumes nothing.
 use Prim.Native.Nat.{ℕ, _+_, _<_, _≤_}
 use mathlib.Core.Path.{_≡_, refl, sym, ap, _∙_}
 use mathlib.Core.Bool.{Bool, true, false}
@@ -18,7 +18,7 @@ use Rattle.walk_reach.specs.Internal.Reach.{ChosenOf, chosenIn}
 use Rattle.walk_reach.specs.Internal.Frontier.{visited, seenWith, queueWith, tailWith, Frontier, Grown, Expanded}
 use Rattle.walk_reach.proofs.Frontier.{grown-self, grown-visit, visited-with, visited-kept}
 
--- the byte of a hop tells whether it is chosen
+-- the byte of a hop says whether it is chosen
 module _ (bytes : List ℕ) (i : ℕ) where
   pub chosen-yes : getD bytes i 0 ≡ 1 → chosenIn bytes i ≡ true
   unfolding chosenIn
@@ -34,7 +34,7 @@ pub record Range (sh : Shape) (hs : List ℕ) (v lo hi : ℕ) : Type 0 where
   pub lo-is : lo ≡ firstOf hs v
   pub hi-is : hi ≡ firstOf hs (v + 1)
 
--- the front has grown by the chosen hops from `lo` up to i
+-- the frontier has grown by the ends of the chosen hops from `lo` up to i
 pub record Passed (hs : List ℕ) (c : ℕ → Bool) (n v lo i : ℕ) (seen queue : List ℕ) (tail : ℕ) (seen′ queue′ : List ℕ) (tail′ : ℕ) : Type 0 where
   pub grown : Grown hs c n v seen queue tail seen′ queue′ tail′
   pub ends : (j : ℕ) → lo ≤ j → j < i → c j ≡ true → visited seen′ (to hs j) ≡ true

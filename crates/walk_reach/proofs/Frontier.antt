@@ -1,4 +1,5 @@
--- Laws of the search's front: the bytes cleared, a byte set, and how the front grows when a state is noted. Assumes nothing.
+-- Laws of the search's frontier: the bytes cleared, a byte set, and how the frontier grows when a
+-- state is visited. Assumes nothing.
 use Prim.Native.Nat.{ℕ, zero, suc, _+_, _<_, _≤_}
 use mathlib.Core.Path.{_≡_, refl, sym, ap, _∙_}
 use mathlib.Core.Bool.{Bool, true, false, cond}
@@ -53,11 +54,11 @@ module _ (seen : List ℕ) (t : ℕ) where
   visited-set u l e =
       ⊎-elim (λ q. ap (visited (set seen t 1)) q ∙ visited-set-same l) (λ f. visited-set-other u f ∙ e) (eq-or-not u t)
 
-  -- a state that is noted now was, or is t
+  -- a state that is visited now was visited before, or is t
   pub visited-set-back : (u : ℕ) → visited (set seen t 1) u ≡ true → (visited seen u ≡ true) ⊎ (u ≡ t)
   visited-set-back u e = ⊎-elim (λ q. inr q) (λ f. inl (sym (visited-set-other u f) ∙ e)) (eq-or-not u t)
 
--- a state of n that is not noted leaves room in the queue
+-- while one of n states is not visited, the queue has capacity for one more
 pub front-capacity : {n : ℕ} {seen queue : List ℕ} {tail : ℕ} → Frontier n seen queue tail → (t : ℕ) → t < n → visited seen t ≡ false →
     (tail < n) × (tail + 1 ≤ tally n (visited (set seen t 1)))
 front-capacity {n} {seen} {queue} {tail} f t l e =
@@ -66,7 +67,7 @@ front-capacity {n} {seen} {queue} {tail} f t l e =
     (visited-set-same seen t (omega (arith, f .seen-capacity))) in
     (omega (arith, f .counted, tally-within (visited (set seen t 1)) n), omega (arith, f .counted))
 
--- the front after a state is noted that was not
+-- the frontier after the visit of a state that was not visited
 module _ {n : ℕ} {seen queue : List ℕ} {tail : ℕ} (f : Frontier n seen queue tail) (t : ℕ) (l : t < n) (e : visited seen t ≡ false) where
   in-seen : t < length seen
   in-seen = omega (arith, f .seen-capacity)
@@ -126,7 +127,7 @@ module _ (hs : List ℕ) (c : ℕ → Bool) (n v : ℕ) where
       queue-length = simp length-set (g .queue-length);
     }
 
-    -- a front grows by noting the end of a chosen hop of v
+    -- the frontier grows by a visit of the end of a chosen hop of v
     pub grown-visit : Grown hs c n v seen queue tail (seenWith seen₁ t) (queueWith seen₁ queue₁ tail₁ t) (tailWith seen₁ tail₁ t)
     unfolding seenWith queueWith tailWith
     grown-visit = go (visited seen₁ t) refl where
@@ -134,7 +135,7 @@ module _ (hs : List ℕ) (c : ℕ → Bool) (n v : ℕ) where
       go true e = g
       go false e = grown-new e
 
--- after it, t is noted
+-- after it, t is visited
 pub visited-with : (seen : List ℕ) (t : ℕ) → t < length seen → visited (seenWith seen t) t ≡ true
 unfolding seenWith
 visited-with seen t l = go (visited seen t) refl where
@@ -142,7 +143,7 @@ visited-with seen t l = go (visited seen t) refl where
   go true e = e
   go false e = visited-set-same seen t l
 
--- and what was noted is
+-- and what was visited still is
 pub visited-kept : (seen : List ℕ) (t u : ℕ) → t < length seen → visited seen u ≡ true → visited (seenWith seen t) u ≡ true
 unfolding seenWith
 visited-kept seen t u l d = go (visited seen t) refl where

@@ -1,5 +1,6 @@
--- The bounded test `leadsBy` and walks along the chosen hops agree once the bound is the state count: for each target, the states that do not lead
--- to it within k hops are a chain of falling sets, which rests after as many steps as there are states. Assumes nothing.
+-- The bounded test `leadsBy` and walks along the chosen hops agree once the bound is the state
+-- count: for each target, the states that do not lead to it within k hops are a descending chain of
+-- sets, which is stationary after as many steps as there are states. Assumes nothing.
 use Prim.Native.Nat.{ℕ, zero, suc, _<_}
 use mathlib.Core.Path.{_≡_, refl, sym, ap, _∙_}
 use mathlib.Core.Bool.{Bool, true, false, not, _&&_, _||_}

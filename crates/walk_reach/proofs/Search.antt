@@ -1,5 +1,5 @@
--- The breadth-first search: what holds before each turn, that a turn keeps it, and that at the end the noted states are exactly those that s leads to.
--- Assumes nothing.
+-- The breadth-first search: its invariant, that each step keeps it, and that at the end the visited
+-- states are exactly those that s leads to. Assumes nothing.
 use Prim.Native.Nat.{ℕ, _+_, _<_, _≤_}
 use mathlib.Core.Path.{_≡_, refl, sym, ap, _∙_}
 use mathlib.Core.Bool.{Bool, true, false, cond}
@@ -22,7 +22,8 @@ use Rattle.walk_reach.specs.Internal.Frontier.{visited, reachedBytes, se
 use Rattle.walk_reach.proofs.Leads.{chosen-end, leads-self, leads-walk, walk-leads}
 use Rattle.walk_reach.proofs.Frontier.{length-cleared, visited-no, visited-one, visited-set-same, visited-set-back, front-new}
 
--- the states before `head` in the queue have been taken from it, and the ends of their chosen hops are noted
+-- the states before `head` in the queue have been taken from it, and the ends of their chosen hops
+-- are visited
 pub record Search (hs : List ℕ) (c : ℕ → Bool) (n s : ℕ) (seen₀ queue₀ seen queue : List ℕ) (head tail : ℕ) : Type 0 where
   pub front : Frontier n seen queue tail
   pub head-within : head ≤ tail
@@ -54,7 +55,7 @@ module _ (n : ℕ) (seen queue : List ℕ) (a : n ≤ length seen) (b : n ≤ le
     from-queue = λ q l. absurd (omega arith);
   }
 
-  -- the search begins with s noted
+  -- the search begins with s visited
   pub search-starts : (hs : List ℕ) (c : ℕ → Bool) (s : ℕ) → s < n → {seen₀ seen₁ queue₁ : List ℕ} {tail₁ : ℕ} → seen₀ ≡ clean → seen₁ ≡ seenWith seen₀ s →
       queue₁ ≡ queueWith seen₀ queue 0 s → tail₁ ≡ tailWith seen₀ 0 s → Search hs c n s seen queue seen₁ queue₁ 0 tail₁
   unfolding seenWith queueWith tailWith
@@ -79,7 +80,7 @@ search-tail {n = n} {seen = seen} a = omega (arith, a .front .counted, tally-wit
 
 module _ {sh : Shape} {hs : List ℕ} (ranged : InRange sh hs) {c : ℕ → Bool} {s : ℕ} {seen₀ queue₀ seen queue : List ℕ} {head tail : ℕ}
     (a : Search hs c (sh .states) s seen₀ queue₀ seen queue head tail) where
-  -- a turn: the state at `head` is taken
+  -- a step: the state at `head` is taken
   pub search-steps : {seen′ queue′ : List ℕ} {tail′ : ℕ} → head < tail →
       Expanded hs c (sh .states) (getD queue head 0) seen queue tail seen′ queue′ tail′ →
       Search hs c (sh .states) s seen₀ queue₀ seen′ queue′ (head + 1) tail′
@@ -107,20 +108,20 @@ module _ {sh : Shape} {hs : List ℕ} (ranged : InRange sh hs) {c : ℕ → Bool
     before q k u r = w .grown .kept u (a .done q k u (rw (w .grown .same-queue q (omega arith)) at r))
 
   module _ (over : tail ≤ head) where
-    -- what is noted is closed under chosen hops
+    -- the visited states are closed under chosen hops
     closed : (u t : ℕ) → u < sh .states → visited seen u ≡ true → ChosenOf hs c u t → visited seen t ≡ true
     closed u t l e r =
         let (q, k, d) = a .front .in-queue u l e in
         a .done q (omega arith) t (rw d r)
 
-    all-noted : {u t : ℕ} → u < sh .states → visited seen u ≡ true → Star (ChosenOf hs c) u t → visited seen t ≡ true
-    all-noted l e stay = e
-    all-noted {u} l e (go {m} r p) = all-noted (chosen-end ranged c r) (closed u m l e r) p
+    all-visited : {u t : ℕ} → u < sh .states → visited seen u ≡ true → Star (ChosenOf hs c) u t → visited seen t ≡ true
+    all-visited l e stay = e
+    all-visited {u} l e (go {m} r p) = all-visited (chosen-end ranged c r) (closed u m l e r) p
 
     noted-leads : s < sh .states → (t : ℕ) → t < sh .states → getD seen t 0 ≡ cond (leadsBy hs c (sh .states) s t) 1 0
     noted-leads m t l = at (leadsBy hs c (sh .states) s t) refl where
       at : (x : Bool) → leadsBy hs c (sh .states) s t ≡ x → getD seen t 0 ≡ cond x 1 0
-      at true e = visited-one seen t (all-noted m (a .started) (leads-walk hs c (sh .states) s t e))
+      at true e = visited-one seen t (all-visited m (a .started) (leads-walk hs c (sh .states) s t e))
       at false e = a .front .bits t l (no-test (visited seen t) (λ d. clash (a .led t l d) e))
 
     -- at the end the bytes are those of the states that s leads to

@@ -1,2 +1,2 @@
-pub mod Frontier  -- the parts of the search: noted states, and the queue
+pub mod Frontier  -- the parts of the search: visited states, and the queue
 pub mod Reach  -- what private functions and proofs cite beside it

@@ -18,7 +18,7 @@ ghost use lib.ListN.{length, drop, replicate};
 ghost use Rattle.walk_reach.specs.Internal.Reach.{chosenIn};
 ghost use Rattle.walk_reach.specs.Internal.Frontier.{visited, reachedBytes, seenWith, queueWith, tailWith, Chosen, Space, Frontier, Expanded};
 
-// No state is noted.
+// Sets the first n bytes to 0: no state is visited.
 fn clear(seen: &mut [u8], n: usize)
     requires { ⌜ n ≤ length (now seen) ⌝ }
     ensures { λ r. ⌜ now (seen .exit) ≡ replicate n 0 ++ drop n (now (seen .entry)) ⌝ }
@@ -30,7 +30,7 @@ fn clear(seen: &mut [u8], n: usize)
     }
 }
 
-// Notes t and puts it at the queue's end, unless it is noted already; returns the end.
+// Visits t and puts it at the queue's end, unless it is visited already; returns the end.
 fn visit(seen: &mut [u8], queue: &mut [u16], tail: usize, t: OldState) -> usize
     requires state { ⌜ t .0 < length (now seen) ⌝ }
     requires capacity { ⌜ (visited (now seen) (t .0) ≡ false → tail < length (now queue)) ⌝ }
@@ -47,7 +47,7 @@ fn visit(seen: &mut [u8], queue: &mut [u16], tail: usize, t: OldState) -> usize
     tail + 1
 }
 
-// Notes the ends of all chosen hops of v; returns the queue's end.
+// Visits the ends of all chosen hops of v; returns the queue's end.
 fn expand(
     shape: Shape,
     hops: &[u16],
@@ -77,7 +77,8 @@ fn expand(
     end
 }
 
-// The states that s leads to: afterwards a state's byte is 1 if s leads to it along chosen hops, and 0 if not. The queue is working space.
+// The states that s leads to: afterwards a state's byte is 1 if s leads to it along chosen hops,
+// and 0 if not. The queue is working space.
 pub fn reach(
     shape: Shape,
     hops: &[u16],

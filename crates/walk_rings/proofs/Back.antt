@@ -1,5 +1,5 @@
--- A state is on a ring exactly when it leads to a state that has a silent hop to it: the walk is cut before its last hop instead of after its first.
--- Assumes nothing.
+-- A state is on a ring exactly when it leads to a state that has a silent hop to it: the walk is
+-- cut before its last hop instead of after its first. Assumes nothing.
 use Prim.Native.Nat.{ℕ, _<_}
 use mathlib.Core.Path.{_≡_, refl, sym, _∙_}
 use mathlib.Core.Bool.{true, _&&_}
@@ -36,10 +36,11 @@ module _ (hs : List ℕ) where
 
 module _ {sh : Shape} {hs : List ℕ} (ranged : InRange sh hs) (bytes : List ℕ) (silent : Chooses hs (silentAt hs) bytes) (s : ℕ) (seen rest : List ℕ)
     (e : seen ≡ reachedBytes hs (chosenIn bytes) (sh .states) s ++ rest) where
-  noted-is : (t : ℕ) → t < sh .states → visited seen t ≡ leads hs (sh .states) s t
-  noted-is t l = rw e (visited-leads hs bytes silent (sh .states) s rest l)
+  visited-is : (t : ℕ) → t < sh .states → visited seen t ≡ leads hs (sh .states) s t
+  visited-is t l = rw e (visited-leads hs bytes silent (sh .states) s rest l)
 
-  -- after a search from s, some hop leads silently from a noted state to s exactly when s is on a ring
+  -- after a search from s, some hop leads silently from a visited state to s exactly when s is on a
+  -- ring
   pub back-ring : any (count hs) (leadsBackAt hs seen s) ≡ onRing hs (sh .states) s
   unfolding leadsBackAt
   back-ring = same-test (any (count hs) (leadsBackAt hs seen s)) (onRing hs (sh .states) s) fore back where
@@ -52,7 +53,7 @@ module _ {sh : Shape} {hs : List ℕ} (ranged : InRange sh hs) (bytes : List ℕ
         (record { at = i; within = l; from-is = refl; label-is = eqb-true _ _ (and-left (eqb (label hs i) 0) (eqb (to hs i) s) a); to-is = eqb-true _ _ (and-right (eqb (label hs i) 0) (eqb (to hs i) s) a) }) in
         walk-ring ranged s
         (ring-first hs s (from hs i)
-        (leads-walk hs (sh .states) s (from hs i) (sym (noted-is (from hs i) (ranged .from-in i l)) ∙ and-right (eqb (label hs i) 0 && eqb (to hs i) s) (visited seen (from hs i)) d)) r)
+        (leads-walk hs (sh .states) s (from hs i) (sym (visited-is (from hs i) (ranged .from-in i l)) ∙ and-right (eqb (label hs i) 0 && eqb (to hs i) s) (visited seen (from hs i)) d)) r)
 
     back : onRing hs (sh .states) s ≡ true → any (count hs) (leadsBackAt hs seen s) ≡ true
     back h =
@@ -60,4 +61,4 @@ module _ {sh : Shape} {hs : List ℕ} (ranged : InRange sh hs) (bytes : List ℕ
         let p = has-place hs u 0 s r in
         any-found (leadsBackAt hs seen s) (count hs) (p .within)
         (and-yes (and-yes (eq-eqb _ _ (p .label-is)) (eq-eqb _ _ (p .to-is)))
-        (noted-is (from hs (p .at)) (ranged .from-in (p .at) (p .within)) ∙ rw (p .from-is) (walk-leads ranged w)))
+        (visited-is (from hs (p .at)) (ranged .from-in (p .at) (p .within)) ∙ rw (p .from-is) (walk-leads ranged w)))

@@ -31,7 +31,7 @@ ghost use Rattle.walk_silent.specs.Internal.SilentBytes.{SilentChosen};
 ghost use Rattle.walk_acyclic.specs.Internal.Ranks.{Ranks};
 ghost use Rattle.walk_rings.specs.Internal.Ring.{leadsBackAt};
 
-// Whether the hop at the place leads silently from a noted state to s.
+// Whether the hop at the place leads silently from a visited state to s.
 fn returns_at(shape: Shape, hops: &[u16], i: usize, s: OldState, seen: &[u8]) -> bool
     requires admitted { ⌜ Admitted shape (now hops) ⌝ }
     requires capacity { ⌜ shape .states ≤ length (now seen) ⌝ }
@@ -59,7 +59,8 @@ fn returns(shape: Shape, hops: &[u16], s: OldState, seen: &[u8]) -> bool
     false
 }
 
-// Whether s is on a ring: no ranked state is; any other is if it leads to a state that has a silent hop to it.
+// Whether s is on a ring: no ranked state is; any other is if it leads to a state that has a silent
+// hop to it.
 fn is_on_ring(
     shape: Shape,
     hops: &[u16],
@@ -113,7 +114,8 @@ fn lowest_unranked(shape: Shape, hops: &[u16], starts: &[u16; STARTS], ranked: &
     n
 }
 
-// The lowest state on a ring, or the state count: a graph without rings is ranked whole, which costs it no search.
+// The lowest state on a ring, or the state count. In a graph without rings all states are ranked,
+// so that no search is made.
 pub fn lowest_on_ring(shape: Shape, hops: &[u16], starts: &[u16; STARTS]) -> usize
     requires { ⌜ Indexed shape (now hops) (now starts) ⌝ }
     ensures { λ r. ⌜ r ≡ lowestOnRing shape (now (hops .entry)) ⌝ }
@@ -126,7 +128,7 @@ pub fn lowest_on_ring(shape: Shape, hops: &[u16], starts: &[u16; STARTS]) -> usi
     lowest_unranked(shape, hops, starts, &ranked)
 }
 
-// The answer of row 5, by the table of first places, which whoever asks made and needs again.
+// The answer of row 5, by the table of first places, which the caller has made and needs again.
 pub fn ring_answer(shape: Shape, hops: &[u16], starts: &[u16; STARTS]) -> Answer
     requires { ⌜ Indexed shape (now hops) (now starts) ⌝ }
     ensures { λ r. ⌜ r ≡ ringAnswer shape (now (hops .entry)) ⌝ }

@@ -1,4 +1,5 @@
--- Silent hops: a silent hop of the graph is the hop at some place, and the silent hops are a chosen set. Assumes nothing.
+-- Silent hops: a silent hop of the graph is the hop at some place, and the silent hops are a chosen
+-- set. Assumes nothing.
 use Prim.Native.Nat.{ℕ, _<_}
 use mathlib.Core.Path.{_≡_, refl}
 use mathlib.Core.Bool.{Bool, true, false, cond}
@@ -36,7 +37,7 @@ module _ (hs : List ℕ) where
   chosen-silent s t p =
       place-has hs s 0 t (record { at = p .at; within = p .within; from-is = p .from-is; label-is = eqb-true _ _ (p .chosen); to-is = p .to-is })
 
--- the byte of a test tells it
+-- the byte of a test is 1 exactly when the test passes
 pub byte-result : {n : ℕ} (x : Bool) → n ≡ cond x 1 0 → eqb n 1 ≡ x
 byte-result true e = eq-eqb _ _ e
 byte-result false e = rw e

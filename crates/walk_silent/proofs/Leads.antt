@@ -1,4 +1,5 @@
--- The bounded test `leads` and the walk `Leads` agree once the bound is the state count, as they do for every chosen set. Assumes nothing.
+-- The bounded test `leads` and the walk `Leads` agree once the bound is the state count, as they do
+-- for every chosen set. Assumes nothing.
 use Prim.Native.Nat.{ℕ, _<_}
 use mathlib.Core.Path.{_≡_, ap, _∙_}
 use mathlib.Core.Bool.{Bool, true}

@@ -1,5 +1,5 @@
--- What the answer of row 5 says of rings; and without rings, a rank that falls along every silent hop: the number of states that a state leads to.
--- Assumes nothing.
+-- What the answer of row 5 says of rings; and without rings, a rank that falls along every silent
+-- hop: the number of states that a state leads to. Assumes nothing.
 use Prim.Native.Nat.{ℕ, _<_, _≤_}
 use mathlib.Core.Path.{_≡_, refl}
 use mathlib.Core.Bool.{Bool, true, false, cond, _&&_}
@@ -49,7 +49,7 @@ module _ {sh : Shape} {hs : List ℕ} (ranged : InRange sh hs) where
   pub no-ring-test : (s : ℕ) → (OnRing hs s → ⊥) → onRing hs (sh .states) s ≡ false
   no-ring-test s f = no-test _ (λ e. f (ring-walk hs (sh .states) s e))
 
-  -- the number that `lowestOnRing` gives, if it is a state, is on a ring
+  -- `lowestOnRing`, if it is a state, is on a ring
   pub lowest-on-ring : lowestOnRing sh hs < sh .states → OnRing hs (lowestOnRing sh hs)
   unfolding lowestOnRing
   lowest-on-ring l = ring-walk hs (sh .states) _ (least-passes (onRing hs (sh .states)) (sh .states) l)
@@ -63,12 +63,14 @@ module _ {sh : Shape} {hs : List ℕ} (ranged : InRange sh hs) where
   pub no-ring : sh .states ≤ lowestOnRing sh hs → (s : ℕ) → OnRing hs s → ⊥
   no-ring l s w = none-lower s (let h : s < sh .states = ring-start s w in omega arith) w
 
-  -- the two together: what to show of a number to show that it is the lowest on a ring, or the state count
+  -- the two together: what to show of a number to show that it is the lowest on a ring, or the
+  -- state count
   pub lowest-is : (r : ℕ) → r ≤ sh .states → ((j : ℕ) → j < r → OnRing hs j → ⊥) → (r < sh .states → OnRing hs r) → lowestOnRing sh hs ≡ r
   unfolding lowestOnRing
   lowest-is r h f g =
       least-is (onRing hs (sh .states)) (sh .states) r h (λ j l. no-ring-test j (f j l)) (λ l. walk-ring r (g l))
 
+  -- row 5 lets a graph pass exactly where no state is on a ring
   pub ring-answer-iff : (ringAnswer sh hs .number ≡ 0) ↔ ((s : ℕ) → OnRing hs s → ⊥)
   unfolding ringAnswer
   ring-answer-iff = (fore (ltb (lowestOnRing sh hs) (sh .states)) refl, back-way) where

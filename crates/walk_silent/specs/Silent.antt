@@ -12,14 +12,17 @@ use Rattle.graph.specs.declared.Answer.{Answer}
 use Rattle.lts.specs.Star.{Star}
 use Rattle.walk_reach.specs.Reach.{leadsBy}
 
--- the graph's hops as a relation, and its silent ones
+-- the graph's hops as a relation
 abbrev pub HopOf : List ℕ → ℕ → ℕ → ℕ → Type 0
 HopOf hs s a t = has hs s a t ≡ true
 
+-- its silent hops, those labelled 0.
+-- In the field: tau (internal) transitions.
 abbrev pub SilentOf : List ℕ → ℕ → ℕ → Type 0
 SilentOf hs s t = HopOf hs s 0 t
 
 -- "s leads by zero or more silent hops to t"
+-- In the field: tau-reachability, the reflexive transitive closure of tau.
 abbrev pub Leads : List ℕ → ℕ → ℕ → Type 0
 Leads hs = Star (SilentOf hs)
 
@@ -31,7 +34,9 @@ silentAt hs i = eqb (label hs i) 0
 abbrev pub leads : List ℕ → ℕ → ℕ → ℕ → Bool
 leads hs = leadsBy hs (silentAt hs)
 
--- "A ring is a closed walk of one or more silent hops": s is on one when a silent hop of s leads to a state that leads back to s
+-- "A ring is a closed walk of one or more silent hops": s is on one when a silent hop of s leads to
+-- a state that leads back to s.
+-- In the field: a silent (tau) cycle.
 abbrev pub OnRing : List ℕ → ℕ → Type 0
 OnRing hs s = (t : ℕ) × SilentOf hs s t × Leads hs t s
 

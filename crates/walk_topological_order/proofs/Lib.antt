@@ -1,2 +1,2 @@
-pub mod Rows  -- the row of a state, put at the end of the line
-pub mod Ordering  -- a line with one state more, a pass that places none, and the whole line
+pub mod Rows  -- the silent hops of a state, appended to the order
+pub mod Ordering  -- the order with one state more, a pass that places none, and the whole order

@@ -1,4 +1,5 @@
--- Laws of a line in the making: no state placed, one state more, a pass that places none, and the whole line. Assumes nothing.
+-- Laws of the order while it is made: no state placed, one state more, a pass that places none, and
+-- the whole order. Assumes nothing.
 use Prim.Native.Nat.{ℕ, zero, suc, _+_, _-_, _<_, _≤_}
 use mathlib.Core.Path.{_≡_, refl, sym, ap, subst, _∙_}
 use mathlib.Core.Bool.{Bool, true, false, not, _||_}
@@ -61,7 +62,7 @@ ordered-none {sh} {hs} {sorted} ranged capacity m w = record {
 pub ordered-states : {hs : List ℕ} {n : ℕ} {placed sorted : List ℕ} {at : Counts} → OrderedSoFar hs n placed sorted at → at .states ≤ n
 ordered-states {n = n} {placed} x = omega (arith, x .counted, tally-within (visited placed) n)
 
--- a state more is placed, all of whose silent hops lead to placed states
+-- one more state is placed, all of whose silent hops lead to placed states
 module _ {hs : List ℕ} {n : ℕ} {placed sorted : List ℕ} {at : Counts} (x : OrderedSoFar hs n placed sorted at) (v : ℕ) (l : v < n) (off : visited placed v ≡ false) where
   abbrev after : List ℕ
   after = set placed v 1
@@ -86,12 +87,12 @@ module _ {hs : List ℕ} {n : ℕ} {placed sorted : List ℕ} {at : Counts} (x :
   grown : tally (count hs) (isOrdered hs placed) + tally (count hs) (labelled hs v 0) ≤ tally (count hs) (isOrdered hs after)
   grown = tally-both (isOrdered hs placed) (labelled hs v 0) (isOrdered hs after) (count hs) (λ i k e. (apart i e, still i e)) (λ i k d. new i d)
 
-  -- its row fits
+  -- its silent hops fit into the order
   pub row-fits : at .places + tally (count hs) (labelled hs v 0) ≤ count hs
   row-fits = omega (arith, x .few, grown, tally-within (isOrdered hs after) (count hs))
 
   module _ (e : endsVisited hs placed v ≡ true) {sorted′ : List ℕ} {r : ℕ} (p : RowAppended hs v sorted (at .places) sorted′ r) where
-    -- all that stands in the line leads to states that were placed before
+    -- all hops in the order lead to states that were placed before
     leads-back : (j : ℕ) → j < r → visited placed (to hs (getD sorted′ j 0)) ≡ true
     leads-back j m = go (lt-or-le j (at .places)) where
       go : (j < at .places) ⊎ (at .places ≤ j) → visited placed (to hs (getD sorted′ j 0)) ≡ true
@@ -189,7 +190,7 @@ pass-more {sh} {hs} {placed} ranged free x down (none q c f) w l =
       each : (u : ℕ) → u < sh .states → Stuck hs placed u
       each u m = let (j, h, e) = pass-state-back (sh .states) down u m in f u (j, omega arith, e)
 
--- all states are placed: the line is whole
+-- all states are placed: the order is whole
 pub ordered-whole : {sh : Shape} {hs placed sorted : List ℕ} {at : Counts} → InRange sh hs → OrderedSoFar hs (sh .states) placed sorted at → sh .states ≤ at .states →
     TopologicalOrder hs sorted (at .places)
 ordered-whole {sh} {hs} {placed} {sorted} {at} ranged x w = record {

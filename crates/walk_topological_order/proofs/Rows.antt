@@ -1,4 +1,4 @@
--- A row of silent hops that is put at the end of the line, hop by hop. Assumes nothing.
+-- The silent hops of a state (its row) appended to the order, hop by hop. Assumes nothing.
 use Prim.Native.Nat.{ℕ, _+_, _-_, _<_, _≤_}
 use mathlib.Core.Path.{_≡_, refl, _∙_}
 use mathlib.Core.Bool.{true}
@@ -20,7 +20,8 @@ use Rattle.graph_successors.proofs.Firsts.{range-more}
 use Rattle.graph_successors.proofs.Rows.{labelled-holds, labelled-only, labelled-past, silent-first}
 use Rattle.walk_topological_order.specs.Internal.Ordering.{RowAppended}
 
--- the places from lo up to i, all of silent hops of v, stand behind the first n of the line, which has r then
+-- the places from lo up to i, all of silent hops of v, stand behind the first n of the order, which
+-- then has r
 pub record Putting (hs : List ℕ) (v lo : ℕ) (sorted : List ℕ) (n : ℕ) (sorted′ : List ℕ) (i r : ℕ) : Type 0 where
   pub long : length sorted′ ≡ length sorted
   pub passed : lo ≤ i
@@ -46,7 +47,7 @@ module _ {hs : List ℕ} {v lo : ℕ} {sorted : List ℕ} {n : ℕ} where
     silent = λ j l m. absurd (omega arith);
   }
 
-  -- there is room for a silent hop of v more
+  -- there is capacity for one more silent hop of v
   pub putting-capacity : {sorted′ : List ℕ} {i r : ℕ} → Putting hs v lo sorted n sorted′ i r → i < count hs → labelled hs v 0 i ≡ true →
       r < n + tally (count hs) (labelled hs v 0)
   putting-capacity {i = i} p l e = omega (arith, p .few-yet, tally-past (labelled hs v 0) (count hs) {i = i} l e)
@@ -98,7 +99,7 @@ module _ {hs : List ℕ} {v lo : ℕ} {sorted : List ℕ} {n : ℕ} where
         let y : (n + j) - lo < r = omega (arith, p .longer) in
         ((n + j) - lo, x, y, omega (arith, p .fresh ((n + j) - lo) x y))
 
--- the same, where the state is told twice
+-- the same for two names of one state
 module _ (hs : List ℕ) {s v : ℕ} (e : s ≡ v) where
   pub row-result : tally (count hs) (labelled hs s 0) ≡ tally (count hs) (labelled hs v 0)
   row-result = rw e

@@ -1,2 +1,2 @@
-pub mod TopologicalOrder  -- the silent hops in an order in which they lead on
-pub mod Ordering  -- a line in the making: placed states, and what a try and a pass do
+pub mod TopologicalOrder  -- the silent hops in reverse topological order
+pub mod Ordering  -- the order while it is made: placed states, and what a try and a pass do

@@ -25,13 +25,14 @@ ghost use Rattle.graph_successors.specs.Internal.SuccessorIndex.{Indexed};
 ghost use Rattle.walk_topological_order.specs.Internal.TopologicalOrder.{TopologicalOrder};
 ghost use Rattle.walk_topological_order.specs.Internal.Ordering.{passState, RowAppended, OrderedSoFar, PlacedOrStuck, OnlyState, PassGains};
 
-// How far it has come: how many states are placed, and how many places stand in the line.
+// How far it has come: how many states are placed, and how many places the order has so far.
 pub struct Counts {
     pub states: usize,
     pub places: usize,
 }
 
-// Puts the places of v's silent hops, the first of its hops, at the end of the line; returns how long it is then.
+// Appends the places of v's silent hops, which are the first of its hops, to the order; returns how
+// long it is then.
 fn put_row(
     shape: Shape,
     hops: &[u16],
@@ -129,7 +130,8 @@ fn place_each(
     got
 }
 
-// The line of a graph without rings; returns how many places it has. Each pass places a state at least: one of those of the least rank that are left.
+// The order of the silent hops of a graph without rings; returns how many places it has. Each pass
+// places at least one state: one of the least rank among those that are left.
 pub fn order_of(
     shape: Shape,
     hops: &[u16],

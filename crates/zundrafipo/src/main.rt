@@ -11,14 +11,16 @@ use report_entry::print::MOST_TEXT;
 use report_entry::print::print_file;
 ghost use Rattle.io.specs.Counts.{Counts};
 
-// What came of reading: how many bytes were taken, and whether a read failed before the end of the input was seen.
+// What came of reading: how many bytes were taken, and whether a read failed before the end of the
+// input was seen.
 struct Input {
     taken: usize,
     failed: bool,
 }
 
-// Reads until the buffer is full, the input ends or a read fails. A read may take fewer bytes than there is room for, as from a pipe, and only one
-// that takes none is the end. A read that a signal interrupted counts as one that failed; the program catches no signal.
+// Reads until the buffer is full, the input ends or a read fails. A read may take fewer bytes than
+// the buffer has left, as from a pipe, and only one that takes none is the end. A read that a
+// signal interrupted counts as one that failed; the program catches no signal.
 fn read_input(fd: i32, buffer: &mut [u8]) -> Input
     ensures { λ r. ⌜ Counts (r .taken) (now (buffer .exit)) ⌝ }
 {

@@ -1,4 +1,5 @@
--- `audit_admitted::audit_answer` meets its contract: each way out is a case of the definition. Assumes nothing.
+-- `audit_admitted::audit_answer` meets its contract: each way out is a case of the definition.
+-- Assumes nothing.
 use borrow.Author.Needs.{needs}
 use mathlib.Core.Path.{_∙_}
 use Rattle.audit_admitted.proofs.Admitted.{answer-first, answer-second, answer-labels, answer-map}

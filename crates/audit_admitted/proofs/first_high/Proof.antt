@@ -1,4 +1,5 @@
--- `audit_admitted::first_high` meets its contract: no entry passed so far is the one looked for. Assumes nothing.
+-- `audit_admitted::first_high` meets its contract: no entry passed so far is the one looked for.
+-- Assumes nothing.
 use borrow.Author.Needs.{needs}
 use Prim.Native.Nat.{ℕ, _≤_, _-_}
 use mathlib.Core.Path.{_≡_, sym, _∙_}

@@ -1,4 +1,5 @@
--- `audit_admitted::map_fits` meets its contract: each way out is a case of the definition. Assumes nothing.
+-- `audit_admitted::map_fits` meets its contract: each way out is a case of the definition. Assumes
+-- nothing.
 use borrow.Author.Needs.{needs}
 use mathlib.Core.Path.{_∙_}
 use Rattle.audit_admitted.proofs.Admitted.{fits-length, fits-high, fits-accepts}

@@ -1,4 +1,5 @@
--- `audit_matched::stamp_all` meets its contract: the stamps are those of the hops of the states passed so far. Assumes nothing.
+-- `audit_matched::stamp_all` meets its contract: the stamps are those of the hops of the states
+-- passed so far. Assumes nothing.
 use borrow.Author.Needs.{needs}
 use Prim.Native.Nat.{_≤_, _-_}
 use mathlib.Core.Path.{_≡_}

@@ -1,4 +1,5 @@
--- `audit_matched::stamp_hop` meets its contract: a place past the stamps changes nothing. Assumes nothing.
+-- `audit_matched::stamp_hop` meets its contract: a place past the stamps changes nothing. Assumes
+-- nothing.
 use borrow.Author.Needs.{needs}
 use Prim.Native.Nat.{ℕ}
 use mathlib.Core.Path.{sym, ap, _∙_}

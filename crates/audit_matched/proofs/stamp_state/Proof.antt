@@ -1,5 +1,5 @@
--- `audit_matched::stamp_state` meets its contract: the stamps are those of the hops passed so far; those of another state tick nothing.
--- Assumes nothing.
+-- `audit_matched::stamp_state` meets its contract: the stamps are those of the hops passed so far;
+-- those of another state stamp nothing. Assumes nothing.
 use borrow.Author.Needs.{needs}
 use Prim.Native.Nat.{_+_, _≤_, _-_}
 use mathlib.Core.Path.{_≡_, refl, sym, ap, _∙_}

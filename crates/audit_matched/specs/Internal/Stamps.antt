@@ -15,13 +15,14 @@ use Rattle.graph_successors.specs.Internal.SuccessorIndex.{SuccessorIndex}
 use Rattle.walk_reach.specs.Internal.Frontier.{visited}
 use Rattle.audit_faults.specs.Internal.Images.{Auditable, Imaged}
 
--- what ticking has at hand: the two graphs and the map, the first places of graph 1, and the places of its hops in graph 2
+-- what the stamping requires: the two graphs and the map, the first places of graph 1, and the
+-- places of its hops in graph 2
 pub record StampInput (sh1 : Shape) (h1 st1 h2 m images : List ℕ) : Type 0 where
   pub auditable : Auditable sh1 h1 h2 m
   pub table : SuccessorIndex h1 st1
   pub imaged : Imaged h1 h2 m images
 
--- the hop at place i of graph 1 leaves a state that is noted in `seen` and whose map is r
+-- the hop at place i of graph 1 leaves a state that is visited, by `seen`, and whose map is r
 unfoldable pub seenInClass : List ℕ → List ℕ → List ℕ → ℕ → ℕ → Bool
 seenInClass h1 m seen r i = visited seen (from h1 i) && eqb (mapped m (from h1 i)) r
 
@@ -29,12 +30,14 @@ seenInClass h1 m seen r i = visited seen (from h1 i) && eqb (mapped m (from h1 i
 unfoldable pub stampsHop : List ℕ → List ℕ → List ℕ → List ℕ → ℕ → ℕ → ℕ → Bool
 stampsHop h1 h2 m seen r j i = seenInClass h1 m seen r i && is h2 r (label h1 i) (mapped m (to h1 i)) j
 
--- after the first n hops of graph 1 the stamp k stands at the places that they tick, and every other stamp is as it was
+-- after the first n hops of graph 1 the stamp k stands at the places that they stamp, and every
+-- other stamp is as it was
 unfoldable pub StampedUpTo : List ℕ → List ℕ → List ℕ → List ℕ → ℕ → ℕ → ℕ → List ℕ → List ℕ → Type 0
 StampedUpTo h1 h2 m seen r k n before after =
     (j : ℕ) → j < count h2 → getD after j 0 ≡ cond (any n (stampsHop h1 h2 m seen r j)) k (getD before j 0)
 
--- what the hops of graph 1 from place lo up to hi do: stamps that those before lo have ticked are then those that all before hi have
+-- what the hops of graph 1 from place lo up to hi do: if the stamps before are those of all hops
+-- before lo, the stamps after are those of all hops before hi
 unfoldable pub StampedFrom : List ℕ → List ℕ → List ℕ → List ℕ → ℕ → ℕ → ℕ → ℕ → List ℕ → List ℕ → Type 0
 StampedFrom h1 h2 m seen r k lo hi before after =
     (first : List ℕ) → StampedUpTo h1 h2 m seen r k lo first before → StampedUpTo h1 h2 m seen r k hi first after

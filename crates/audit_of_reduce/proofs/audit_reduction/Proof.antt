@@ -1,4 +1,5 @@
--- `audit_of_reduce::audit_reduction` meets its contract: the reduction was accepted, and the two parts are the fronts. Assumes nothing.
+-- `audit_of_reduce::audit_reduction` meets its contract: the reduction was accepted, and the two
+-- parts are the fronts. Assumes nothing.
 use borrow.Author.Needs.{needs}
 use Prim.Native.Nat.{_-_}
 use mathlib.Core.Path.{_≡_}

@@ -1,4 +1,5 @@
--- `audit_of_reduce::reduce_and_audit` meets its contract: by the contracts of `reduce` and `audit_reduction`, and by `reduce-audit-zero`. Assumes nothing.
+-- `audit_of_reduce::reduce_and_audit` meets its contract: by the contracts of `reduce` and
+-- `audit_reduction`, and by `reduce-audit-zero`. Assumes nothing.
 use borrow.Author.Needs.{needs}
 use native.Mathlib.Omega.{arith}
 use borrow.Author.Tests.{ne-eqb}

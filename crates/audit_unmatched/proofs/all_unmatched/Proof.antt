@@ -1,5 +1,5 @@
--- `audit_unmatched::all_unmatched` meets its contract: the tables are made, the working space is long enough, and its stamps are 0.
--- Assumes nothing.
+-- `audit_unmatched::all_unmatched` meets its contract: the tables are made, the working space is
+-- long enough, and its stamps are 0. Assumes nothing.
 use borrow.Author.Needs.{needs}
 use Prim.Native.Nat.{ℕ}
 use native.Mathlib.Omega.{arith}

@@ -1,4 +1,5 @@
--- `audit_unmatched::first_unstamped` meets its contract: none of the hops passed so far is unticked, nor one before the first or past the last. Assumes nothing.
+-- `audit_unmatched::first_unstamped` meets its contract: none of the hops passed so far is
+-- unstamped, nor one before the first hop of r or past its last. Assumes nothing.
 use borrow.Author.Needs.{needs}
 use Prim.Native.Nat.{ℕ, _+_, _≤_, _-_}
 use mathlib.Core.Path.{_≡_, sym, ap, _∙_}

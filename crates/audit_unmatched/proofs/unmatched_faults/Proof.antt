@@ -1,5 +1,5 @@
--- `audit_unmatched::unmatched_faults` meets its contract: the count is that of the states passed so far, the smallest place of theirs is kept, and the next stamp is
--- fresh. Assumes nothing.
+-- `audit_unmatched::unmatched_faults` meets its contract: the count is that of the states passed so
+-- far, the smallest place of theirs is kept, and the next stamp is fresh. Assumes nothing.
 use borrow.Author.Needs.{needs}
 use Prim.Native.Nat.{_+_, _≤_, _-_}
 use mathlib.Core.Path.{_≡_, sym, _∙_}

@@ -1,4 +1,5 @@
--- `audit_unmatched::unmatched_of` meets its contract: what the search from s noted ticks what s backs. Assumes nothing.
+-- `audit_unmatched::unmatched_of` meets its contract: the states that the search from s visited
+-- stamp what s matches. Assumes nothing.
 use borrow.Author.Needs.{needs}
 use native.Mathlib.Omega.{arith}
 use lib.ListN.{drop}
@@ -48,7 +49,8 @@ same-length-2 c = omega arith
 same-length-3 : tie.Need-same-length-3
 same-length-3 c = omega arith
 
--- what the search noted, the ticks and the fresh stamps, as the laws on them ask for it
+-- what the search visited, the stamps it led to and the fresh stamps before, as the laws on them
+-- ask
 returns : tie.Need-returns
 returns c =
     let s = c .before .before .before .before .before .before .before .before .before .before .before .before .before .before .before .before .before .before .before .before .before .before .before .before .before in

@@ -15,8 +15,8 @@ use Rattle.walk_silent.specs.Internal.SilentBytes.{SilentChosen}
 use Rattle.audit_faults.specs.Faults.{unmatched}
 use Rattle.audit_matched.specs.Internal.Stamps.{StampInput}
 
--- what ticking has at hand, and besides, for the search from a state and for the count of what it did not tick: the silent hops of graph 1, and the first
--- places of graph 2
+-- what the stamping requires, and also, for the search from a state and for the count of the
+-- unstamped hops, the silent hops of graph 1 and the first places of graph 2
 pub record CountInput (sh1 : Shape) (h1 st1 bytes h2 st2 m images : List ℕ) : Type 0 where
   pub stamping : StampInput sh1 h1 st1 h2 m images
   pub silent : SilentChosen sh1 h1 st1 bytes
@@ -27,7 +27,8 @@ pub record Workspace (n : ℕ) (h2 seen queue stamps : List ℕ) : Type 0 where
   pub search : Space n seen queue
   pub stamp-a-hop : count h2 ≤ length stamps
 
--- the hop at place j of graph 2 leaves r, is no silent hop from r to itself, and has not the stamp k
+-- the hop at place j of graph 2 leaves r, is no silent hop from r to itself, and has not the stamp
+-- k
 unfoldable pub unstamped : List ℕ → List ℕ → ℕ → ℕ → ℕ → Bool
 unstamped h2 stamps r k j = eqb r (from h2 j) && not ((eqb (label h2 j) 0 && eqb (from h2 j) (to h2 j)) || eqb (getD stamps j 0) k)
 
@@ -39,6 +40,6 @@ Fresh h2 stamps k = (j : ℕ) → j < count h2 → getD stamps j 0 < k
 unfoldable pub unmatchedOf : Shape → List ℕ → List ℕ → List ℕ → ℕ → ℕ
 unmatchedOf sh1 h1 h2 m s = tally (count h2) (λ (j : ℕ). unmatched sh1 h1 h2 m j s)
 
--- the place of the first hop of graph 2 that is made up for the state s, or the hop count
+-- the place of the first hop of graph 2 that is unmatched for the state s, or the hop count
 unfoldable pub unmatchedPlaceOf : Shape → List ℕ → List ℕ → List ℕ → ℕ → ℕ
 unmatchedPlaceOf sh1 h1 h2 m s = least (count h2) (λ (j : ℕ). unmatched sh1 h1 h2 m j s)

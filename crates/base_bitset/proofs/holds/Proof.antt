@@ -1,4 +1,5 @@
--- `base_bitset::holds` meets its contract: a word cut by the other is the other exactly when it has its bits. Assumes nothing.
+-- `base_bitset::holds` meets its contract: the intersection of a word with the other is the other
+-- exactly when the word has its bits. Assumes nothing.
 use Rattle.base_bitset.proofs.Laws.{cut-holds}
 use Rattle.base_bitset.proofs.holds.Statement.{statement}
 use Rattle.base_bitset.proofs.holds.Tie as tie

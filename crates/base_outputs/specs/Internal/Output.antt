@@ -1,4 +1,5 @@
--- What only private functions and proofs cite beside `Output`. Assumes nothing: this is a definition.
+-- What only private functions and proofs cite beside `Output`. Assumes nothing: this is a
+-- definition.
 use Prim.Native.Nat.{ℕ, _+_}
 use mathlib.Core.List.{List, _++_}
 use lib.ListN.{length, take, drop}

@@ -1,4 +1,5 @@
--- `c_answer::put_answer` meets its contract: the answer slice is too short, or the figures stand at its front. Assumes nothing.
+-- `c_answer::put_answer` meets its contract: the answer slice is too short, or the figures stand at
+-- its front. Assumes nothing.
 use borrow.Author.Needs.{needs}
 use mathlib.Core.Path.{_∙_}
 use Rattle.c_answer.proofs.Answers.{long-returns}

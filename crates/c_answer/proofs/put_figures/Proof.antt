@@ -1,4 +1,5 @@
--- `c_answer::put_figures` meets its contract: after i turns the first i figures stand at the front. Assumes nothing.
+-- `c_answer::put_figures` meets its contract: after i steps the first i figures stand at the front.
+-- Assumes nothing.
 use Prim.Native.Nat.{_-_, _≤_}
 use mathlib.Core.Path.{_≡_, refl}
 use native.Mathlib.Omega.{arith}

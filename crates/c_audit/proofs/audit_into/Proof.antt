@@ -1,4 +1,5 @@
--- `c_audit::audit_into` meets its contract: what is told of the result is told of the audit's. Assumes nothing.
+-- `c_audit::audit_into` meets its contract: what is written and returned is that of the audit's
+-- result. Assumes nothing.
 use borrow.Author.Needs.{needs}
 use mathlib.Core.Path.{ap}
 use Rattle.audit_entry.specs.declared.Audit.{Audit}

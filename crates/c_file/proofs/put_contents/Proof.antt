@@ -1,4 +1,5 @@
--- `c_file::put_contents` meets its contract: the figures are the numbers of what was read. Assumes nothing.
+-- `c_file::put_contents` meets its contract: the figures are the numbers of what was read. Assumes
+-- nothing.
 use borrow.Author.Needs.{needs}
 use Rattle.c_file.proofs.put_contents.Statement.{statement}
 use Rattle.c_file.proofs.put_contents.Tie as tie

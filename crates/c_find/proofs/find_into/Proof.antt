@@ -1,4 +1,5 @@
--- `c_find::find_into` meets its contract: what is told of the finding is told of find's. Assumes nothing.
+-- `c_find::find_into` meets its contract: what is written and returned is that of the result of
+-- `find`. Assumes nothing.
 use borrow.Author.Needs.{needs}
 use mathlib.Core.Path.{ap}
 use lib.ListN.{length}

@@ -1,4 +1,5 @@
--- `c_hops_of::hops_of_into` meets its contract: what is told of the part is told of the state's. Assumes nothing.
+-- `c_hops_of::hops_of_into` meets its contract: the start and the length that are written are those
+-- of the state's hops. Assumes nothing.
 use borrow.Author.Needs.{needs}
 use Rattle.c_hops_of.specs.Numbers.{spanNumbers}
 use lib.ListN.{length}

@@ -1,4 +1,5 @@
--- `c_mark::check_into` meets its contract: what is told of the answer is told of the check's. Assumes nothing.
+-- `c_mark::check_into` meets its contract: what is written and returned is the answer of `check`.
+-- Assumes nothing.
 use borrow.Author.Needs.{needs}
 use mathlib.Core.List.{[]}
 use Rattle.graph.specs.declared.Answer.{Answer}

@@ -1,4 +1,5 @@
--- `c_mark::mark_fast_into` meets its contract: where the answer slice is too short, only the answer is found. Assumes nothing.
+-- `c_mark::mark_fast_into` meets its contract: where the answer slice is too short, only the answer
+-- is found. Assumes nothing.
 use mathlib.Core.Path.{ap}
 use Rattle.mark_entry_fast.specs.declared.Counted.{Counted}
 use Rattle.mark_entry_fast.specs.Fast.{markFastOf}

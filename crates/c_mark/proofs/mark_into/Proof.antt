@@ -1,4 +1,5 @@
--- `c_mark::mark_into` meets its contract: where the answer slice is too short, only the answer is found. Assumes nothing.
+-- `c_mark::mark_into` meets its contract: where the answer slice is too short, only the answer is
+-- found. Assumes nothing.
 use borrow.Author.Needs.{needs}
 use lib.ListN.{length}
 use mathlib.Core.List.{[]}

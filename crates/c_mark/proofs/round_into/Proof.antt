@@ -1,4 +1,5 @@
--- `c_mark::round_into` meets its contract: what is told of the result is told of the round question's. Assumes nothing.
+-- `c_mark::round_into` meets its contract: what is written and returned is that of the round
+-- question's result. Assumes nothing.
 use borrow.Author.Needs.{needs}
 use mathlib.Core.Path.{ap}
 use Rattle.mark_entry_round.specs.declared.RoundAnswer.{RoundAnswer}

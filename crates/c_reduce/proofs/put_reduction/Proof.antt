@@ -1,4 +1,5 @@
--- `c_reduce::put_reduction` meets its contract: the figures are the reduction's numbers. Assumes nothing.
+-- `c_reduce::put_reduction` meets its contract: the figures are the reduction's numbers. Assumes
+-- nothing.
 use borrow.Author.Needs.{needs}
 use Rattle.c_reduce.proofs.put_reduction.Statement.{statement}
 use Rattle.c_reduce.proofs.put_reduction.Tie as tie

@@ -1,4 +1,5 @@
--- `c_reduce::reduce_into` meets its contract: where the answer slice is too short, only the answer is found. Assumes nothing.
+-- `c_reduce::reduce_into` meets its contract: where the answer slice is too short, only the answer
+-- is found. Assumes nothing.
 use borrow.Author.Needs.{needs}
 use mathlib.Core.Path.{ap, _∙_}
 use Rattle.reduce_entry.specs.declared.Reduction.{Reduction}

@@ -1,4 +1,5 @@
--- `c_shrink::put_shrinking` meets its contract: the figures are the shrinking's numbers. Assumes nothing.
+-- `c_shrink::put_shrinking` meets its contract: the figures are the shrinking's numbers. Assumes
+-- nothing.
 use borrow.Author.Needs.{needs}
 use Rattle.c_shrink.proofs.put_shrinking.Statement.{statement}
 use Rattle.c_shrink.proofs.put_shrinking.Tie as tie

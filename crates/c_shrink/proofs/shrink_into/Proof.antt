@@ -1,4 +1,5 @@
--- `c_shrink::shrink_into` meets its contract: where the answer slice is too short, only the answer is found. Assumes nothing.
+-- `c_shrink::shrink_into` meets its contract: where the answer slice is too short, only the answer
+-- is found. Assumes nothing.
 use borrow.Author.Needs.{needs}
 use mathlib.Core.Path.{ap, _∙_}
 use Rattle.shrink_entry.specs.declared.Shrinking.{Shrinking}

@@ -1,4 +1,5 @@
--- `file_encode::initial_length` meets its contract: each way out is a case of the definition. Assumes nothing.
+-- `file_encode::initial_length` meets its contract: each way out is a case of the definition.
+-- Assumes nothing.
 use mathlib.Core.Path.{sym, ap}
 use lib.ListN.{length}
 use Rattle.file_encode.proofs.Encoded.{initial-none, initial-some}

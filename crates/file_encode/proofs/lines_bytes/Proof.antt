@@ -1,4 +1,5 @@
--- `file_encode::lines_bytes` meets its contract: each way out is a case of the definition. Assumes nothing.
+-- `file_encode::lines_bytes` meets its contract: each way out is a case of the definition. Assumes
+-- nothing.
 use mathlib.Core.Path.{sym, ap, _∙_}
 use lib.ListN.{length}
 use Rattle.file_lines.specs.LineField.{linesLength}

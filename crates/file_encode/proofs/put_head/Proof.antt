@@ -1,4 +1,5 @@
--- `file_encode::put_head` meets its contract: byte 0, then two numbers, one after the other. Assumes nothing.
+-- `file_encode::put_head` meets its contract: byte 0, then two numbers, one after the other.
+-- Assumes nothing.
 use mathlib.Core.Path.{refl}
 use native.Mathlib.Omega.{arith}
 use lib.ListN.{length-set}

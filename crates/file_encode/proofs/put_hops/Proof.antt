@@ -1,4 +1,5 @@
--- `file_encode::put_hops` meets its contract: each way out is a case of the definition. Assumes nothing.
+-- `file_encode::put_hops` meets its contract: each way out is a case of the definition. Assumes
+-- nothing.
 use mathlib.Core.Path.{_∙_}
 use native.Mathlib.Omega.{arith}
 use Rattle.file_encode.proofs.Encoded.{length-hops-some, hops-put-none, hops-put}

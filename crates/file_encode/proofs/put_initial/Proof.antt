@@ -1,4 +1,5 @@
--- `file_encode::put_initial` meets its contract: each way out is a case of the definition. Assumes nothing.
+-- `file_encode::put_initial` meets its contract: each way out is a case of the definition. Assumes
+-- nothing.
 use mathlib.Core.Path.{ap}
 use native.Mathlib.Omega.{arith}
 use lib.ListN.{length}

@@ -1,4 +1,5 @@
--- `file_encode::put_lines_of` meets its contract: each way out is a case of the definition. Assumes nothing.
+-- `file_encode::put_lines_of` meets its contract: each way out is a case of the definition. Assumes
+-- nothing.
 use mathlib.Core.Path.{sym, _∙_}
 use native.Mathlib.Omega.{arith}
 use Rattle.file_encode.proofs.Encoded.{length-lines-some, lines-put-none, lines-put}

@@ -1,4 +1,5 @@
--- What only private functions and proofs cite beside `Encode`. Assumes nothing: this is a definition.
+-- What only private functions and proofs cite beside `Encode`. Assumes nothing: this is a
+-- definition.
 use Prim.Native.Nat.{ℕ, _≤_}
 use mathlib.Core.List.{List}
 use lib.ListN.{length}
@@ -8,7 +9,7 @@ use Rattle.graph.specs.declared.Shape.{Shape}
 use Rattle.file_numbers.specs.Internal.Numbers.{most-number}
 use Rattle.file_encode.specs.Encode.{encode}
 
--- what putting a file asks: its numbers are 16-bit, and the output has room
+-- what writing a file requires: its numbers are 16-bit, and the output is long enough
 pub record Writable (sh : Shape) (hs ns : List ℕ) (capacity : ℕ) : Type 0 where
   pub states-fit : sh .states ≤ most-number
   pub labels-fit : sh .labels ≤ most-number

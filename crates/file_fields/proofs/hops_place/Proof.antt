@@ -1,4 +1,5 @@
--- `file_fields::hops_place` meets its contract: each way out is a case of the definition. Assumes nothing.
+-- `file_fields::hops_place` meets its contract: each way out is a case of the definition. Assumes
+-- nothing.
 use mathlib.Core.Path.{refl}
 use Rattle.file_fields.specs.Format.{hopsPlace}
 use Rattle.file_fields.proofs.Choice.{chosen, other}

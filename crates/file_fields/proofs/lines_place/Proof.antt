@@ -1,4 +1,5 @@
--- `file_fields::lines_place` meets its contract: the code is the definition, and a name takes 256 bytes at most. Assumes nothing.
+-- `file_fields::lines_place` meets its contract: the code is the definition, and a name takes 256
+-- bytes at most. Assumes nothing.
 use native.Mathlib.Omega.{arith}
 use Rattle.file_fields.proofs.Laws.{walk-ends, walk-most}
 use borrow.Author.Needs.{needs}

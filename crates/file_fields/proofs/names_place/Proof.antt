@@ -1,4 +1,5 @@
--- `file_fields::names_place` meets its contract: each way out is a case of the definition. Assumes nothing.
+-- `file_fields::names_place` meets its contract: each way out is a case of the definition. Assumes
+-- nothing.
 use native.Mathlib.Omega.{arith}
 use Rattle.file_fields.proofs.Laws.{hops-place-most, place-with-hops, place-without}
 use borrow.Author.Needs.{needs}

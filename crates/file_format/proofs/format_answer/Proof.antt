@@ -1,4 +1,5 @@
--- `file_format::format_answer` meets its contract: each way out is a case of the definition. Assumes nothing.
+-- `file_format::format_answer` meets its contract: each way out is a case of the definition.
+-- Assumes nothing.
 use mathlib.Core.Path.{_∙_}
 use native.Mathlib.Omega.{arith}
 use Rattle.file_format.proofs.Answers.{over-length, high-bits, place-early}

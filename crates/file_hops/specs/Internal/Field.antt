@@ -1,4 +1,5 @@
--- What only private functions and proofs cite beside `Field`. Assumes nothing: this is a definition.
+-- What only private functions and proofs cite beside `Field`. Assumes nothing: this is a
+-- definition.
 use Prim.Native.Nat.{ℕ, _+_, _<_, _≤_}
 use mathlib.Core.List.{List}
 use lib.ListN.{length}

@@ -1,4 +1,5 @@
--- `file_lines::line_in` meets its contract: each way out is a case of the definition. Assumes nothing.
+-- `file_lines::line_in` meets its contract: each way out is a case of the definition. Assumes
+-- nothing.
 use native.Mathlib.Omega.{arith}
 use Rattle.file_lines.specs.LineField.{lineIn}
 use Rattle.file_lines.proofs.line_in.Statement.{statement}

@@ -1,4 +1,5 @@
--- `file_lines::put_lines` meets its contract: after i turns the lines of the first i hops stand in their place. Assumes nothing.
+-- `file_lines::put_lines` meets its contract: after i steps the lines of the first i hops stand in
+-- their place. Assumes nothing.
 use Prim.Native.Nat.{_-_, _≤_}
 use mathlib.Core.Path.{_≡_, refl}
 use native.Mathlib.Omega.{arith}
@@ -6,15 +7,15 @@ use borrow.Author.Needs.{needs}
 use lib.ListN.{length}
 use Rattle.graph.specs.Hops.{count}
 use Rattle.base_outputs.specs.Internal.Output.{overAt}
-use Rattle.file_numbers.specs.Parts.{parts}
 use Rattle.file_lines.specs.LineField.{linePlace}
 use Rattle.file_lines.proofs.Laws.{lineBytes, lines-none, lines-more, lines-done}
 use Rattle.file_lines.proofs.put_lines.Statement.{statement}
 use Rattle.file_lines.proofs.put_lines.Tie as tie
+use Rattle.base_outputs.specs.Concat.{concat}
 
 abbrev Inv-loop : tie.InvT-loop
 Inv-loop out₀ at hops n i₀ out i =
-    (out ≡ overAt at (parts i (lineBytes hops)) out₀) × (length out ≡ length out₀) × (i ≤ n) × (n ≡ count hops) × (linePlace at (count hops) ≤ length out₀)
+    (out ≡ overAt at (concat i (lineBytes hops)) out₀) × (length out ≡ length out₀) × (i ≤ n) × (n ≡ count hops) × (linePlace at (count hops) ≤ length out₀)
 
 abbrev μ-loop : tie.MeasureT-loop
 μ-loop out₀ at hops n i₀ out i = n - i

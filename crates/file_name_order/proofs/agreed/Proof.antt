@@ -1,4 +1,5 @@
--- `file_name_order::agreed` meets its contract: the bytes passed so far agree, by fours. Assumes nothing.
+-- `file_name_order::agreed` meets its contract: the bytes passed so far agree, by fours. Assumes
+-- nothing.
 use Prim.Native.Nat.{_+_, _-_, _≤_}
 use mathlib.Core.Path.{_≡_, sym, _∙_}
 use native.Mathlib.Omega.{arith}

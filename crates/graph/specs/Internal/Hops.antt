@@ -1,4 +1,5 @@
--- What only private functions and proofs cite beside `Hops`. Assumes nothing: these are definitions.
+-- What only private functions and proofs cite beside `Hops`. Assumes nothing: these are
+-- definitions.
 use Prim.Native.Nat.{ℕ, zero, suc, _+_}
 use mathlib.Core.List.{List, [], _∷_, _++_}
 use lib.ListN.{length, set, drop}

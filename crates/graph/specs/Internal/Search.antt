@@ -1,4 +1,5 @@
--- What only private functions and proofs cite beside `Search`. Assumes nothing: these are definitions.
+-- What only private functions and proofs cite beside `Search`. Assumes nothing: these are
+-- definitions.
 use Prim.Native.Nat.{ℕ, _+_, _<_, _≤_}
 use mathlib.Core.Path.{_≡_}
 use mathlib.Core.Bool.{Bool, true, false, _&&_}
@@ -11,7 +12,8 @@ use Rattle.graph.specs.declared.Found.{Found}
 use Rattle.graph.specs.declared.Found.the-variants.{At, Gap}
 use Rattle.graph.specs.Search.{lower}
 
--- what is known of a search between the places lo and hi: the hops below lo are before h, and those from hi on are not
+-- what is known of a search between the places lo and hi: the hops below lo are before h, and those
+-- from hi on are not
 pub record Bracket (hs : List ℕ) (h : Hop) (lo hi : ℕ) : Type 0 where
   pub lo-le : lo ≤ hi
   pub hi-le : hi ≤ count hs

@@ -7,7 +7,8 @@ use Rattle.graph.specs.declared.Hop.{Hop}
 abbrev pub sumOf : Hop → ℕ
 sumOf h = (h .from * 65536 + h .label) * 65536 + h .to
 
--- a hop whose label and to have 16 bits: of such hops the sums tell the order, and of others they need not
+-- a hop whose label and to have 16 bits: the sums of such hops have the order of the hops, those of
+-- others need not
 pub record Narrow (h : Hop) : Type 0 where
   pub label-narrow : h .label < 65536
   pub to-narrow : h .to < 65536

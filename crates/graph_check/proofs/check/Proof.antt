@@ -1,4 +1,5 @@
--- `graph_check::check` meets its contract: each way out is a case of the definition. Assumes nothing.
+-- `graph_check::check` meets its contract: each way out is a case of the definition. Assumes
+-- nothing.
 use borrow.Author.Needs.{needs}
 use mathlib.Core.Path.{_∙_}
 use native.Mathlib.Omega.{arith}

@@ -1,4 +1,5 @@
--- `graph_check::first_not_ascending` meets its contract: the hops passed so far rise, and the sum that is kept is that of the last of them. Assumes nothing.
+-- `graph_check::first_not_ascending` meets its contract: the hops passed so far rise, and the sum
+-- that is kept is that of the last of them. Assumes nothing.
 use borrow.Author.Needs.{needs}
 use Prim.Native.Nat.{_≤_, _-_}
 use mathlib.Core.Path.{_≡_, sym, _∙_}

@@ -1,4 +1,5 @@
--- `graph_check::first_outside` meets its contract: no place passed so far is the one looked for. Assumes nothing.
+-- `graph_check::first_outside` meets its contract: no place passed so far is the one looked for.
+-- Assumes nothing.
 use borrow.Author.Needs.{needs}
 use Prim.Native.Nat.{ℕ, _≤_, _-_}
 use mathlib.Core.Path.{_≡_, sym, ap, _∙_}

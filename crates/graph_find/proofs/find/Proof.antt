@@ -1,4 +1,5 @@
--- `graph_find::find` meets its contract: check refuses, or the search answers for the hop in 16 bits. Assumes nothing.
+-- `graph_find::find` meets its contract: check refuses, or the search answers for the hop in 16
+-- bits. Assumes nothing.
 use borrow.Author.Needs.{needs}
 use mathlib.Core.Path.{_≡_}
 use Rattle.graph.specs.declared.Found.{Found}

@@ -1,4 +1,5 @@
--- `graph_hops_of::choose` meets its contract: each way out is a case of the definition. Assumes nothing.
+-- `graph_hops_of::choose` meets its contract: each way out is a case of the definition. Assumes
+-- nothing.
 use borrow.Author.Needs.{needs}
 use Rattle.graph_hops_of.proofs.Chosen.{chosen-refused, chosen-first, chosen-second, chosen-none}
 use Rattle.graph_hops_of.proofs.choose.Statement.{statement}

@@ -1,4 +1,5 @@
--- `graph_hops_of::span_in` meets its contract: the places lie in order within the list. Assumes nothing.
+-- `graph_hops_of::span_in` meets its contract: the places lie in order within the list. Assumes
+-- nothing.
 use borrow.Author.Needs.{needs}
 use mathlib.Core.Path.{_∙_}
 use native.Mathlib.Omega.{arith}

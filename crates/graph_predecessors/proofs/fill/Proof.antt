@@ -1,4 +1,5 @@
--- `graph_predecessors::fill` meets its contract: the first j places are in their slots, and `next` has the slot of the next hop into each state. Assumes nothing.
+-- `graph_predecessors::fill` meets its contract: the first j places are in their slots, and `next`
+-- has the slot of the next hop into each state. Assumes nothing.
 use Prim.Native.Nat.{ℕ, _+_, _-_, _<_, _≤_}
 use mathlib.Core.Path.{_≡_, refl, _∙_}
 use mathlib.Core.List.{List}

@@ -1,4 +1,5 @@
--- `graph_predecessors::predecessor_starts` meets its contract: below s the table says where the hops begin, from s on still how many there are. Assumes nothing.
+-- `graph_predecessors::predecessor_starts` meets its contract: below s the table says where the
+-- hops begin, from s on still how many there are. Assumes nothing.
 use Prim.Native.Nat.{ℕ, _+_, _-_, _<_, _≤_}
 use mathlib.Core.Path.{_≡_, sym, _∙_}
 use native.Mathlib.Omega.{arith}

@@ -16,10 +16,12 @@ InDegrees hs n es = (s : ℕ) → s ≤ most-states → getD es s 0 ≡ keyCount
 abbrev pub predecessorStart : List ℕ → ℕ → ℕ
 predecessorStart hs s = keyStart (to hs) (count hs) s
 
--- the first table: where the hops into a state begin, for each state that can be, and one past the last
+-- the first table: where the hops into a state begin, for each state that can be, and one past the
+-- last
 unfoldable pub PredecessorStarts : List ℕ → List ℕ → Type 0
 PredecessorStarts hs bs = (s : ℕ) → s ≤ most-states → getD bs s 0 ≡ predecessorStart hs s
 
--- the second table, over the first n hops: each place stands in the slot that its hop has by the state that it ends in
+-- the second table, over the first n hops: each place stands in the slot that its hop has by the
+-- state that it ends in
 unfoldable pub PredecessorPlaces : List ℕ → ℕ → List ℕ → Type 0
 PredecessorPlaces hs n ps = (j : ℕ) → j < n → getD ps (slot (to hs) (count hs) j) 0 ≡ j

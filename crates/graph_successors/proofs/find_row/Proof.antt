@@ -1,4 +1,5 @@
--- `graph_successors::find_row` meets its contract: the places of a state's hops bracket the search, and none of them stands behind. Assumes nothing.
+-- `graph_successors::find_row` meets its contract: the places of a state's hops bracket the search,
+-- and none of them stands behind. Assumes nothing.
 use borrow.Author.Needs.{needs}
 use Rattle.graph_successors.proofs.Rows.{index-bracket, index-absent}
 use Rattle.graph_successors.proofs.find_row.Statement.{statement}

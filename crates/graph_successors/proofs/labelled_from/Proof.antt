@@ -1,4 +1,5 @@
--- `graph_successors::labelled_from` meets its contract: the least hop of s is silent, so that the silent hops are its first. Assumes nothing.
+-- `graph_successors::labelled_from` meets its contract: the least hop of s is silent, so that the
+-- silent hops are its first. Assumes nothing.
 use borrow.Author.Needs.{needs}
 use mathlib.Core.Path.{_∙_}
 use native.Mathlib.Omega.{arith}

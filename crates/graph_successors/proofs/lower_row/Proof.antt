@@ -1,4 +1,5 @@
--- `graph_successors::lower_row` meets its contract: the places of a state's hops bracket the search. Assumes nothing.
+-- `graph_successors::lower_row` meets its contract: the places of a state's hops bracket the
+-- search. Assumes nothing.
 use borrow.Author.Needs.{needs}
 use Rattle.graph_successors.proofs.Rows.{index-bracket}
 use Rattle.graph_successors.proofs.lower_row.Statement.{statement}

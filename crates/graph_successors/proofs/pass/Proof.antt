@@ -1,4 +1,5 @@
--- `graph_successors::pass` meets its contract: every hop passed is from s or an earlier state. Assumes nothing.
+-- `graph_successors::pass` meets its contract: every hop passed is from s or an earlier state.
+-- Assumes nothing.
 use Prim.Native.Nat.{ℕ, _+_, _-_, _<_, _≤_}
 use mathlib.Core.Path.{_≡_, ap}
 use native.Mathlib.Omega.{arith}

@@ -1,4 +1,5 @@
--- `graph_successors::starts_of` meets its contract: the elements below s are filled, and `at` is where the hops of s begin. Assumes nothing.
+-- `graph_successors::starts_of` meets its contract: the elements below s are filled, and `at` is
+-- where the hops of s begin. Assumes nothing.
 use Prim.Native.Nat.{ℕ, _+_, _-_, _<_, _≤_}
 use mathlib.Core.Path.{_≡_}
 use native.Mathlib.Omega.{arith}

@@ -15,7 +15,8 @@ use Rattle.graph.specs.declared.Shape.{Shape}
 unfoldable pub SuccessorIndex : List ℕ → List ℕ → Type 0
 SuccessorIndex hs st = (s : ℕ) → s ≤ most-states → getD st s 0 ≡ firstOf hs s
 
--- what the table, and a walk by it from one end of a hop to the other, need of a hop list; `check` sees to it
+-- what the table, and a walk by it from one end of a hop to the other, need of a hop list; `check`
+-- sees to it
 pub record Indexable (hs : List ℕ) : Type 0 where
   pub ascending : Ascending hs
   pub hops-most : count hs ≤ most-hops

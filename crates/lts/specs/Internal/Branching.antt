@@ -9,7 +9,8 @@ use mathlib.Core.Logic.{_⊎_}
 use Rattle.lts.specs.Star.{Star}
 use Rattle.lts.specs.Internal.Sense.{Silent}
 
--- n answers a hop of s labelled a to t: by none, if it is silent, or by silent hops to a state that R relates to s, and one labelled a
+-- n answers a hop of s labelled a to t: by none, if it is silent, or by silent hops to a state that
+-- R relates to s, and one labelled a
 abbrev pub MatchedBy : (ℕ → ℕ → ℕ → Type 0) → (ℕ → ℕ → Type 0) → ℕ → ℕ → ℕ → ℕ → Type 0
 MatchedBy Hop R s n a t = ((a ≡ 0) × R t n) ⊎ ((u : ℕ) × (q : ℕ) × Star (Silent Hop) n u × R s u × Hop u a q × R t q)
 

@@ -1,4 +1,5 @@
--- `mark_batch::try_batch` meets its contract: the tables are those of a batch, and judging by them is a step of a sweep. Assumes nothing.
+-- `mark_batch::try_batch` meets its contract: the tables are those of a batch, and the filter by
+-- them is a step of a sweep. Assumes nothing.
 use borrow.Author.Needs.{needs}
 use Rattle.mark_senses.specs.Senses.{senseOf}
 use Rattle.mark_batch.proofs.Trying.{Tables, filtered-swept}

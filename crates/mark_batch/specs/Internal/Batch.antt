@@ -14,7 +14,8 @@ use Rattle.walk_silent.specs.Silent.{HopOf}
 use Rattle.base_fixpoint.specs.Pairs.{In}
 use Rattle.mark_confluence.specs.Internal.MarkSet.{isMarked, markSet}
 
--- the hop at place j is answered from the end of the hop at place i, with the set that the marks are
+-- the hop at place j is answered from the end of the hop at place i, with the set that the marks
+-- are
 abbrev pub AnsweredAt : Sense → List ℕ → List ℕ → ℕ → ℕ → Type 0
 AnsweredAt sense hs ms i j = Answered sense (HopOf hs) (In (markSet hs ms)) (to hs i) (label hs j) (to hs j)
 
@@ -27,7 +28,7 @@ TriedIn sense hs lo hi ms =
 abbrev pub NothingKnown : List ℕ → Type 0
 NothingKnown ms = Unit {0}
 
--- what a sweep needs: an admitted graph in ascending order, and its silent hops in line
+-- what a sweep needs: an admitted graph, and its silent hops in topological order
 pub record SweepInput (sh : Shape) (hs sorted : List ℕ) (n : ℕ) : Type 0 where
   pub admitted : Admitted sh hs
   pub ready : Indexable hs

@@ -4,12 +4,12 @@ use mathlib.Core.Path.{_≡_}
 use native.Mathlib.Omega.{arith}
 use borrow.Author.Needs.{needs}
 use Rattle.graph.specs.Hops.{count}
-use Rattle.mark_batch_filter.proofs.Filtering.{JudgedTo, filtered-none, filtered-more, filtered-most, filtered-all}
+use Rattle.mark_batch_filter.proofs.Filtering.{FilteredTo, filtered-none, filtered-more, filtered-most, filtered-all}
 use Rattle.mark_batch_filter.proofs.filter.Statement.{statement}
 use Rattle.mark_batch_filter.proofs.filter.Tie as tie
 
 abbrev Inv-loop : tie.InvT-loop
-Inv-loop hops marks₀ froms answers n lost₀ i₀ marks lost i = (n ≡ count hops) × (i ≤ n) × JudgedTo hops marks₀ froms answers i marks lost
+Inv-loop hops marks₀ froms answers n lost₀ i₀ marks lost i = (n ≡ count hops) × (i ≤ n) × FilteredTo hops marks₀ froms answers i marks lost
 
 abbrev μ-loop : tie.MeasureT-loop
 μ-loop hops marks₀ froms answers n lost₀ i₀ marks lost i = n - i
@@ -26,11 +26,11 @@ filter-at-requires c κs =
     let v = c .before .before .loop in
     (st .pre .0, (omega (arith, v .inv .2 .long, st .pre .1), omega arith))
 
--- the hop at hand is judged, too
+-- the hop at hand is filtered too
 turn : (c : tie.After-slice-known2 Inv-loop μ-loop) →
     let st = c .before .before .before .before .before .before .before .before .before in
     let v = c .before .before .before .before .before .loop in
-    JudgedTo (st .args .hops .now) (st .args .marks .now) (st .args .froms .now) (st .args .answers .now) (v .i + 1)
+    FilteredTo (st .args .hops .now) (st .args .marks .now) (st .args .froms .now) (st .args .answers .now) (v .i + 1)
     (c .before .before .filter-at .last .1 .0) (v .lost + c .before .before .filter-at .result)
 turn c =
     let st = c .before .before .before .before .before .before .before .before .before in

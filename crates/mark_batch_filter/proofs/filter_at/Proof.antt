@@ -1,4 +1,5 @@
--- `mark_batch_filter::filter_at` meets its contract: the three ways out are the cases of falling. Assumes nothing.
+-- `mark_batch_filter::filter_at` meets its contract: the three ways out are the cases in which the
+-- hop fails or does not. Assumes nothing.
 use mathlib.Core.Path.{_≡_}
 use mathlib.Core.Bool.{true, false}
 use borrow.Author.Needs.{needs}

@@ -10,7 +10,7 @@ use Rattle.graph.specs.Hops.{count, from, to}
 use Rattle.mark_confluence.specs.Internal.MarkSet.{isMarked}
 use Rattle.base_bitset.specs.Internal.Bits.{bitIn, word-bits}
 
--- every bit that the state which the hop at place i leaves has in `froms`, the state that it leads to has in `answers`
+-- the hop at place i fits: every bit that its start has in `froms`, its end has in `answers`
 unfoldable pub fits : List ℕ → List ℕ → List ℕ → ℕ → Bool
 fits hs froms answers i = all word-bits (λ (b : ℕ). not (bitIn froms (from hs i) b) || bitIn answers (to hs i) b)
 
@@ -18,7 +18,8 @@ fits hs froms answers i = all word-bits (λ (b : ℕ). not (bitIn froms (from hs
 abbrev pub fails : List ℕ → List ℕ → List ℕ → List ℕ → ℕ → Bool
 fails hs ms froms answers i = isMarked ms i && not (fits hs froms answers i)
 
--- what judging leaves: a marked hop that does not fit loses its mark, no other number changes, and r marks went
+-- what the filter leaves: a marked hop that does not fit loses its mark, no other number changes,
+-- and r marks went
 pub record Filtered (hs ms froms answers new : List ℕ) (r : ℕ) : Type 0 where
   pub long : length new ≡ length ms
   pub beyond : drop (count hs) new ≡ drop (count hs) ms

@@ -1,4 +1,5 @@
--- `mark_batch_spread::pass_on` meets its contract: when k places of the line are left the table is what the marked hops at the others bring. Assumes nothing.
+-- `mark_batch_spread::pass_on` meets its contract: when k places of the order are left the table is
+-- what the marked hops at the others bring. Assumes nothing.
 use Prim.Native.Nat.{ℕ, _-_, _<_, _≤_}
 use mathlib.Core.Path.{_≡_, _∙_}
 use mathlib.Core.List.{List}

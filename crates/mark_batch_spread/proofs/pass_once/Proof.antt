@@ -1,4 +1,5 @@
--- `mark_batch_spread::pass_once` meets its contract: after the first k places of the line the table is what one of the marked hops there brings. Assumes nothing.
+-- `mark_batch_spread::pass_once` meets its contract: after the first k places of the order the
+-- table is what one of the marked hops there brings. Assumes nothing.
 use Prim.Native.Nat.{ℕ, _-_, _<_, _≤_}
 use mathlib.Core.Path.{_≡_, ap, _∙_}
 use mathlib.Core.List.{List}

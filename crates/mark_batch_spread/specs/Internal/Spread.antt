@@ -8,10 +8,10 @@ use mathlib.Core.Logic.{_↔_}
 use Rattle.lts.specs.Closes.{Reach, Via}
 use Rattle.base_bitset.specs.Internal.Bits.{bitIn}
 
--- a state has afterwards what those that it comes to had before
+-- a state has afterwards the bits that those which it leads to had before
 abbrev pub SpreadBack : (ℕ → ℕ → Type 0) → Reach → List ℕ → List ℕ → Type 0
 SpreadBack U r old new = (s b : ℕ) → (bitIn new s b ≡ true) ↔ ((t : ℕ) × Via U r s t × (bitIn old t b ≡ true))
 
--- a state has afterwards what those that come to it had before
+-- a state has afterwards the bits that those which lead to it had before
 abbrev pub SpreadForth : (ℕ → ℕ → Type 0) → Reach → List ℕ → List ℕ → Type 0
 SpreadForth U r old new = (t b : ℕ) → (bitIn new t b ≡ true) ↔ ((s : ℕ) × Via U r s t × (bitIn old s b ≡ true))

@@ -1,4 +1,5 @@
--- `mark_batch_sweeps::mark_by_sweeps` meets its contract: the marks that sweeps begin with hold the marked set. Assumes nothing.
+-- `mark_batch_sweeps::mark_by_sweeps` meets its contract: the marks that sweeps begin with hold the
+-- marked set. Assumes nothing.
 use Prim.Native.Nat.{ℕ}
 use native.Mathlib.Omega.{arith}
 use lib.ListN.{length-replicate}

@@ -1,4 +1,5 @@
--- `mark_batch_sweeps::run_all_pending` meets its contract, pass by pass: each but the last takes a mark. Assumes nothing.
+-- `mark_batch_sweeps::run_all_pending` meets its contract, pass by pass: each but the last takes a
+-- mark. Assumes nothing.
 use Prim.Native.Nat.{_+_}
 use mathlib.Core.Path.{_≡_, refl, _∙_}
 use native.Mathlib.Omega.{arith}

@@ -1,4 +1,5 @@
--- `mark_batch_sweeps::run_pending` meets its contract: it runs a whole batch or none. Assumes nothing.
+-- `mark_batch_sweeps::run_pending` meets its contract: it runs a whole batch or none. Assumes
+-- nothing.
 use native.Mathlib.Omega.{arith}
 use borrow.Author.Needs.{needs}
 use Rattle.mark_batch_sweeps.proofs.run_pending.Statement.{statement}

@@ -1,4 +1,5 @@
--- `mark_batch_sweeps::sweep_to_fixpoint` meets its contract: the marks hold the marked set, and a sweep that takes nothing leaves a set of the sense. Assumes nothing.
+-- `mark_batch_sweeps::sweep_to_fixpoint` meets its contract: the marks hold the marked set, and a
+-- sweep that takes no mark leaves a set of the sense. Assumes nothing.
 use Prim.Native.Nat.{_+_}
 use mathlib.Core.Path.{_≡_, refl, _∙_}
 use native.Mathlib.Omega.{arith}
@@ -36,7 +37,7 @@ one-less-requires c κs = search needs
 run-all-pending-requires : tie.Need-run-all-pending-requires Inv-loop μ-loop
 run-all-pending-requires c κs = (c .before .before .before .before .before .before .before .before .before .before .before .before .before .before .before .pre .0, c .before .before .before .before .before .before .before .sweep .ensures .marking)
 
--- a sweep that took something, and what caught up then
+-- a sweep that took a mark, and the pending batches after it
 loop-less : tie.Need-loop-less Inv-loop μ-loop
 loop-less c = omega (arith, c .before .before .before .before .before .before .before .before .before .before .sweep .ensures .fewer, c .before .before .run-all-pending .ensures .fewer, c .before .before .before .before .before .before .before .before .before .before .before .before .before .before .loop-test .taken)
 
@@ -51,7 +52,7 @@ loop-again c =
       λ q. absurd (omega (arith, c .before .before .before .before .before .before .if1 .taken)),
     )
 
--- a sweep that took nothing
+-- a sweep that took no mark
 loop-less-2 : tie.Need-loop-less-2 Inv-loop μ-loop
 loop-less-2 c = omega (arith, c .before .before .before .before .sweep .ensures .fewer, c .before .before .before .before .before .before .before .before .loop-test .taken)
 

@@ -1,4 +1,5 @@
--- `mark_batch_tables::put_answers` meets its contract: the first i hops have answered. Assumes nothing.
+-- `mark_batch_tables::put_answers` meets its contract: the first i hops have answered. Assumes
+-- nothing.
 use Prim.Native.Nat.{ℕ, _-_, _<_, _≤_}
 use mathlib.Core.Path.{_≡_, ap, _∙_}
 use native.Mathlib.Omega.{arith}

@@ -9,7 +9,8 @@ use lib.Dec.{eqb, ltb}
 use Rattle.walk_silent.specs.Silent.{HopOf}
 use Rattle.base_bitset.specs.Internal.Bits.{bitIn}
 
--- the table has bit b where the number `key` of the hop at place base + b says, and nowhere else; `key` is from, label or to
+-- the table has bit b where the number `key` of the hop at place base + b says, and nowhere else;
+-- `key` is from, label or to
 abbrev pub KeyTable : (ℕ → ℕ) → ℕ → ℕ → List ℕ → Type 0
 KeyTable key base m table = (s b : ℕ) → bitIn table s b ≡ (ltb b m && eqb (key (base + b)) s)
 
@@ -17,7 +18,8 @@ KeyTable key base m table = (s b : ℕ) → bitIn table s b ≡ (ltb b m && eqb 
 abbrev pub StayTable : List ℕ → List ℕ → List ℕ → Type 0
 StayTable labels ends out = (p b : ℕ) → bitIn out p b ≡ (bitIn ends p b && bitIn labels 0 b)
 
--- p has bit b exactly when it has a hop, labelled by a label with bit b, to a state with bit b, or when the silent label and p itself have it
+-- p has bit b exactly when it has a hop, labelled by a label with bit b, to a state with bit b, or
+-- when the silent label and p itself have it
 abbrev pub AnswerTable : List ℕ → List ℕ → List ℕ → List ℕ → Type 0
 AnswerTable hs labels ends out =
     (p b : ℕ) → (bitIn out p b ≡ true) ↔

@@ -1,4 +1,5 @@
--- `mark_confluence::start_marks` meets its contract: the places passed hold their first marks, the others what they held. Assumes nothing.
+-- `mark_confluence::start_marks` meets its contract: the places passed hold their first marks, the
+-- others what they held. Assumes nothing.
 use Prim.Native.Nat.{_-_, _≤_}
 use mathlib.Core.Path.{_≡_, sym, _∙_}
 use mathlib.Core.Logic.{⊎-elim}

@@ -19,6 +19,7 @@ markSetAt hs ms s t i = is hs s 0 t i && isMarked ms i
 unfoldable pub markSet : List ℕ → List ℕ → Pairs
 markSet hs ms s t = any (count hs) (markSetAt hs ms s t)
 
--- every pair: the marks of this set, which marking begins with, are 1 for each silent hop and 0 for each visible one
+-- every pair: the marks of this set, which marking begins with, are 1 for each silent hop and 0 for
+-- each visible one
 abbrev pub everyPair : Pairs
 everyPair s t = true

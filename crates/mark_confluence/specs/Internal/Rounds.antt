@@ -1,4 +1,5 @@
--- What only private functions and proofs cite beside `Rounds`. Assumes nothing: these are definitions.
+-- What only private functions and proofs cite beside `Rounds`. Assumes nothing: these are
+-- definitions.
 use Prim.Native.Nat.{ℕ}
 use mathlib.Core.Bool.{Bool}
 use mathlib.Core.List.{List}

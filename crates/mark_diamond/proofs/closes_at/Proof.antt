@@ -1,5 +1,5 @@
--- `mark_diamond::closes_at` meets its contract: the hops of both ends are walked side by side, and each passed is answered.
--- Assumes nothing.
+-- `mark_diamond::closes_at` meets its contract: the hops of both ends are walked side by side, and
+-- each passed is answered. Assumes nothing.
 use Prim.Native.Nat.{ℕ, _+_, _-_, _<_}
 use mathlib.Core.Path.{_≡_, refl, ap, _∙_}
 use mathlib.Core.Bool.{true}

@@ -1,4 +1,5 @@
--- `mark_diamond::is_answered` meets its contract: the state itself answers a silent hop, or one of its hops does. Assumes nothing.
+-- `mark_diamond::is_answered` meets its contract: the state itself answers a silent hop, or one of
+-- its hops does. Assumes nothing.
 use borrow.Author.Needs.{needs}
 use mathlib.Core.Path.{sym, _∙_}
 use mathlib.Core.Logic.{⊎-elim}

@@ -1,4 +1,5 @@
--- `mark_diamond::is_answered_unless_alike` meets its contract: a state that has the like hop answers, and any other is asked. Assumes nothing.
+-- `mark_diamond::is_answered_unless_alike` meets its contract: a state that has the like hop
+-- answers, and any other is asked. Assumes nothing.
 use borrow.Author.Needs.{needs}
 use Rattle.mark_diamond.proofs.Rows.{answered-alike}
 use Rattle.mark_diamond.proofs.is_answered_unless_alike.Statement.{statement}

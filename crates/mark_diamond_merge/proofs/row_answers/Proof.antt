@@ -1,4 +1,5 @@
--- `mark_diamond_merge::row_answers` meets its contract: no hop passed closes s3, and m brackets what is still to come. Assumes nothing.
+-- `mark_diamond_merge::row_answers` meets its contract: no hop passed closes s3, and m brackets
+-- what is still to come. Assumes nothing.
 use Prim.Native.Nat.{ℕ, _+_, _-_, _<_, _≤_}
 use mathlib.Core.Path.{_≡_, refl, sym, ap, _∙_}
 use mathlib.Core.Bool.{false}

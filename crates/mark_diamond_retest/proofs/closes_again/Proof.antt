@@ -1,4 +1,5 @@
--- `mark_diamond_retest::closes_again` meets its contract: each hop of the start that is passed is answered. Assumes nothing.
+-- `mark_diamond_retest::closes_again` meets its contract: each hop of the start that is passed is
+-- answered. Assumes nothing.
 use Prim.Native.Nat.{ℕ, _+_, _-_, _<_}
 use mathlib.Core.Path.{_≡_, refl, sym, ap, _∙_}
 use mathlib.Core.Bool.{true}

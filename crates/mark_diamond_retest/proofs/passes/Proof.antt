@@ -1,4 +1,5 @@
--- `mark_diamond_retest::passes` meets its contract: a hop that s2 has the like of is answered, and any other is tried. Assumes nothing.
+-- `mark_diamond_retest::passes` meets its contract: a hop that s2 has the like of is answered, and
+-- any other is tried. Assumes nothing.
 use Prim.Native.Nat.{ℕ, _+_}
 use mathlib.Core.Path.{ap}
 use native.Mathlib.Omega.{arith}

@@ -1,4 +1,5 @@
--- `mark_diamond_search::ends_answer` meets its contract: s2 leads to no end passed. Assumes nothing.
+-- `mark_diamond_search::ends_answer` meets its contract: s2 leads to no end passed. Assumes
+-- nothing.
 use Prim.Native.Nat.{ℕ, _+_, _-_}
 use mathlib.Core.Path.{ap, sym, _∙_}
 use mathlib.Core.Logic.{⊎-elim}

@@ -1,4 +1,5 @@
--- `mark_diamond_search::holds` meets its contract: the search finds the one place where the hop can stand. Assumes nothing.
+-- `mark_diamond_search::holds` meets its contract: the search finds the one place where the hop can
+-- stand. Assumes nothing.
 use borrow.Author.Needs.{needs}
 use native.Mathlib.Omega.{arith}
 use Rattle.mark_confluence.specs.Internal.MarkSet.{isMarked}

@@ -1,4 +1,5 @@
--- `mark_diamond_search::hop_answers` meets its contract: one hop is asked at once, and of several the shorter way is gone. Assumes nothing.
+-- `mark_diamond_search::hop_answers` meets its contract: a single hop is tried directly, and
+-- several by the way that is shorter. Assumes nothing.
 use borrow.Author.Needs.{needs}
 use Rattle.mark_diamond_search.proofs.hop_answers.Statement.{statement}
 use Rattle.mark_diamond_search.proofs.hop_answers.Tie as tie

@@ -1,4 +1,5 @@
--- `mark_diamond_search::leads_to` meets its contract: the search tells membership. Assumes nothing.
+-- `mark_diamond_search::leads_to` meets its contract: the search decides membership. Assumes
+-- nothing.
 use borrow.Author.Needs.{needs}
 use mathlib.Core.Path.{sym, _∙_}
 use Rattle.graph.proofs.Lookup.{at-has, gap-has}

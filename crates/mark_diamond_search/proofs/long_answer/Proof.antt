@@ -1,4 +1,5 @@
--- `mark_diamond_search::long_answer` meets its contract: each way gives the same answer. Assumes nothing.
+-- `mark_diamond_search::long_answer` meets its contract: each way has the same answer. Assumes
+-- nothing.
 use Prim.Native.Nat.{ℕ, _+_, _<_, _≤_}
 use mathlib.Core.Path.{_≡_, ap}
 use mathlib.Core.List.{List}

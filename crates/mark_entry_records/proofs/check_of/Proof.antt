@@ -1,4 +1,5 @@
--- `mark_entry_records::check_of` meets its contract: the branch's test says which of the two answers is meant. Assumes nothing.
+-- `mark_entry_records::check_of` meets its contract: the branch's test says which of the two
+-- answers is meant. Assumes nothing.
 use mathlib.Core.Path.{sym, _∙_, ap}
 use borrow.Author.Needs.{needs}
 use borrow.Author.Tests.{ltb-false}

@@ -1,4 +1,5 @@
--- `mark_entry_records::check_records` meets its contract: a walk of its MIR, by hand. All that the proof knows of `flat_of` (`Flattening.antt`) and of `check_of` is that they meet their contracts.
+-- `mark_entry_records::check_records` meets its contract: a walk of its MIR, by hand. All that the
+-- proof knows of `flat_of` (`Flattening.antt`) and of `check_of` is that they meet their contracts.
 -- Assumes nothing.
 use mathlib.Core.Path.{_≡_, refl, _∙_}
 use Prim.Native.Nat.{ℕ}

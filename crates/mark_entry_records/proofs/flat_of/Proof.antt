@@ -1,6 +1,10 @@
--- `mark_entry_records::flat_of` meets its contract: a walk of its MIR, by hand, with a loop. `hops` is looked into once, before the loop, and shut once, after it.
--- In a turn the record is copied out of its row, and the local array is lent to `put_hop` for a lifetime that is made for the call, and comes back (`Local.antt`).
---     At (i, _, w)     the loop's invariant: the array, whose machine value is w, holds the numbers of the first i records (`Flats.antt`'s `done`).        turns     a turn from it
+-- `mark_entry_records::flat_of` meets its contract: a walk of its MIR, by hand, with a loop. `hops`
+-- is looked into once, before the loop, and shut once, after it. In each iteration the record is
+-- copied out of its row, and the local array is lent to `put_hop` for a lifetime that is made for
+-- the call, and comes back (`Local.antt`).
+--     At (i, _, w)     the loop's invariant: the array, whose machine value is w, holds the numbers
+--                      of the first i records (`Flats.antt`'s `done`)
+--     turns            an iteration from it
 -- Assumes nothing.
 use mathlib.Core.Path.{_≡_, refl, sym, _∙_, ap, subst}
 use Prim.Native.Nat.{ℕ, _+_, _-_, _*_, _<_, _≤_, _^_, zero-le}
@@ -85,7 +89,7 @@ after (switch c a) = skip
 after (exit n) = skip
 after return = skip
 
--- a turn, once its test has held
+-- an iteration, once its test has held
 abbrev inside : Body
 inside = after (after (after code-mir.turn-1))
 
@@ -188,7 +192,8 @@ module _ {M : Type 1} (𝓤 : URA M) (H : Heap 𝓤) (A : Atoms 𝓤) (W : Given
       abbrev En : Env 𝓤 H
       En = places l₀ l₁ l₂ l₃ l₄ l₅ l₆ l₇ l₈ l₉ l₁₀ l₁₁ l₁₂
 
-      -- the array, lent as a slice under the name δ, and the call: what `put_hop`'s triple binds outside
+      -- the array, lent as a slice under the name δ, and the call: what `put_hop`'s triple binds
+      -- outside
       abbrev z : GName → List ℕ → RefT (List ℕ)
       z δ zs = record { ptr = (l₂, 0); name = δ; now = zs }
 
@@ -205,7 +210,8 @@ module _ {M : Type 1} (𝓤 : URA M) (H : Heap 𝓤) (A : Atoms 𝓤) (W : Given
           nothing ! $ owned ! T.the-row (Is T.the-row) (LL.makes T.the-type T′.the-plain 𝓤 H A) (h i) _ is $ fjoin ! $
           owned ! usize (Is usize) (uint-makes 𝓤 H A W w64) i _ (refl, omega (arith, capacities .0)) $ fjoin ! $ move ! (1 ∷ 0 ∷ []) $ fjoin ! $ all-done !
 
-      -- [_12; …; _11; …; _10; …; _9; …; _8; …; _7; …; _6; …; _5; …; _4; …; _3; …; _2; …; _1; …; _0; …; the records; what shuts them; what hops owns; what the array owns]
+      -- [_12; …; _11; …; _10; …; _9; …; _8; …; _7; …; _6; …; _5; …; _4; …; _3; …; _2; …; _1; …; _0;
+      -- …; the records; what shuts them; what hops owns; what the array owns]
       abbrev At : Upto → List (Item 𝓤)
       At i = ‵ (froom T′.mir l₁₂ 0) ∷ ‵ (fdies T′.mir l₁₂) ∷ ‵ (froom tyPtr l₁₁ 0) ∷ ‵ (fdies tyPtr l₁₁) ∷ ‵ (froom lent-ty l₁₀ 0) ∷ ‵ (fdies lent-ty l₁₀)
           ∷ ‵ (froom (tyRef erased mut arr) l₉ 0) ∷ ‵ (fdies (tyRef erased mut arr) l₉) ∷ ‵ (froom tyUnit l₈ 0) ∷ ‵ (fdies tyUnit l₈) ∷ ‵ (froom tyBool l₇ 0) ∷ ‵ (fdies tyBool l₇)
@@ -229,7 +235,8 @@ module _ {M : Type 1} (𝓤 : URA M) (H : Heap 𝓤) (A : Atoms 𝓤) (W : Given
           move ! (26 ∷ []) $ elem-out ! T.the-row (Is T.the-row) (shows 𝓤 H A T.the-row) (LL.vals T.the-type T′.the-laws) (LL.tells T.the-type T′.the-laws) p ys (i .0) noHop b o less (λ is.
           assigns ! (of-opd ! (load ! (from ! (hop ! (look ! 5 refl) (stop !))) (look-raw ! 0 refl))) (from ! (stop !)) (init ! 3 refl (LL.lawful T.the-type T′.the-laws 𝓤 H A W .typed (h (i .0)) _ is .0)) $
           elem-back ! T.the-row p ys (i .0) noHop (T′.lowered (h (i .0)) ∷ []) b o less $
-          -- [the records; _12; …; _0; …; what shuts them; what hops owns; what the array owns]: the array is lent, for a lifetime ν of the call
+          -- [the records; _12; …; _0; …; what shuts them; what hops owns; what the array owns]: the
+          -- array is lent, for a lifetime ν of the call
           lft-new ! tt (λ ν. move ! (22 ∷ 30 ∷ []) $
           use2 W (later (some (λ (δ : GName). ‵ (MutSlice (named 0) (ν ∷ []) u16 .own (z δ (l (i .0))) (s ∷ [])) ⊛ ‵ (flent (ν ∷ []) (Held u16 most-numbers l₂ 0 δ))))) (lends-local 𝓤 H A W u16 tt most-numbers l₂ (named 0) (ν ∷ []) (l (i .0)) (i .2) (as-long (i .0) (i .1)) (lit< tt, lit< tt)) $ await ! tt $ pick ! (λ δ. split ! $
           move ! (2 ∷ 0 ∷ []) $ use2 W (raw (PutHop 𝓤 H A mem run .pre (to-put-hop (i .0) ν δ))) (goes (i .0) less is ν δ) $
@@ -243,7 +250,8 @@ module _ {M : Type 1} (𝓤 : URA M) (H : Heap 𝓤) (A : Atoms 𝓤) (W : Given
           -- the lifetime is ended, and the array comes back at that list
           split ! $ lft-end ! tt $ move ! (0 ∷ 4 ∷ 2 ∷ []) $
           use3 W (later (some (λ (w : Val). ‵ (fat fullShare arr l₂ 0 w) ⊛ ‵ (Array u16 most-numbers .own (zs .0) (w ∷ []))))) (local-back 𝓤 H A W u16 tt most-numbers l₂ (ν ∷ []) δ (zs .0)) $ await ! tt $ pick ! (λ w. split ! $
-          -- [_2; what the array owns; true; …; the records; _12; …; _3; …; _2 dies; _1; …; _0; …; what shuts the records; what hops owns]
+          -- [_2; what the array owns; true; …; the records; _12; …; _3; …; _2 dies; _1; …; _0; …;
+          -- what shuts the records; what hops owns]
           assigns-last ! (bin ! (load ! (from ! (stop !)) (look ! 23 refl)) (lit ! tt) (record { fits = more })) (from ! (stop !)) (store ! 23 refl (tt, record { fits = more })) $
           forget ! 5 refl $ forget ! 7 refl $ forget ! 9 refl $ forget ! 11 refl $ forget ! 13 refl $ forget ! 15 refl $ forget ! 17 refl $
           rewrite ! 1 (λ (y : List ℕ). ‵ (Array u16 most-numbers .own y (w ∷ []))) (e ∙ done-step ys none enough (i .0) less) refl $
@@ -297,7 +305,8 @@ module _ {M : Type 1} (𝓤 : URA M) (H : Heap 𝓤) (A : Atoms 𝓤) (W : Given
       move ! (28 ∷ []) $ fsplit ! $ fsplit ! $ move ! (1 ∷ []) $ fsplit ! $ move ! (31 ∷ []) $ split ! $ move ! (3 ∷ 0 ∷ []) $
       looks-slice ! tt T.the-row (Is T.the-row) (shows 𝓤 H A T.the-row) (LL.vals T.the-type T′.the-laws) (LL.tells T.the-type T′.the-laws) (LL.copy T.the-type T′.the-copy 𝓤 H A W) ys b o (λ p.
       move ! (4 ∷ 2 ∷ []) $ fjoin ! $ move ! (4 ∷ 0 ∷ []) $ fjoin ! $
-      -- [what hops owns; the records; what shuts them; true; true; what the array owns; _12; …; _0; …]
+      -- [what hops owns; the records; what shuts them; true; true; what the array owns; _12; …; _0;
+      -- …]
       keep ! (6 ∷ 7 ∷ 8 ∷ 9 ∷ 10 ∷ 11 ∷ 12 ∷ 13 ∷ 14 ∷ 15 ∷ 16 ∷ 17 ∷ 18 ∷ 19 ∷ 20 ∷ 21 ∷ 22 ∷ 23 ∷ 24 ∷ 25 ∷ 26 ∷ 27 ∷ 28 ∷ 29 ∷ 30 ∷ 31 ∷ 1 ∷ 2 ∷ 0 ∷ 5 ∷ []) $
       first ! $ blocks ! $ loops ! 𝓣 (Nearer (nltb→le most-hops n under)) (Nearer-wf (nltb→le most-hops n under)) (At (nltb→le most-hops n under) 𝓣 known p l₀ l₁ l₂ l₃ l₄ l₅ l₆ l₇ l₈ l₉ l₁₀ l₁₁ l₁₂)
       (turns (nltb→le most-hops n under) 𝓣 known p l₀ l₁ l₂ l₃ l₄ l₅ l₆ l₇ l₈ l₉ l₁₀ l₁₁ l₁₂) (0, zero-le, none-val)))))))))))))))))

@@ -1,4 +1,5 @@
--- `mark_entry_records::mark_of` meets its contract: the branch's test says which of the two answers is meant. Assumes nothing.
+-- `mark_entry_records::mark_of` meets its contract: the branch's test says which of the two answers
+-- is meant. Assumes nothing.
 use mathlib.Core.Path.{refl, sym, _∙_}
 use borrow.Author.Needs.{needs}
 use borrow.Author.Tests.{ltb-false}

@@ -14,8 +14,8 @@ use Rattle.graph.specs.declared.Hop.{Hop}
 abbrev pub unlessOver : {A : Type 0} → ℕ → A → A → A
 unlessOver n z m = cond (ltb most-hops n) z m
 
--- "lends hops as a list of records", now of four numbers: a flat list holds the records ys, whole hops only, as many, and at each place the same, its line
--- too
+-- "lends hops as a list of records", now of four numbers: a flat list holds the records ys, whole
+-- hops only, as many, and at each place the same, its line too
 pub record Holds (hs : List ℕ) (ys : List Hop) : Type 0 where
   pub whole-hops : whole hs ≡ true
   pub as-many : count hs ≡ length ys

@@ -1,5 +1,6 @@
--- X, Y and Z meet their contracts, by one measure that falls with each call: three times the rounds left, and what is left of the round. X's
--- loop has passed only hops that are answered, Y's only hops that do not close; the table stays right. Assumes nothing.
+-- X, Y and Z meet their contracts, by one measure that falls with each call: three times the rounds
+-- left, and what is left of the round. X's loop has passed only hops that are answered, Y's only
+-- hops that do not close; the table stays right. Assumes nothing.
 use Prim.Native.Nat.{ℕ, _<_, _≤_, _+_, _*_, _-_}
 use borrow.Author.Needs.{needs}
 use mathlib.Core.Path.{_≡_, refl, sym, ap}

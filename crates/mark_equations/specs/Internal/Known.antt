@@ -10,7 +10,8 @@ use Rattle.graph.specs.Answers.{most-labels, most-hops}
 use Rattle.graph_successors.specs.Internal.SuccessorIndex.{SuccessorIndex, Indexable}
 use Rattle.mark_confluence.specs.Rounds.{survives}
 
--- where the answer for k rounds and the hop at place i stands: one after the other for the hops, then for the next number of rounds
+-- where the answer for k rounds and the hop at place i stands: one after the other for the hops,
+-- then for the next number of rounds
 abbrev pub answerPlace : ℕ → ℕ → ℕ
 answerPlace k i = k * most-hops + i
 
@@ -23,11 +24,12 @@ abbrev pub wordFor : Bool → ℕ
 wordFor false = 1
 wordFor true = 2
 
--- each answer that the table gives is right
+-- each answer in the table is right
 unfoldable pub Right : List ℕ → List ℕ → Type 0
 Right hs m = (j : ℕ) (v : Bool) → getD m j 0 ≡ wordFor v → value hs j ≡ v
 
--- what each of X, Y and Z asks: an admitted hop list, the first places of its states, and a table with room for k rounds
+-- what each of X, Y and Z asks: an admitted hop list, the first places of its states, and a table
+-- long enough for k rounds
 pub record Prepared (hs st m : List ℕ) (k : ℕ) : Type 0 where
   pub ready : Indexable hs
   pub label-in : (i : ℕ) → i < count hs → label hs i < most-labels

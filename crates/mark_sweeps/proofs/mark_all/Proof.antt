@@ -1,4 +1,5 @@
--- `mark_sweeps::mark_all` meets its contract: the marks that sweeps begin with hold the marked set. Assumes nothing.
+-- `mark_sweeps::mark_all` meets its contract: the marks that sweeps begin with hold the marked set.
+-- Assumes nothing.
 use borrow.Author.Needs.{needs}
 use Rattle.mark_confluence.specs.Rounds.{marked}
 use Rattle.mark_confluence.proofs.Marked.{marked-confluent}

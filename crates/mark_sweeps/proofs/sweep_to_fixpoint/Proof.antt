@@ -1,5 +1,5 @@
--- `mark_sweeps::sweep_to_fixpoint` meets its contract: the marks hold the marked set, and a sweep that takes nothing leaves a confluent set.
--- Assumes nothing.
+-- `mark_sweeps::sweep_to_fixpoint` meets its contract: the marks hold the marked set, and a sweep
+-- that takes no mark leaves a confluent set. Assumes nothing.
 use Prim.Native.Nat.{_+_}
 use mathlib.Core.Path.{_≡_, refl, _∙_}
 use native.Mathlib.Omega.{arith}

@@ -1,4 +1,5 @@
--- `mark_sweeps::test_at` meets its contract: a mark that goes takes no hop of the marked set. Assumes nothing.
+-- `mark_sweeps::test_at` meets its contract: no hop of the marked set loses its mark. Assumes
+-- nothing.
 use native.Mathlib.Omega.{arith}
 use borrow.Author.Needs.{needs}
 use Rattle.mark_sweeps.proofs.Sweeping.{tested-off, tested-closes, tested-lost}

@@ -1,4 +1,5 @@
--- `mark_worklist_loop::later_rounds` meets its contract: after each round the marks are those of the hops that survive it, and where nothing fell they are done. Assumes nothing.
+-- `mark_worklist_loop::later_rounds` meets its contract: after each round the marks are those of
+-- the hops that survive it, and where nothing fell they are done. Assumes nothing.
 use Prim.Native.Nat.{suc, _+_}
 use mathlib.Core.Path.{_≡_, refl}
 use mathlib.Core.Bool.{cond}
@@ -10,7 +11,7 @@ use Rattle.graph.specs.Hops.{count}
 use Rattle.mark_confluence.specs.Internal.MarkSet.{isMarked}
 use Rattle.mark_worklist_push.specs.Internal.Queue.{Tables, Leaving, Queue, PlacesBelow}
 use Rattle.mark_worklist_loop.specs.Internal.BetweenRounds.{AfterSome}
-use Rattle.mark_worklist_loop.proofs.Rounds.{pushed-lists, pushed-most, pushed-spared, lists-listed, tested-queue, next-falls, after-next, leaving-next, after-less, after-early, after-tests, after-marks, tests-most}
+use Rattle.mark_worklist_loop.proofs.Rounds.{pushed-lists, pushed-most, pushed-skipped, lists-listed, tested-queue, next-falls, after-next, leaving-next, after-less, after-early, after-tests, after-marks, tests-most}
 use Rattle.mark_worklist_loop.proofs.later_rounds.Statement.{statement}
 use Rattle.mark_worklist_loop.proofs.later_rounds.Tie as tie
 
@@ -75,7 +76,7 @@ test-queue-requires c κs =
         (
           omega (arith, v .0, st .pre .1 .1 .0),
           (
-            pushed-spared hs a (v .3) g _ (c .before .before .before .before .before .dirty-of .ensures),
+            pushed-skipped hs a (v .3) g _ (c .before .before .before .before .before .dirty-of .ensures),
             (
               g .queue .flags,
               (a .capacity, (omega (arith, pushed-most hs a (v .3) g, st .pre .0 .hops-most), lists-listed hs (pushed-lists hs a (v .3) g))),

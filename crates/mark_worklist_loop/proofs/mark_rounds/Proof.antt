@@ -1,4 +1,5 @@
--- `mark_worklist_loop::mark_rounds` meets its contract: the first round tests every silent hop, and the later ones go on from there. Assumes nothing.
+-- `mark_worklist_loop::mark_rounds` meets its contract: the first round tests every silent hop, and
+-- the later ones go on from there. Assumes nothing.
 use Prim.Native.Nat.{ℕ}
 use mathlib.Core.Path.{refl}
 use native.Mathlib.Omega.{arith}

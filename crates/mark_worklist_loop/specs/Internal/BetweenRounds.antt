@@ -11,7 +11,8 @@ use Rattle.mark_confluence.specs.Marks.{marksOf}
 use Rattle.mark_worklist.specs.Tests.{testsUpTo}
 use Rattle.mark_worklist_round.specs.Internal.Round.{FallenIn}
 
--- after k + 1 rounds: the marks are those of the hops that survive them, fl has those that fell in the last, and t tests were made
+-- after k + 1 rounds: the marks are those of the hops that survive them, fl has those that fell in
+-- the last, and t tests were made
 pub record After (hs : List ℕ) (k : ℕ) (ms out fl : List ℕ) (n t : ℕ) : Type 0 where
   pub marks : ms ≡ onFront (marksOf hs (survives hs (suc k))) out
   pub falls : FallenIn hs k fl n

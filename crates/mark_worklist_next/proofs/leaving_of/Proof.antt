@@ -1,4 +1,5 @@
--- `mark_worklist_next::leaving_of` meets its contract: the state that a marked hop leaves gets its byte. Assumes nothing.
+-- `mark_worklist_next::leaving_of` meets its contract: the state that a marked hop leaves gets its
+-- byte. Assumes nothing.
 use Prim.Native.Nat.{ℕ, _-_, _<_, _≤_}
 use mathlib.Core.Path.{_≡_, _∙_}
 use mathlib.Core.Bool.{true}

@@ -1,4 +1,5 @@
--- `mark_worklist_next::next_queue` meets its contract: what each fallen hop brings. Assumes nothing.
+-- `mark_worklist_next::next_queue` meets its contract: what is pushed for each fallen hop. Assumes
+-- nothing.
 use Prim.Native.Nat.{_-_, _<_, _≤_}
 use mathlib.Core.Path.{refl}
 use native.Mathlib.Omega.{arith}

@@ -1,4 +1,5 @@
--- `mark_worklist_next::push_fallen` meets its contract: the walk over the hops into s3. Assumes nothing.
+-- `mark_worklist_next::push_fallen` meets its contract: the walk over the hops into s3. Assumes
+-- nothing.
 use Prim.Native.Nat.{_+_, _-_, _<_, _≤_}
 use mathlib.Core.Path.{_≡_, refl, _∙_}
 use native.Mathlib.Omega.{arith}

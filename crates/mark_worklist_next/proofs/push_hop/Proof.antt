@@ -1,4 +1,4 @@
--- `mark_worklist_next::push_hop` meets its contract: either way queues the same. Assumes nothing.
+-- `mark_worklist_next::push_hop` meets its contract: either way pushes the same. Assumes nothing.
 use mathlib.Core.Path.{_∙_}
 use native.Mathlib.Omega.{arith}
 use Rattle.mark_worklist_push.proofs.Walks.{trying-none, start-most, begin-most}

@@ -1,4 +1,5 @@
--- `mark_worklist_push::is_point` meets its contract: s4 is s2 itself, or the search finds the hop. Assumes nothing.
+-- `mark_worklist_push::is_point` meets its contract: s4 is s2 itself, or the search finds the hop.
+-- Assumes nothing.
 use mathlib.Core.Logic.{⊎-elim}
 use Rattle.mark_worklist_push.proofs.Walks.{point-itself, point-found, point-missing}
 use borrow.Author.Needs.{needs}

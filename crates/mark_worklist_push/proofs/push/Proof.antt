@@ -1,4 +1,5 @@
--- `mark_worklist_push::push` meets its contract: nothing comes where the hop is not marked or queued already. Assumes nothing.
+-- `mark_worklist_push::push` meets its contract: nothing is pushed if the hop is not marked or is
+-- in the queue already. Assumes nothing.
 use native.Mathlib.Omega.{arith}
 use Rattle.mark_worklist_push.proofs.Pushing.{flag-yes, flag-no, flag-says, queue-capacity, pushed-none, pushed-one}
 use borrow.Author.Needs.{needs}

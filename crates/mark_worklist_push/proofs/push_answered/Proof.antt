@@ -1,4 +1,5 @@
--- `mark_worklist_push::push_answered` meets its contract: the hop comes where s4 is one of its end. Assumes nothing.
+-- `mark_worklist_push::push_answered` meets its contract: the hop is pushed if s4 is an s4 of its
+-- end. Assumes nothing.
 use Rattle.mark_worklist_push.proofs.Walks.{asked-yes, asked-no, asked-off, asked-again}
 use borrow.Author.Needs.{needs}
 use Rattle.mark_worklist_push.proofs.push_answered.Statement.{statement}

@@ -1,4 +1,5 @@
--- `mark_worklist_push::push_answers` meets its contract: the walk over the hops into s4. Assumes nothing.
+-- `mark_worklist_push::push_answers` meets its contract: the walk over the hops into s4. Assumes
+-- nothing.
 use Prim.Native.Nat.{_+_, _-_, _<_, _≤_}
 use mathlib.Core.Path.{_≡_, refl, _∙_}
 use native.Mathlib.Omega.{arith}

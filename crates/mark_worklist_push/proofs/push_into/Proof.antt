@@ -1,4 +1,5 @@
--- `mark_worklist_push::push_into` meets its contract: with s4 itself, where the hop to try is silent. Assumes nothing.
+-- `mark_worklist_push::push_into` meets its contract: with s4 itself, where the hop to try is
+-- silent. Assumes nothing.
 use Rattle.mark_worklist_push.proofs.Walks.{trying-silent, trying-visible}
 use borrow.Author.Needs.{needs}
 use Rattle.mark_worklist_push.proofs.push_into.Statement.{statement}

@@ -1,4 +1,5 @@
--- `mark_worklist_push::push_like` meets its contract: nothing comes where the labels differ. Assumes nothing.
+-- `mark_worklist_push::push_like` meets its contract: nothing is pushed if the labels differ.
+-- Assumes nothing.
 use Rattle.mark_worklist_push.proofs.Walks.{like-yes, like-no}
 use borrow.Author.Needs.{needs}
 use Rattle.mark_worklist_push.proofs.push_like.Statement.{statement}

@@ -1,4 +1,5 @@
--- `mark_worklist_push::push_out` meets its contract: the walk over the silent hops of s1. Assumes nothing.
+-- `mark_worklist_push::push_out` meets its contract: the walk over the silent hops of s1. Assumes
+-- nothing.
 use Prim.Native.Nat.{_-_, _≤_}
 use mathlib.Core.Path.{_≡_, refl, _∙_}
 use native.Mathlib.Omega.{arith}

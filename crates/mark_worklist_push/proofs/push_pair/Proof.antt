@@ -1,4 +1,5 @@
--- `mark_worklist_push::push_pair` meets its contract: the search finds the one place where the hop can stand. Assumes nothing.
+-- `mark_worklist_push::push_pair` meets its contract: the search finds the one place where the hop
+-- can stand. Assumes nothing.
 use Rattle.mark_worklist_push.proofs.Walks.{pair-gap, pair-within, pair-silent, pair-at}
 use borrow.Author.Needs.{needs}
 use Rattle.mark_worklist_push.proofs.push_pair.Statement.{statement}

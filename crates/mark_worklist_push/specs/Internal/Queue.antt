@@ -1,4 +1,4 @@
--- The worklist: the queue of the hops that the next round tests, and what comes to it from a hop
+-- The worklist: the queue of the hops that the next round tests, and what is pushed on it for a hop
 -- that fell. No contract of an entry cites this. Assumes nothing: these are definitions.
 use Prim.Native.Nat.{ℕ, _<_, _≤_}
 use mathlib.Core.Path.{_≡_}
@@ -17,7 +17,8 @@ use Rattle.mark_confluence.specs.Internal.MarkSet.{isMarked}
 abbrev pub Among : List ℕ → ℕ → ℕ → Type 0
 Among xs n i = (k : ℕ) × (k < n) × (getD xs k 0 ≡ i)
 
--- a hop list with its tables: where the hops out of a state begin, where those into it do, and their places
+-- a hop list with its tables: where the hops out of a state begin, where those into it do, and
+-- their places
 pub record Tables (hs st bs ps : List ℕ) : Type 0 where
   pub ready : Indexable hs
   pub table : SuccessorIndex hs st
@@ -42,7 +43,7 @@ pub record Wanted (hs ms : List ℕ) (W : ℕ → Type 0) (i : ℕ) : Type 0 whe
   pub marked : isMarked ms i ≡ true
   pub inside : W i
 
--- the wanted hops of W have come to the queue, which had the flags `old`, and no others
+-- the wanted hops of W are pushed on the queue, which had the flags `old`, and no others
 pub record Pushed (hs ms : List ℕ) (W : ℕ → Type 0) (old new qs : List ℕ) (r : ℕ) : Type 0 where
   pub queue : Queue hs new qs r
   pub kept : (i : ℕ) → i < count hs → isMarked old i ≡ true → isMarked new i ≡ true
@@ -57,11 +58,13 @@ OnlyPlace i x = x ≡ i
 abbrev pub Joining : List ℕ → ℕ → ℕ → ℕ → Type 0
 Joining hs s1 s2 x = (from hs x ≡ s1) × (to hs x ≡ s2)
 
--- the same from where the hop at place j begins to where the one at place m does, if the two have one label
+-- the same from where the hop at place j begins to where the one at place m does, if the two have
+-- one label
 abbrev pub Like : List ℕ → ℕ → ℕ → ℕ → Type 0
 Like hs j m x = (label hs m ≡ label hs j) × Joining hs (from hs j) (from hs m) x
 
--- of hops that leave s1, as the hop to try at place j does, and end in a state with a hop of its label to s4, where the hop that fell, at place p, ends
+-- the places of hops that leave s1, as the hop to try at place j does, and end in a state that has
+-- a hop of its label to s4, the end of the fallen hop at place p
 abbrev pub AnsweredTo : List ℕ → ℕ → ℕ → ℕ → Type 0
 AnsweredTo hs j p x = (from hs x ≡ from hs j) × (has hs (to hs x) (label hs j) (to hs p) ≡ true)
 
@@ -69,7 +72,8 @@ AnsweredTo hs j p x = (from hs x ≡ from hs j) × (has hs (to hs x) (label hs j
 abbrev pub Trying : List ℕ → ℕ → ℕ → ℕ → Type 0
 Trying hs j p x = (from hs x ≡ from hs j) × FirstPoint hs (to hs x) (label hs j) (to hs p)
 
--- of hops that have a hop to try, to s3, and an s4, by the first point, with s3 to s4 the hop at place p
+-- the places of hops that have a hop to try, to s3, and an s4, by the first point, with s3 to s4
+-- the hop at place p
 abbrev pub ClosedBy : List ℕ → ℕ → ℕ → Type 0
 ClosedBy hs p x = (a : ℕ) × (has hs (from hs x) a (from hs p) ≡ true) × FirstPoint hs (to hs x) a (to hs p)
 
@@ -77,7 +81,8 @@ ClosedBy hs p x = (a : ℕ) × (has hs (from hs x) a (from hs p) ≡ true) × Fi
 abbrev pub ClosedByAny : List ℕ → List ℕ → ℕ → ℕ → Type 0
 ClosedByAny hs ps n x = (p : ℕ) × Among ps n p × ClosedBy hs p x
 
--- the place i alone, if the end of the hop at place p is an s4 of its end for the label of the hop at place j
+-- the place i alone, if the end of the hop at place p is an s4 of its end for the label of the hop
+-- at place j
 abbrev pub Asked : List ℕ → ℕ → ℕ → ℕ → ℕ → Type 0
 Asked hs j p i x = (x ≡ i) × FirstPoint hs (to hs x) (label hs j) (to hs p)
 

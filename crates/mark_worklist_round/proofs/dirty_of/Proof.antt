@@ -1,4 +1,5 @@
--- `mark_worklist_round::dirty_of` meets its contract: the state that a fallen hop leaves gets its byte. Assumes nothing.
+-- `mark_worklist_round::dirty_of` meets its contract: the state that a fallen hop leaves gets its
+-- byte. Assumes nothing.
 use Prim.Native.Nat.{ℕ, _-_, _<_, _≤_}
 use mathlib.Core.Path.{_≡_, _∙_}
 use native.Mathlib.Omega.{arith}

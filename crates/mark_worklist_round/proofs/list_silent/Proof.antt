@@ -1,4 +1,5 @@
--- `mark_worklist_round::list_silent` meets its contract: the silent hops passed are listed. Assumes nothing.
+-- `mark_worklist_round::list_silent` meets its contract: the silent hops passed are listed. Assumes
+-- nothing.
 use Prim.Native.Nat.{_-_, _≤_}
 use mathlib.Core.Path.{_≡_}
 use mathlib.Core.Logic.{⊎-elim}

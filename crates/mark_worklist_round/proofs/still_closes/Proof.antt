@@ -1,4 +1,5 @@
--- `mark_worklist_round::still_closes` meets its contract: either test asks the same. Assumes nothing.
+-- `mark_worklist_round::still_closes` meets its contract: either test asks the same. Assumes
+-- nothing.
 use borrow.Author.Needs.{needs}
 use Rattle.mark_worklist_round.proofs.still_closes.Statement.{statement}
 use Rattle.mark_worklist_round.proofs.still_closes.Tie as tie

@@ -1,4 +1,5 @@
--- `mark_worklist_round::test_queue` meets its contract: the hops passed are tested, and their flags taken. Assumes nothing.
+-- `mark_worklist_round::test_queue` meets its contract: the hops passed are tested, and their flags
+-- cleared. Assumes nothing.
 use Prim.Native.Nat.{_-_, _<_, _≤_}
 use mathlib.Core.Path.{_≡_}
 use mathlib.Core.Logic.{⊎-elim}

@@ -1,4 +1,5 @@
--- `mark_worklist_round::unmark_fallen` meets its contract: the marks of the hops passed are taken. Assumes nothing.
+-- `mark_worklist_round::unmark_fallen` meets its contract: the marks of the hops passed are taken.
+-- Assumes nothing.
 use Prim.Native.Nat.{_-_, _≤_}
 use mathlib.Core.Path.{_≡_, refl}
 use native.Mathlib.Omega.{arith}

@@ -20,7 +20,8 @@ pub record Enumerates (c : ℕ) (p : ℕ → Bool) (qs : List ℕ) (n : ℕ) : T
   pub each : (k : ℕ) → k < n → (getD qs k 0 < c) × (p (getD qs k 0) ≡ true)
   pub all : (i : ℕ) → i < c → p i ≡ true → Among qs n i
 
--- a test that is not of the first round may leave out what leads to a state that is not shed: for the first n of qs that is answered still
+-- a test of a later round may skip the hops to states that are not dirty: for the first n of qs
+-- these are answered still
 unfoldable pub SkipsClean : List ℕ → List ℕ → List ℕ → Bool → List ℕ → ℕ → Type 0
 SkipsClean hs ms sh first qs n = first ≡ false → (k : ℕ) → k < n → CleanAnswered hs ms sh (getD qs k 0)
 
@@ -28,7 +29,8 @@ SkipsClean hs ms sh first qs n = first ≡ false → (k : ℕ) → k < n → Cle
 unfoldable pub DirtyStates : List ℕ → List ℕ → ℕ → List ℕ → Type 0
 DirtyStates hs fl n sh = (k : ℕ) → k < n → isMarked sh (from hs (getD fl k 0)) ≡ true
 
--- what testing the first n of qs leaves: the first r of fl are those of them that do not close with the set that the marks are, and their flags are taken
+-- what testing the first n of qs leaves: the first r of fl are those of them that do not close with
+-- the set that the marks are, and their flags are cleared
 pub record Tested (hs ms qs : List ℕ) (n : ℕ) (old new fl : List ℕ) (r : ℕ) : Type 0 where
   pub most : r ≤ n
   pub capacity : most-hops ≤ length fl

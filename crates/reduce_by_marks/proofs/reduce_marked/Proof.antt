@@ -1,4 +1,5 @@
--- `reduce_by_marks::reduce_marked` meets its contract: the tables hold what the definitions say. Assumes nothing.
+-- `reduce_by_marks::reduce_marked` meets its contract: the tables hold what the definitions say.
+-- Assumes nothing.
 use native.Mathlib.Omega.{arith}
 use Rattle.reduce_representatives.specs.Internal.Tables.{FromIn}
 use Rattle.reduce_representatives.proofs.Marked.{mark-set-marks}

@@ -16,7 +16,8 @@ use Rattle.reduce_by_marks.specs.declared.ShortGraph.{ShortGraph}
 abbrev pub shortGraph : Shape → List ℕ → Pairs → ShortGraph
 shortGraph sh hs u = record { shape = shortShape sh hs u; hops = length (shortHops sh hs u) }
 
--- the outputs afterwards, where ms are the marks: "Acceptance writes the named elements and none past them"
+-- the outputs afterwards, where ms are the marks: "Acceptance writes the named elements and none
+-- past them"
 abbrev pub mapAfter : Shape → List ℕ → List ℕ → List ℕ → List ℕ
 mapAfter sh hs ms map = onFront (mapList sh hs (markSet hs ms)) map
 

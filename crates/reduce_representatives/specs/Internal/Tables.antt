@@ -40,7 +40,7 @@ FromIn hs = (i : ℕ) → i < count hs → from hs i < most-states
 unfoldable pub NextTable : List ℕ → Pairs → List ℕ → Type 0
 NextTable hs u next = (s : ℕ) → s < most-states → getD next s 0 ≡ nextState hs u s
 
--- by the table no state is left
+-- the table leads from s to s
 unfoldable pub isFixed : List ℕ → ℕ → Bool
 isFixed next s = eqb (getD next s 0) s
 
@@ -49,7 +49,8 @@ unfoldable pub tableSteps : List ℕ → ℕ → ℕ → ℕ
 tableSteps next zero s = s
 tableSteps next (suc k) s = tableSteps next k (getD next s 0)
 
--- the table says how many of the states below each stay, up to one past the last
+-- the table of new numbers says, for each s up to one past the last state, how many states below s
+-- lead to themselves
 unfoldable pub NewNumbers : List ℕ → List ℕ → Type 0
 NewNumbers next news = (s : ℕ) → s ≤ most-states → getD news s 0 ≡ tally s (isFixed next)
 
@@ -61,18 +62,18 @@ newNumber next news k s = getD news (tableSteps next k s) 0
 unfoldable pub ClosedTable : ℕ → List ℕ → Type 0
 ClosedTable n next = (s : ℕ) → s < n → getD next s 0 < n
 
--- along the table a rank falls, but at states where it stays
+-- along the table a rank falls, except at states that lead to themselves
 unfoldable pub RankFalls : ℕ → (ℕ → ℕ) → List ℕ → Type 0
 RankFalls n rank next = (s : ℕ) → s < n → (getD next s 0 ≡ s) ⊎ (rank (getD next s 0) < rank s)
 
--- walks by the table come to rest: some rank of at most n falls along it
+-- walks by the table terminate: some rank of at most n falls along it
 pub record TerminatingTable (n : ℕ) (next : List ℕ) : Type 0 where
   pub rank : ℕ → ℕ
   pub bound : (s : ℕ) → s < n → rank s ≤ n
   pub falls : RankFalls n rank next
 
--- the second table leads each of n states to where the first does, and whatever falls along the first falls along it: of some states the
--- representative has been noted
+-- the second table leads each of n states to where the first does, and any rank that falls along
+-- the first falls along it: for some states the representative has been entered
 pub record Compressed (n : ℕ) (next known : List ℕ) : Type 0 where
   pub long : length known ≡ length next
   pub closed : ClosedTable n known

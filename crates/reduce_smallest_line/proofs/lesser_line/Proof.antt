@@ -1,4 +1,5 @@
--- `reduce_smallest_line::lesser_line` meets its contract: the code is the definition. Assumes nothing.
+-- `reduce_smallest_line::lesser_line` meets its contract: the code is the definition. Assumes
+-- nothing.
 use borrow.Author.Tests.{eq-eqb, ne-eqb, lt-ltb, le-ltb}
 use Rattle.reduce_smallest_line.specs.Lines.{lesserLine}
 use Rattle.reduce_smallest_line.proofs.lesser_line.Statement.{statement}

@@ -1,4 +1,5 @@
--- What only private functions and proofs cite beside `Lines`. Assumes nothing: this is a definition.
+-- What only private functions and proofs cite beside `Lines`. Assumes nothing: this is a
+-- definition.
 use Prim.Native.Nat.{ℕ, zero, suc}
 use mathlib.Core.Bool.{Bool, cond}
 use Rattle.reduce_smallest_line.specs.Lines.{lesserLine}

@@ -1,4 +1,5 @@
--- `report_rows::put_map` meets its contract: after s turns the lines of the first s states stand there. Assumes nothing.
+-- `report_rows::put_map` meets its contract: after s steps the lines of the first s states stand
+-- there. Assumes nothing.
 use Prim.Native.Nat.{_-_, _≤_}
 use mathlib.Core.Path.{_≡_, refl, sym}
 use native.Mathlib.Omega.{arith}

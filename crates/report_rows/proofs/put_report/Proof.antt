@@ -1,4 +1,5 @@
--- `report_rows::put_report` meets its contract: the five parts stand one behind the other. Assumes nothing.
+-- `report_rows::put_report` meets its contract: the five parts stand one behind the other. Assumes
+-- nothing.
 use mathlib.Core.Path.{refl}
 use Rattle.graph.specs.Hops.{count}
 use Rattle.report_rows.proofs.Parts.{capacity-in, capacity-marks, capacity-map, capacity-out, capacity-hops, report-put}

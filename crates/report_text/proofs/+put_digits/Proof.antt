@@ -1,4 +1,5 @@
--- `report_text::put_digits` meets its contract: the digits before the last are those of the number without it. Assumes nothing.
+-- `report_text::put_digits` meets its contract: the digits before the last are those of the number
+-- without it. Assumes nothing.
 use Prim.Native.Nat.{ℕ, _<_}
 use mathlib.Core.Path.{sym}
 use native.Mathlib.Omega.{arith}

@@ -1,4 +1,5 @@
--- `report_text::put_line` meets its contract: the word, the numbers and the line feed stand one behind the other. Assumes nothing.
+-- `report_text::put_line` meets its contract: the word, the numbers and the line feed stand one
+-- behind the other. Assumes nothing.
 use mathlib.Core.Path.{sym}
 use mathlib.Core.List.{[], _∷_, _++_}
 use Rattle.report_text.specs.Text.{spacedNumbers}

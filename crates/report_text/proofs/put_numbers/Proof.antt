@@ -1,9 +1,10 @@
--- `report_text::put_numbers` meets its contract: after i turns the first i numbers stand there. Assumes nothing.
+-- `report_text::put_numbers` meets its contract: after i steps the first i numbers stand there.
+-- Assumes nothing.
 use Prim.Native.Nat.{_-_, _≤_}
 use mathlib.Core.Path.{_≡_, refl, sym}
 use native.Mathlib.Omega.{arith}
 use lib.ListN.{length}
-use Rattle.report_text.specs.Text.{textLines}
+use Rattle.base_outputs.specs.Concat.{concat}
 use Rattle.report_text.specs.Internal.Text.{TextPut}
 use Rattle.report_text.proofs.Puts.{put-same, capacity-same, spacedAt, numbered-lines, lines-none, lines-capacity, lines-more, lines-done}
 use borrow.Author.Needs.{needs}
@@ -12,7 +13,7 @@ use Rattle.report_text.proofs.put_numbers.Tie as tie
 
 abbrev Inv-loop : tie.InvT-loop
 Inv-loop out₀ at numbers next₀ i₀ out next i =
-    (i ≤ length numbers) × (length out ≡ length out₀) × TextPut out₀ at (textLines i (spacedAt numbers)) next out
+    (i ≤ length numbers) × (length out ≡ length out₀) × TextPut out₀ at (concat i (spacedAt numbers)) next out
 
 abbrev μ-loop : tie.MeasureT-loop
 μ-loop out₀ at numbers next₀ i₀ out next i = length numbers - i

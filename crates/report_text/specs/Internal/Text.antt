@@ -1,4 +1,5 @@
--- What only private functions and proofs cite beside `Text`. Assumes nothing: these are definitions.
+-- What only private functions and proofs cite beside `Text`. Assumes nothing: these are
+-- definitions.
 use Prim.Native.Nat.{ℕ, _+_, _-_, _*_, _≤_}
 use mathlib.Core.Path.{_≡_}
 use mathlib.Core.List.{List, [], _∷_}
@@ -10,11 +11,12 @@ unfoldable pub digitsValue : ℕ → List ℕ → ℕ
 digitsValue before [] = before
 digitsValue before (d ∷ ds) = digitsValue (10 * before + (d - 48)) ds
 
--- the buffer has room for the text from place `at` on
+-- the text fits into the buffer from place `at` on
 pub record TextFits (at : ℕ) (text buffer : List ℕ) : Type 0 where
   pub fits : at + length text ≤ length buffer
 
--- the text was put into the buffer from place `at` on, over what was there and over nothing else; `next` is the place behind it
+-- the text was put into the buffer from place `at` on, over what was there and over nothing else;
+-- `next` is the place behind it
 pub record TextPut (old : List ℕ) (at : ℕ) (text : List ℕ) (next : ℕ) (new : List ℕ) : Type 0 where
   pub follows : next ≡ at + length text
   pub stands : new ≡ overAt at text old

@@ -1,4 +1,5 @@
--- `shrink_compose::put_composed` meets its contract: after s turns the first s entries lead on, the others are as they were. Assumes nothing.
+-- `shrink_compose::put_composed` meets its contract: after s steps the first s entries are
+-- composed, the others are as they were. Assumes nothing.
 use Prim.Native.Nat.{ℕ, _-_, _≤_}
 use mathlib.Core.Path.{_≡_, refl, ap, _∙_}
 use mathlib.Core.List.{List}

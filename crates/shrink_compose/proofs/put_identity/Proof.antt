@@ -1,4 +1,5 @@
--- `shrink_compose::put_identity` meets its contract: after s turns the first s numbers stand at the front. Assumes nothing.
+-- `shrink_compose::put_identity` meets its contract: after s steps the first s numbers stand at the
+-- front. Assumes nothing.
 use Prim.Native.Nat.{ℕ, _-_, _≤_}
 use mathlib.Core.Path.{_≡_, refl, _∙_}
 use native.Mathlib.Omega.{arith}

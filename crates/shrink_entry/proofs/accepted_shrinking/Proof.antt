@@ -1,4 +1,5 @@
--- `shrink_entry::accepted_shrinking` meets its contract: the loop leaves the last stage, and that is returned and written. Assumes nothing.
+-- `shrink_entry::accepted_shrinking` meets its contract: the loop leaves the last stage, and that
+-- is returned and written. Assumes nothing.
 use mathlib.Core.Path.{sym, _∙_}
 use native.Mathlib.Omega.{arith}
 use lib.Seq.{length-take-le}

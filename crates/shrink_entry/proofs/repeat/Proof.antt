@@ -1,4 +1,5 @@
--- `shrink_entry::repeat` meets its contract: each turn stands at a stage of the repetition, and the last one at the last. Assumes nothing.
+-- `shrink_entry::repeat` meets its contract: before each iteration the code is at a stage of the
+-- repetition, and at the end at the last stage. Assumes nothing.
 use mathlib.Core.Path.{_≡_, refl, ap, _∙_}
 use native.Mathlib.Omega.{arith}
 use lib.ListN.{length}

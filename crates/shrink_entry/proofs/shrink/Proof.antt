@@ -1,4 +1,5 @@
--- `shrink_entry::shrink` meets its contract: a refusal writes nothing, and acceptance gives what the repetition needs. Assumes nothing.
+-- `shrink_entry::shrink` meets its contract: a refusal writes nothing, and acceptance is what the
+-- repetition requires. Assumes nothing.
 use mathlib.Core.Path.{_∙_}
 use Rattle.reduce_entry.proofs.Answering.{reduce-reducible, reduce-map-capacity, reduce-short-capacity}
 use Rattle.shrink_entry.proofs.Answering.{refused-returns, refused-map, refused-short, accepts, accepted-returns, accepted-map, accepted-short}

@@ -1,4 +1,5 @@
--- `shrink_step::mark_stage` meets its contract: a mark stands exactly where a hop of the marked set does. Assumes nothing.
+-- `shrink_step::mark_stage` meets its contract: a mark stands exactly where a hop of the marked set
+-- does. Assumes nothing.
 use Rattle.graph_successors.proofs.Firsts.{admitted-indexable}
 use Rattle.shrink_step.proofs.Marking.{some-result}
 use borrow.Author.Needs.{needs}

@@ -1,4 +1,5 @@
--- `shrink_step::step` meets its contract: where nothing is marked the stage stays, else the lists hold the next one. Assumes nothing.
+-- `shrink_step::step` meets its contract: where nothing is marked the stage stays, else the lists
+-- hold the next one. Assumes nothing.
 use mathlib.Core.Path.{sym, ap}
 use native.Mathlib.Omega.{arith}
 use borrow.Author.Tests.{not-true, not-false}

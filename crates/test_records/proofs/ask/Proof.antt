@@ -1,6 +1,6 @@
--- `test_records::ask` is safe: a walk of its MIR, by hand. The front of the local array is lent to both entries for a lifetime that is made for the calls, and the array comes back (`Front.antt`).
--- All that the proof knows of the three callees is that they meet their contracts.
--- Assumes nothing.
+-- `test_records::ask` is safe: a walk of its MIR, by hand. The front of the local array is lent to
+-- both entries for a lifetime that is made for the calls, and the array comes back (`Front.antt`).
+-- All that the proof knows of the three callees is that they meet their contracts. Assumes nothing.
 use mathlib.Core.Path.{_≡_, refl, sym, ap, subst}
 use Prim.Native.Nat.{ℕ, _*_, _<_, _≤_, _^_}
 use native.Mathlib.Omega.{arith}
@@ -78,7 +78,7 @@ stayed = (stay-dropped (plain (λ _. S.the-row)) yes, (stay-dropped (plain (λ _
 abbrev list-ty : Ty
 list-ty = tyArray (lone (T.the-row .mir)) 4097
 
--- at most 4,097 records have room
+-- at most 4,097 records fit into memory
 capacity-for : (n : ℕ) → n ≤ 4097 → Room T.the-row n
 capacity-for n few = (omega arith, bytes) where
   bytes : n * (2 * numbers-a-hop) < 2 ^ 63

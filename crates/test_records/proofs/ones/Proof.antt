@@ -1,4 +1,5 @@
--- `test_records::ones` is safe and ends: what is counted is at most what was passed. Assumes nothing.
+-- `test_records::ones` is safe and ends: what is counted is at most what was passed. Assumes
+-- nothing.
 use borrow.Author.Needs.{needs}
 use Prim.Native.Nat.{_≤_, _-_}
 use lib.ListN.{length}

@@ -1,4 +1,5 @@
--- `walk_acyclic::ends_ranked` meets its contract. The invariant: the silent hops passed so far lead to noted states. Assumes nothing.
+-- `walk_acyclic::ends_ranked` meets its contract. The invariant: the silent hops passed so far lead
+-- to ranked states. Assumes nothing.
 use Prim.Native.Nat.{ℕ, _+_, _-_, _<_, _≤_}
 use mathlib.Core.Path.{_≡_, sym, ap, _∙_}
 use mathlib.Core.Bool.{true}

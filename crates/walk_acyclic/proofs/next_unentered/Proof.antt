@@ -1,4 +1,5 @@
--- `walk_acyclic::next_unentered` meets its contract: it looks only at places before `past`. Assumes nothing.
+-- `walk_acyclic::next_unentered` meets its contract: it looks only at places before `past`. Assumes
+-- nothing.
 use Prim.Native.Nat.{_-_, _<_}
 use native.Mathlib.Nat.{lt-of-lt-of-le}
 use native.Mathlib.Omega.{arith}

@@ -1,4 +1,5 @@
--- `walk_acyclic::rank_from` meets its contract. The invariant: the search is at a state, and at least `got` states more are ranked. Assumes nothing.
+-- `walk_acyclic::rank_from` meets its contract. The invariant: the search is at a state, and at
+-- least `got` states more are ranked. Assumes nothing.
 use Prim.Native.Nat.{ℕ, _+_, _<_}
 use mathlib.Core.Path.{_≡_, refl, _∙_}
 use mathlib.Core.List.{List}

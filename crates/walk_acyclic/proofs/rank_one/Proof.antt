@@ -1,4 +1,5 @@
--- `walk_acyclic::rank_one` meets its contract: v is ranked only where all its silent hops lead to ranked states. Assumes nothing.
+-- `walk_acyclic::rank_one` meets its contract: v is ranked only where all its silent hops lead to
+-- ranked states. Assumes nothing.
 use Prim.Native.Nat.{_<_}
 use mathlib.Core.Path.{refl, sym, _∙_}
 use native.Mathlib.Nat.{lt-of-lt-of-le}

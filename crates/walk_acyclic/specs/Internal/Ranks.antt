@@ -10,11 +10,11 @@ use Rattle.graph.specs.Hops.{count, to, labelled}
 use Rattle.walk_reach.specs.Internal.Frontier.{visited}
 use Rattle.walk_silent.specs.Silent.{OnRing}
 
--- every silent hop of v leads to a noted state
+-- every silent hop of v leads to a visited state, one whose byte is 1
 unfoldable pub endsVisited : List ℕ → List ℕ → ℕ → Bool
 endsVisited hs ranked v = all (count hs) (λ (i : ℕ). not (labelled hs v 0 i) || visited ranked (to hs i))
 
--- no noted one of n states is on a ring
+-- no visited one of n states is on a ring
 abbrev pub OffRings : List ℕ → ℕ → List ℕ → Type 0
 OffRings hs n ranked = (t : ℕ) → t < n → visited ranked t ≡ true → OnRing hs t → ⊥
 

@@ -1,4 +1,5 @@
--- `walk_reach::clear` meets its contract. The invariant: the first i bytes are 0 and the others are as they were. Assumes nothing.
+-- `walk_reach::clear` meets its contract. The invariant: the first i bytes are 0 and the others are
+-- as they were. Assumes nothing.
 use Prim.Native.Nat.{ℕ, _<_, _≤_, _-_}
 use mathlib.Core.Path.{_≡_, refl, ap, _∙_}
 use mathlib.Core.List.{List, _++_}

@@ -1,4 +1,5 @@
--- `walk_reach::expand` meets its contract. The invariant: the front has grown by the ends of the chosen hops passed so far. Assumes nothing.
+-- `walk_reach::expand` meets its contract. The invariant: the frontier has grown by the ends of the
+-- chosen hops passed so far. Assumes nothing.
 use Prim.Native.Nat.{ℕ, _+_, _-_, _<_, _≤_}
 use mathlib.Core.Path.{_≡_, refl, ap, _∙_}
 use mathlib.Core.Logic.{⊎-elim}

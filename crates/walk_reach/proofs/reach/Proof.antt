@@ -1,4 +1,5 @@
--- `walk_reach::reach` meets its contract. The invariant: the search that held where the loop began holds. Assumes nothing.
+-- `walk_reach::reach` meets its contract. The invariant: the search that held where the loop began
+-- holds. Assumes nothing.
 use Prim.Native.Nat.{ℕ, _-_}
 use mathlib.Core.List.{List}
 use native.Mathlib.Omega.{arith}

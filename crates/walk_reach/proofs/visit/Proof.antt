@@ -1,4 +1,5 @@
--- `walk_reach::visit` meets its contract: the two ways out are the two cases of the definition. Assumes nothing.
+-- `walk_reach::visit` meets its contract: the two ways out are the two cases of the definition.
+-- Assumes nothing.
 use mathlib.Core.Path.{_≡_}
 use mathlib.Core.Bool.{true, false}
 use native.Mathlib.Omega.{arith}

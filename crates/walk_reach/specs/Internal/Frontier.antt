@@ -15,7 +15,7 @@ use Rattle.graph_successors.specs.Internal.SuccessorIndex.{Indexed}
 use Rattle.walk_reach.specs.Internal.Reach.{ChosenOf, chosenIn}
 use Rattle.walk_reach.specs.Reach.{leadsBy}
 
--- state t is noted
+-- state t is visited
 unfoldable pub visited : List ℕ → ℕ → Bool
 visited seen t = eqb (getD seen t 0) 1
 
@@ -23,7 +23,7 @@ visited seen t = eqb (getD seen t 0) 1
 unfoldable pub reachedBytes : List ℕ → (ℕ → Bool) → ℕ → ℕ → List ℕ
 reachedBytes hs c n s = tabulate n (λ (t : ℕ). cond (leadsBy hs c n s t) 1 0)
 
--- to note t: its byte is 1, and a state that was not noted stands at the end of the queue
+-- the visit of t: its byte is 1, and if it was not visited before it stands at the end of the queue
 unfoldable pub seenWith : List ℕ → ℕ → List ℕ
 seenWith seen t = cond (visited seen t) seen (set seen t 1)
 
@@ -43,7 +43,7 @@ pub record Space (n : ℕ) (seen queue : List ℕ) : Type 0 where
   pub seen-capacity : n ≤ length seen
   pub queue-capacity : n ≤ length queue
 
--- the noted ones of n states are the first `tail` of the queue
+-- the visited ones of n states are the first `tail` of the queue
 pub record Frontier (n : ℕ) (seen queue : List ℕ) (tail : ℕ) : Type 0 where
   pub seen-capacity : n ≤ length seen
   pub queue-capacity : n ≤ length queue
@@ -52,7 +52,7 @@ pub record Frontier (n : ℕ) (seen queue : List ℕ) (tail : ℕ) : Type 0 wher
   pub in-queue : (t : ℕ) → t < n → visited seen t ≡ true → (q : ℕ) × (q < tail) × (getD queue q 0 ≡ t)
   pub from-queue : (q : ℕ) → q < tail → (getD queue q 0 < n) × (visited seen (getD queue q 0) ≡ true)
 
--- from one front to a later one, by noting ends of hops of v of the set c
+-- from one frontier to a later one, by visits of ends of hops of v of the set c
 pub record Grown (hs : List ℕ) (c : ℕ → Bool) (n v : ℕ) (seen queue : List ℕ) (tail : ℕ) (seen′ queue′ : List ℕ) (tail′ : ℕ) : Type 0 where
   pub front : Frontier n seen′ queue′ tail′
   pub kept : (u : ℕ) → visited seen u ≡ true → visited seen′ u ≡ true
@@ -63,7 +63,7 @@ pub record Grown (hs : List ℕ) (c : ℕ → Bool) (n v : ℕ) (seen queue : Li
   pub seen-length : length seen′ ≡ length seen
   pub queue-length : length queue′ ≡ length queue
 
--- and all of them are noted
+-- and all of them are visited
 pub record Expanded (hs : List ℕ) (c : ℕ → Bool) (n v : ℕ) (seen queue : List ℕ) (tail : ℕ) (seen′ queue′ : List ℕ) (tail′ : ℕ) : Type 0 where
   pub grown : Grown hs c n v seen queue tail seen′ queue′ tail′
   pub every : (u : ℕ) → ChosenOf hs c v u → visited seen′ u ≡ true

@@ -1,4 +1,5 @@
--- What only private functions and proofs cite beside `Reach`. Assumes nothing: these are definitions.
+-- What only private functions and proofs cite beside `Reach`. Assumes nothing: these are
+-- definitions.
 use Prim.Native.Nat.{ℕ, _<_}
 use mathlib.Core.Path.{_≡_}
 use mathlib.Core.Bool.{Bool, true}

@@ -1,4 +1,5 @@
--- `walk_rings::is_on_ring` meets its contract: a ranked state is on no ring, and after a search from s the hops that lead back tell. Assumes nothing.
+-- `walk_rings::is_on_ring` meets its contract: a ranked state is on no ring, and after a search
+-- from s it is on a ring exactly if some hop leads back. Assumes nothing.
 use mathlib.Core.Path.{sym, _∙_}
 use borrow.Author.Needs.{needs}
 use Rattle.walk_reach.proofs.Frontier.{visited-yes}

@@ -1,4 +1,5 @@
--- `walk_rings::lowest_on_ring` meets its contract: where all states are ranked there is no ring. Assumes nothing.
+-- `walk_rings::lowest_on_ring` meets its contract: where all states are ranked there is no ring.
+-- Assumes nothing.
 use native.Mathlib.Omega.{arith}
 use borrow.Author.Needs.{needs}
 use Rattle.graph.specs.Answers.{most-states}

@@ -1,4 +1,5 @@
--- `walk_rings::lowest_unranked` meets its contract. The invariant: no state passed so far is on a ring. Assumes nothing.
+-- `walk_rings::lowest_unranked` meets its contract. The invariant: no state passed so far is on a
+-- ring. Assumes nothing.
 use Prim.Native.Nat.{ℕ, _-_, _<_, _≤_}
 use mathlib.Core.Path.{_≡_, refl, sym, _∙_}
 use native.Mathlib.Omega.{arith}

@@ -1,4 +1,5 @@
--- `walk_rings::returns` meets its contract. The invariant: no hop passed so far does. Assumes nothing.
+-- `walk_rings::returns` meets its contract. The invariant: no hop passed so far does. Assumes
+-- nothing.
 use Prim.Native.Nat.{_-_, _≤_}
 use mathlib.Core.Path.{_≡_, sym}
 use mathlib.Core.Bool.{false}

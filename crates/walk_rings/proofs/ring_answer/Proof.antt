@@ -1,4 +1,5 @@
--- `walk_rings::ring_answer` meets its contract: the two ways out are the two cases of the definition. Assumes nothing.
+-- `walk_rings::ring_answer` meets its contract: the two ways out are the two cases of the
+-- definition. Assumes nothing.
 use mathlib.Core.Path.{_∙_}
 use borrow.Author.Needs.{needs}
 use borrow.Author.Tests.{lt-ltb, le-ltb}

@@ -1,4 +1,5 @@
--- `walk_topological_order::order_of` meets its contract. The invariant: there is a line of the placed states. The measure is how many states are not placed. Assumes nothing.
+-- `walk_topological_order::order_of` meets its contract. The invariant: the order so far has the
+-- silent hops of the placed states. The measure is how many states are not placed. Assumes nothing.
 use Prim.Native.Nat.{ℕ, _-_}
 use mathlib.Core.Path.{_≡_, sym, _∙_}
 use native.Mathlib.Omega.{arith}

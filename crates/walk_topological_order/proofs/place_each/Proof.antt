@@ -1,4 +1,6 @@
--- `walk_topological_order::place_each` meets its contract. The invariant: there is a line, and the states tried so far are placed or cannot be, if none was placed. Assumes nothing.
+-- `walk_topological_order::place_each` meets its contract. The invariant: the order so far has the
+-- silent hops of the placed states, and if no state was placed, those tried so far are placed
+-- already or cannot be. Assumes nothing.
 use Prim.Native.Nat.{_-_, _<_}
 use mathlib.Core.Path.{_≡_, refl, _∙_}
 use native.Mathlib.Omega.{arith}

@@ -1,4 +1,5 @@
--- `walk_topological_order::place_one` meets its contract: v is placed where it is not yet and all its silent hops lead to placed states. Assumes nothing.
+-- `walk_topological_order::place_one` meets its contract: v is placed where it is not yet and all
+-- its silent hops lead to placed states. Assumes nothing.
 use Prim.Native.Nat.{_<_}
 use mathlib.Core.Path.{_≡_, refl, sym, _∙_}
 use mathlib.Core.Bool.{true, false}

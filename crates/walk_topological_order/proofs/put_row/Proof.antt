@@ -1,4 +1,5 @@
--- `walk_topological_order::put_row` meets its contract. The invariant: the silent hops passed so far stand at the end of the line. Assumes nothing.
+-- `walk_topological_order::put_row` meets its contract. The invariant: the silent hops passed so
+-- far stand at the end of the order. Assumes nothing.
 use Prim.Native.Nat.{ℕ, _+_, _-_, _<_}
 use mathlib.Core.Path.{_≡_, refl, sym, _∙_}
 use mathlib.Core.Bool.{true}

@@ -17,7 +17,7 @@ use Rattle.walk_topological_order.specs.declared.Counts.{Counts}
 abbrev pub passState : ℕ → Bool → ℕ → ℕ
 passState n down k = cond down (n - 1 - k) k
 
--- the silent hops of v, and no others, have come behind the first n of the line, which has r then
+-- the silent hops of v, and no others, are appended to the first n of the order, which then has r
 pub record RowAppended (hs : List ℕ) (v : ℕ) (sorted : List ℕ) (n : ℕ) (sorted′ : List ℕ) (r : ℕ) : Type 0 where
   pub long : length sorted′ ≡ length sorted
   pub later : n ≤ r
@@ -30,7 +30,8 @@ pub record RowAppended (hs : List ℕ) (v : ℕ) (sorted : List ℕ) (n : ℕ) (
 unfoldable pub isOrdered : List ℕ → List ℕ → ℕ → Bool
 isOrdered hs placed i = eqb (label hs i) 0 && visited placed (from hs i)
 
--- the silent hops of the placed ones of n states are the line so far, in its order; they lead to placed states
+-- the order so far: it has the silent hops of the placed ones of n states, which lead to placed
+-- states, in reverse topological order
 pub record OrderedSoFar (hs : List ℕ) (n : ℕ) (placed sorted : List ℕ) (at : Counts) : Type 0 where
   pub bytes : n ≤ length placed
   pub capacity : count hs ≤ length sorted
@@ -45,7 +46,8 @@ pub record OrderedSoFar (hs : List ℕ) (n : ℕ) (placed sorted : List ℕ) (at
 abbrev pub Stuck : List ℕ → List ℕ → ℕ → Type 0
 Stuck hs placed v = endsVisited hs placed v ≡ true → visited placed v ≡ true
 
--- after the states of W were tried more than the m states are placed, or the same, and none of W can be
+-- after the states of W were tried: more than m states are placed, or the same ones and none of W
+-- that is not placed can be
 pub data PlacedOrStuck (hs : List ℕ) (W : ℕ → Type 0) (placed : List ℕ) (m : ℕ) (placed′ : List ℕ) (m′ : ℕ) : Type 0 where
   more : m < m′ → PlacedOrStuck hs W placed m placed′ m′
   none : placed′ ≡ placed → m′ ≡ m → ((u : ℕ) → W u → Stuck hs placed u) → PlacedOrStuck hs W placed m placed′ m′
@@ -54,7 +56,7 @@ pub data PlacedOrStuck (hs : List ℕ) (W : ℕ → Type 0) (placed : List ℕ) 
 abbrev pub OnlyState : ℕ → ℕ → Type 0
 OnlyState v u = u ≡ v
 
--- after a pass there is a line still, and if not all states were placed before, more are now
+-- after a pass: the order so far is in order still, and if not all states were placed, more are now
 pub record PassGains (hs : List ℕ) (n : ℕ) (at : Counts) (placed′ sorted′ : List ℕ) (at′ : Counts) : Type 0 where
   pub ordered : OrderedSoFar hs n placed′ sorted′ at′
   pub more : at .states < n → at .states < at′ .states

@@ -6,7 +6,8 @@ use mathlib.Core.List.{List}
 use lib.ListN.{length, getD}
 use Rattle.graph.specs.Hops.{count, from, label, to}
 
--- the first n numbers are the places of the silent hops, each of them there, and where one leads to a state the silent hops of that state stand before it
+-- the first n numbers are the places of the silent hops, and all of them; the silent hops that
+-- leave a hop's end stand before that hop
 pub record TopologicalOrder (hs sorted : List ℕ) (n : ℕ) : Type 0 where
   pub capacity : n ≤ length sorted
   pub within : (k : ℕ) → k < n → getD sorted k 0 < count hs

@@ -1,5 +1,5 @@
--- `read_input` is safe and ends, and what it took lies within the buffer. Each turn leaves less of the buffer to fill: a read that takes nothing is
--- the last one. Assumes nothing.
+-- `read_input` is safe and ends, and what it took lies within the buffer. Each iteration leaves
+-- less of the buffer to fill: a read that takes nothing is the last one. Assumes nothing.
 use Prim.Native.Nat.{_≤_, _-_}
 use mathlib.Core.Path.{_≡_}
 use native.Mathlib.Omega.{arith}

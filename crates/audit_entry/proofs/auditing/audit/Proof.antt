@@ -1,4 +1,5 @@
--- `audit_entry::auditing::audit` meets its contract: its two ways out are the two cases of the definition. Assumes nothing.
+-- `audit_entry::auditing::audit` meets its contract: its two ways out are the two cases of the
+-- definition. Assumes nothing.
 use borrow.Author.Needs.{needs}
 use mathlib.Core.Path.{sym, ap, _∙_}
 use Rattle.graph.specs.declared.Answer.{Answer}

@@ -1,4 +1,5 @@
--- `audit_entry::counting::fault_count` meets its contract: the three sums, which fit, and the first fault of the lowest kind. Assumes nothing.
+-- `audit_entry::counting::fault_count` meets its contract: the three sums, which fit, and the first
+-- fault of the lowest kind. Assumes nothing.
 use borrow.Author.Needs.{needs}
 use Prim.Native.Nat.{_+_, _≤_}
 use mathlib.Core.Path.{_≡_, _∙_}

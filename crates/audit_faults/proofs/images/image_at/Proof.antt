@@ -1,4 +1,5 @@
--- `audit_faults::images::image_at` meets its contract: the search answers At or Gap, as in the definition. Assumes nothing.
+-- `audit_faults::images::image_at` meets its contract: the search answers At or Gap, as in the
+-- definition. Assumes nothing.
 use borrow.Author.Needs.{needs}
 use mathlib.Core.Path.{_≡_, ap}
 use native.Mathlib.Omega.{arith}

@@ -1,4 +1,5 @@
--- `audit_faults::images::images_of` meets its contract: the elements below i are filled. Assumes nothing.
+-- `audit_faults::images::images_of` meets its contract: the elements below i are filled. Assumes
+-- nothing.
 use Prim.Native.Nat.{ℕ, _-_, _<_, _≤_}
 use mathlib.Core.Path.{_≡_}
 use native.Mathlib.Omega.{arith}

@@ -1,4 +1,5 @@
--- `audit_faults::lost::first_lost` meets its contract: no hop passed so far is lost. Assumes nothing.
+-- `audit_faults::lost::first_lost` meets its contract: no hop passed so far is lost. Assumes
+-- nothing.
 use borrow.Author.Needs.{needs}
 use Prim.Native.Nat.{ℕ, _≤_, _-_}
 use mathlib.Core.Path.{_≡_, sym, _∙_}

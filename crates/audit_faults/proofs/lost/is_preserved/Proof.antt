@@ -1,5 +1,5 @@
--- `audit_faults::lost::is_preserved` meets its contract: the table tells whether graph 2 has the hop, and only for one that it has not the classes are asked.
--- Assumes nothing.
+-- `audit_faults::lost::is_preserved` meets its contract: the table says whether graph 2 has the
+-- hop, and only where it has not the classes are compared. Assumes nothing.
 use borrow.Author.Needs.{needs}
 use mathlib.Core.Path.{_≡_, _∙_}
 use native.Mathlib.Omega.{arith}

@@ -1,4 +1,5 @@
--- `audit_faults::lost::lost_faults` meets its contract: a hop is lost exactly when the first place is below the hop count. Assumes nothing.
+-- `audit_faults::lost::lost_faults` meets its contract: a hop is lost exactly when the first place
+-- is below the hop count. Assumes nothing.
 use borrow.Author.Needs.{needs}
 use Rattle.audit_faults.proofs.Preserved.{lost-first, lost-none}
 use Rattle.audit_faults.proofs.lost.lost_faults.Statement.{statement}

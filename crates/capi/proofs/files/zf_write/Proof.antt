@@ -1,4 +1,5 @@
--- `capi::files::zf_write` meets its contract, which is that of `c_file::write_into`. Assumes nothing.
+-- `capi::files::zf_write` meets its contract, which is that of `c_file::write_into`. Assumes
+-- nothing.
 use borrow.Author.Needs.{needs}
 use Rattle.capi.proofs.files.zf_write.Statement.{statement}
 use Rattle.capi.proofs.files.zf_write.Tie as tie

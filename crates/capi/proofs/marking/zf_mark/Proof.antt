@@ -1,4 +1,5 @@
--- `capi::marking::zf_mark` meets its contract, which is that of `c_mark::mark_into`. Assumes nothing.
+-- `capi::marking::zf_mark` meets its contract, which is that of `c_mark::mark_into`. Assumes
+-- nothing.
 use borrow.Author.Needs.{needs}
 use Rattle.capi.proofs.marking.zf_mark.Statement.{statement}
 use Rattle.capi.proofs.marking.zf_mark.Tie as tie

@@ -1,4 +1,5 @@
--- `capi::reducing::zf_audit` meets its contract, which is that of `c_reduce::tell_audit`. Assumes nothing.
+-- `capi::reducing::zf_audit` meets its contract, which is that of `c_audit::audit_into`. Assumes
+-- nothing.
 use borrow.Author.Needs.{needs}
 use Rattle.capi.proofs.reducing.zf_audit.Statement.{statement}
 use Rattle.capi.proofs.reducing.zf_audit.Tie as tie

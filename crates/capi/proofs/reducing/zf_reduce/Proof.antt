@@ -1,4 +1,5 @@
--- `capi::reducing::zf_reduce` meets its contract, which is that of `c_reduce::reduce_into`. Assumes nothing.
+-- `capi::reducing::zf_reduce` meets its contract, which is that of `c_reduce::reduce_into`. Assumes
+-- nothing.
 use borrow.Author.Needs.{needs}
 use Rattle.capi.proofs.reducing.zf_reduce.Statement.{statement}
 use Rattle.capi.proofs.reducing.zf_reduce.Tie as tie

@@ -1,4 +1,5 @@
--- `capi::reducing::zf_shrink` meets its contract, which is that of `c_shrink::shrink_into`. Assumes nothing.
+-- `capi::reducing::zf_shrink` meets its contract, which is that of `c_shrink::shrink_into`. Assumes
+-- nothing.
 use borrow.Author.Needs.{needs}
 use Rattle.capi.proofs.reducing.zf_shrink.Statement.{statement}
 use Rattle.capi.proofs.reducing.zf_shrink.Tie as tie

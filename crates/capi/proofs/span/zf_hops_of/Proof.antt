@@ -1,4 +1,5 @@
--- `capi::span::zf_hops_of` meets its contract, which is that of `c_hops_of::hops_of_into`. Assumes nothing.
+-- `capi::span::zf_hops_of` meets its contract, which is that of `c_hops_of::hops_of_into`. Assumes
+-- nothing.
 use borrow.Author.Needs.{needs}
 use Rattle.capi.proofs.span.zf_hops_of.Statement.{statement}
 use Rattle.capi.proofs.span.zf_hops_of.Tie as tie

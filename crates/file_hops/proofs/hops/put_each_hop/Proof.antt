@@ -1,19 +1,20 @@
--- `file_hops::hops::put_each_hop` meets its contract: after i turns the bytes of the first i hops stand in their place. Assumes nothing.
+-- `file_hops::hops::put_each_hop` meets its contract: after i steps the bytes of the first i hops
+-- stand in their place. Assumes nothing.
 use Prim.Native.Nat.{_+_, _*_, _-_, _≤_}
 use mathlib.Core.Path.{_≡_, refl}
 use native.Mathlib.Omega.{arith}
 use lib.ListN.{length}
 use Rattle.graph.specs.Hops.{count}
 use Rattle.base_outputs.specs.Internal.Output.{overAt}
-use Rattle.file_numbers.specs.Parts.{parts}
 use Rattle.file_hops.specs.Field.{bytes-a-hop}
 use Rattle.file_hops.proofs.Field.{hopBytesAt, hops-none, hops-more, hops-done}
 use borrow.Author.Needs.{needs}
 use Rattle.file_hops.proofs.hops.put_each_hop.Statement.{statement}
 use Rattle.file_hops.proofs.hops.put_each_hop.Tie as tie
+use Rattle.base_outputs.specs.Concat.{concat}
 
 abbrev Inv-loop : tie.InvT-loop
-Inv-loop out₀ at hops n i₀ out i = (out ≡ overAt at (parts i (hopBytesAt hops)) out₀) × (length out ≡ length out₀) × (i ≤ n) × (n ≡ count hops) × (at + bytes-a-hop * count hops ≤ length out₀)
+Inv-loop out₀ at hops n i₀ out i = (out ≡ overAt at (concat i (hopBytesAt hops)) out₀) × (length out ≡ length out₀) × (i ≤ n) × (n ≡ count hops) × (at + bytes-a-hop * count hops ≤ length out₀)
 
 abbrev μ-loop : tie.MeasureT-loop
 μ-loop out₀ at hops n i₀ out i = n - i

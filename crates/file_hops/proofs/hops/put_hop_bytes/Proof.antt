@@ -1,4 +1,5 @@
--- `file_hops::hops::put_hop_bytes` meets its contract: its first three numbers, one after the other. Assumes nothing.
+-- `file_hops::hops::put_hop_bytes` meets its contract: its first three numbers, one after the
+-- other. Assumes nothing.
 use Rattle.file_hops.proofs.Field.{hop-put}
 use borrow.Author.Needs.{needs}
 use Rattle.file_hops.proofs.hops.put_hop_bytes.Statement.{statement}

@@ -1,4 +1,5 @@
--- `file_hops::hops::take_hops` meets its contract: after i turns the first i hops stand in front. Assumes nothing.
+-- `file_hops::hops::take_hops` meets its contract: after i steps the first i hops stand in front.
+-- Assumes nothing.
 use Prim.Native.Nat.{_-_, _≤_}
 use mathlib.Core.Path.{_≡_, refl, _∙_}
 use native.Mathlib.Omega.{arith}

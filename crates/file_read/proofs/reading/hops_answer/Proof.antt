@@ -1,4 +1,5 @@
--- `file_read::reading::hops_answer` meets its contract: what is checked is the list that stands in the file. Assumes nothing.
+-- `file_read::reading::hops_answer` meets its contract: what is checked is the list that stands in
+-- the file. Assumes nothing.
 use mathlib.Core.Path.{_∙_}
 use native.Mathlib.Omega.{arith}
 use Rattle.file_fields.proofs.Laws.{names-before-end, lines-lie}

@@ -1,4 +1,5 @@
--- `file_read::reading::read` meets its contract: a refusal writes nothing, and acceptance says that there is room and that all lies within the file. Assumes nothing.
+-- `file_read::reading::read` meets its contract: a refusal writes nothing, and acceptance says that
+-- the output is long enough and that all lies within the file. Assumes nothing.
 use mathlib.Core.Path.{sym, _∙_}
 use native.Mathlib.Omega.{arith}
 use Rattle.file_fields.proofs.Laws.{lines-lie}

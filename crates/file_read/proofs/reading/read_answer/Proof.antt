@@ -1,4 +1,5 @@
--- `file_read::reading::read_answer` meets its contract: each way out is a case of the definition. Assumes nothing.
+-- `file_read::reading::read_answer` meets its contract: each way out is a case of the definition.
+-- Assumes nothing.
 use mathlib.Core.Path.{sym, ap, _∙_}
 use native.Mathlib.Omega.{arith}
 use Rattle.graph.specs.Hops.{numberPlace}

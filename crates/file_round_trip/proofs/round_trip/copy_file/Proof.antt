@@ -1,4 +1,5 @@
--- `file_round_trip::round_trip::copy_file` meets its contract: what was read is written, and its bytes are those of the file. Assumes nothing.
+-- `file_round_trip::round_trip::copy_file` meets its contract: what was read is written, and its
+-- bytes are those of the file. Assumes nothing.
 use Prim.Native.Nat.{ℕ}
 use mathlib.Core.Path.{_≡_, _∙_}
 use native.Mathlib.Omega.{arith}

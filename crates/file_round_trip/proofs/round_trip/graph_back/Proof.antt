@@ -1,4 +1,5 @@
--- `file_round_trip::round_trip::graph_back` meets its contract: what was written is read, and it is the graph that was given. Assumes nothing.
+-- `file_round_trip::round_trip::graph_back` meets its contract: what was written is read, and it is
+-- the graph that was given. Assumes nothing.
 use mathlib.Core.Path.{_∙_}
 use native.Mathlib.Omega.{arith}
 use Rattle.file_read.proofs.Entry.{row-refuses}

@@ -1,4 +1,5 @@
--- `file_write::writing::block_answer` meets its contract: each way out is a case of the definition. Assumes nothing.
+-- `file_write::writing::block_answer` meets its contract: each way out is a case of the definition.
+-- Assumes nothing.
 use mathlib.Core.Path.{_∙_}
 use native.Mathlib.Omega.{arith}
 use Rattle.file_write.proofs.Given.{block-early, block-left, block-searchable, block-bad, block-good}

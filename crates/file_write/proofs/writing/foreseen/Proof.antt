@@ -1,4 +1,5 @@
--- `file_write::writing::foreseen` meets its contract: each way out is a case of the definition. Assumes nothing.
+-- `file_write::writing::foreseen` meets its contract: each way out is a case of the definition.
+-- Assumes nothing.
 use borrow.Author.Needs.{needs}
 use native.Mathlib.Omega.{arith}
 use mathlib.Core.Path.{ap, _∙_}

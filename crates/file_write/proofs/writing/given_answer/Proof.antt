@@ -1,4 +1,5 @@
--- `file_write::writing::given_answer` meets its contract: each way out is a case of the definition. Assumes nothing.
+-- `file_write::writing::given_answer` meets its contract: each way out is a case of the definition.
+-- Assumes nothing.
 use native.Mathlib.Omega.{arith}
 use Rattle.file_write.proofs.Given.{graph-refused, graph-labels, graph-bare, graph-named}
 use borrow.Author.Needs.{needs}

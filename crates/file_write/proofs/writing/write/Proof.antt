@@ -1,4 +1,5 @@
--- `file_write::writing::write` meets its contract: a refusal writes nothing, and acceptance says that there is room. Assumes nothing.
+-- `file_write::writing::write` meets its contract: a refusal writes nothing, and acceptance says
+-- that the output is long enough. Assumes nothing.
 use borrow.Author.Needs.{needs}
 use Rattle.file_write.proofs.Given.{refused-writes, gives-length, gives-writable, accepted-writes}
 use Rattle.file_write.proofs.writing.write.Statement.{statement}

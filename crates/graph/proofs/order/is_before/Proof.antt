@@ -1,4 +1,5 @@
--- `graph::order::is_before` meets its contract: one sum is below another exactly when its hop comes first. Assumes nothing.
+-- `graph::order::is_before` meets its contract: one sum is below another exactly when its hop comes
+-- first. Assumes nothing.
 use borrow.Author.Needs.{needs}
 use Rattle.graph.proofs.Sums.{sums-before}
 use Rattle.graph.proofs.order.is_before.Statement.{statement}

@@ -1,4 +1,5 @@
--- `graph::order::is_same` meets its contract: two sums are equal exactly when the hops are alike. Assumes nothing.
+-- `graph::order::is_same` meets its contract: two sums are equal exactly when the hops are alike.
+-- Assumes nothing.
 use borrow.Author.Needs.{needs}
 use Rattle.graph.proofs.Sums.{sums-same}
 use Rattle.graph.proofs.order.is_same.Statement.{statement}

@@ -1,4 +1,5 @@
--- `graph::search::find` meets its contract: the whole list brackets every hop, and none stands behind it. Assumes nothing.
+-- `graph::search::find` meets its contract: the whole list brackets every hop, and none stands
+-- behind it. Assumes nothing.
 use borrow.Author.Needs.{needs}
 use Rattle.graph.proofs.Lookup.{whole-bracket, whole-absent}
 use Rattle.graph.proofs.search.find.Statement.{statement}

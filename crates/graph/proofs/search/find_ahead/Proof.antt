@@ -1,4 +1,5 @@
--- `graph::search::find_ahead` meets its contract: what lies below `at` is before the hop. Assumes nothing.
+-- `graph::search::find_ahead` meets its contract: what lies below `at` is before the hop. Assumes
+-- nothing.
 use Prim.Native.Nat.{_-_, _≤_}
 use mathlib.Core.Path.{_≡_, sym, _∙_}
 use native.Mathlib.Omega.{arith}

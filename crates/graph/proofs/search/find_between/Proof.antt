@@ -1,4 +1,5 @@
--- `graph::search::find_between` meets its contract: it asks at the place that the search came to. Assumes nothing.
+-- `graph::search::find_between` meets its contract: it asks at the place that the search came to.
+-- Assumes nothing.
 use borrow.Author.Needs.{needs}
 use mathlib.Core.Path.{_∙_}
 use native.Mathlib.Omega.{arith}

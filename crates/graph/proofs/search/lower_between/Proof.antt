@@ -1,4 +1,5 @@
--- `graph::search::lower_between` meets its contract: what lies below lo is before the hop, and what lies from hi on is not. Assumes nothing.
+-- `graph::search::lower_between` meets its contract: what lies below lo is before the hop, and what
+-- lies from hi on is not. Assumes nothing.
 use borrow.Author.Needs.{needs}
 use Prim.Native.Nat.{_-_, _≤_}
 use mathlib.Core.Path.{_≡_, sym}

@@ -1,4 +1,5 @@
--- `graph::search::lower_place` meets its contract: the whole list brackets every hop. Assumes nothing.
+-- `graph::search::lower_place` meets its contract: the whole list brackets every hop. Assumes
+-- nothing.
 use borrow.Author.Needs.{needs}
 use Rattle.graph.proofs.Lookup.{whole-bracket}
 use Rattle.graph.proofs.search.lower_place.Statement.{statement}

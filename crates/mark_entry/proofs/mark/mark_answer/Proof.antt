@@ -1,4 +1,5 @@
--- `mark_entry::mark::mark_answer` meets its contract: rows 1 to 4 speak, or row 19, or the later ones do. Assumes nothing.
+-- `mark_entry::mark::mark_answer` meets its contract: rows 1 to 4 speak, or row 19, or the later
+-- ones do. Assumes nothing.
 use borrow.Author.Needs.{needs}
 use Rattle.graph_check.proofs.Checked.{check-admitted}
 use Rattle.graph_successors.proofs.Firsts.{admitted-indexable}

@@ -1,4 +1,5 @@
--- `mark_entry_round::question::check_place` meets its contract: each way out is a case of row 9. Assumes nothing.
+-- `mark_entry_round::question::check_place` meets its contract: each way out is a case of row 9.
+-- Assumes nothing.
 use borrow.Author.Needs.{needs}
 use mathlib.Core.Path.{_∙_}
 use native.Mathlib.Omega.{arith}

@@ -1,4 +1,5 @@
--- `mark_entry_round::question::question_answer` meets its contract: the first row that speaks. Assumes nothing.
+-- `mark_entry_round::question::question_answer` meets its contract: the first row that speaks.
+-- Assumes nothing.
 use borrow.Author.Needs.{needs}
 use Rattle.mark_entry_round.proofs.Rows.{answer-checked, answer-placed, answer-rounds}
 use Rattle.mark_entry_round.proofs.question.question_answer.Statement.{statement}

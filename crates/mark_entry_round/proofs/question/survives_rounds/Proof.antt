@@ -1,4 +1,5 @@
--- `mark_entry_round::question::survives_rounds` meets its contract: an empty table is right. Assumes nothing.
+-- `mark_entry_round::question::survives_rounds` meets its contract: an empty table is right.
+-- Assumes nothing.
 use borrow.Author.Needs.{needs}
 use Prim.Native.Nat.{ℕ, _+_, _*_}
 use native.Mathlib.Omega.{arith}

@@ -1,4 +1,5 @@
--- `reduce_entry::entry::accepted_reduction` meets its contract: the marks are those of the sense's marked set. Assumes nothing.
+-- `reduce_entry::entry::accepted_reduction` meets its contract: the marks are those of the sense's
+-- marked set. Assumes nothing.
 use native.Mathlib.Omega.{arith}
 use Rattle.mark_senses.specs.Senses.{senseOf, markedBy}
 use Rattle.mark_senses.proofs.Marked.{in-silent}

@@ -1,4 +1,5 @@
--- `reduce_entry::entry::mark_in` meets its contract: what the rounds leave is document 01's marked set, which is that of sense 1. Assumes nothing.
+-- `reduce_entry::entry::mark_in` meets its contract: what the rounds leave is document 01's marked
+-- set, which is that of sense 1. Assumes nothing.
 use borrow.Author.Needs.{needs}
 use Rattle.graph_successors.proofs.Firsts.{admitted-indexable}
 use Rattle.mark_senses.proofs.Marked.{marked-by-1}

@@ -1,4 +1,5 @@
--- `reduce_entry::entry::reduce` meets its contract: a refusal writes nothing, and acceptance gives what the reduction needs. Assumes nothing.
+-- `reduce_entry::entry::reduce` meets its contract: a refusal writes nothing, and acceptance is
+-- what the reduction requires. Assumes nothing.
 use mathlib.Core.Path.{_∙_}
 use Rattle.graph_check.proofs.Checked.{check-admitted}
 use Rattle.graph_successors.proofs.Firsts.{admitted-indexable}

@@ -1,4 +1,5 @@
--- `reduce_entry::entry::reduce_answer` meets its contract: rows 1 to 4 speak, or the later ones do. Assumes nothing.
+-- `reduce_entry::entry::reduce_answer` meets its contract: rows 1 to 4 speak, or the later ones do.
+-- Assumes nothing.
 use Rattle.graph_check.proofs.Checked.{check-admitted}
 use Rattle.graph_successors.proofs.Firsts.{admitted-indexable}
 use Rattle.reduce_entry.proofs.Answering.{answer-checked, answer-later}

@@ -1,4 +1,5 @@
--- `reduce_representatives::follow::compress_path` meets its contract: the states passed have their representative in the table, which leads where it led. Assumes nothing.
+-- `reduce_representatives::follow::compress_path` meets its contract: the states passed have their
+-- representative in the table, which leads where it led. Assumes nothing.
 use Prim.Native.Nat.{_<_, _≤_, _-_}
 use mathlib.Core.Path.{_≡_, sym, _∙_}
 use native.Mathlib.Omega.{arith}

@@ -1,4 +1,5 @@
--- `reduce_representatives::follow::enter` meets its contract: the code is the definition. Assumes nothing.
+-- `reduce_representatives::follow::enter` meets its contract: the code is the definition. Assumes
+-- nothing.
 use borrow.Author.Tests.{eq-eqb, ne-eqb}
 use Rattle.mark_confluence.specs.Internal.MarkSet.{isMarked}
 use Rattle.reduce_representatives.specs.Internal.Tables.{withNext}

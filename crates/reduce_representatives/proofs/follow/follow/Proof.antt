@@ -1,4 +1,5 @@
--- `reduce_representatives::follow::follow` meets its contract: what is left of the walk leads from where it is to where the whole walk does. Assumes nothing.
+-- `reduce_representatives::follow::follow` meets its contract: what is left of the walk leads from
+-- where it is to where the whole walk does. Assumes nothing.
 use Prim.Native.Nat.{_<_, _≤_, _-_}
 use mathlib.Core.Path.{_≡_, sym, _∙_}
 use native.Mathlib.Omega.{arith}

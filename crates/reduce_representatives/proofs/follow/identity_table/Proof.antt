@@ -1,4 +1,5 @@
--- `reduce_representatives::follow::identity_table` meets its contract: the elements below s are filled. Assumes nothing.
+-- `reduce_representatives::follow::identity_table` meets its contract: the elements below s are
+-- filled. Assumes nothing.
 use Prim.Native.Nat.{ℕ, _<_, _≤_, _-_}
 use mathlib.Core.Path.{_≡_, refl}
 use native.Mathlib.Omega.{arith}

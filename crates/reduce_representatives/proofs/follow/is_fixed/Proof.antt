@@ -1,4 +1,5 @@
--- `reduce_representatives::follow::is_fixed` meets its contract: the code is the definition. Assumes nothing.
+-- `reduce_representatives::follow::is_fixed` meets its contract: the code is the definition.
+-- Assumes nothing.
 use Rattle.reduce_representatives.specs.Internal.Tables.{isFixed}
 use borrow.Author.Needs.{needs}
 use Rattle.reduce_representatives.proofs.follow.is_fixed.Statement.{statement}

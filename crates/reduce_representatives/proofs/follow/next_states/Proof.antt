@@ -1,4 +1,5 @@
--- `reduce_representatives::follow::next_states` meets its contract: the table holds where the first marked hop from place i on leads. Assumes nothing.
+-- `reduce_representatives::follow::next_states` meets its contract: the table holds where the first
+-- marked hop from place i on leads. Assumes nothing.
 use Prim.Native.Nat.{ℕ, suc, _<_, _≤_, _-_}
 use mathlib.Core.Path.{_≡_}
 use native.Mathlib.Omega.{arith}

@@ -1,5 +1,6 @@
--- `reduce_representatives::renumber::fill_map` meets its contract: the elements below s are written, the others as they were, and the table that representatives
--- are noted in leads where the one that was lent does. Assumes nothing.
+-- `reduce_representatives::renumber::fill_map` meets its contract: the elements below s are
+-- written, the others are as they were, and the table in which representatives are entered leads
+-- where the one that was passed in does. Assumes nothing.
 use Prim.Native.Nat.{ℕ, _≤_, _-_}
 use mathlib.Core.Path.{_≡_, refl, ap, _∙_}
 use native.Mathlib.Omega.{arith}

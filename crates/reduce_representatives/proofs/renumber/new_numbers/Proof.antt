@@ -1,4 +1,5 @@
--- `reduce_representatives::renumber::new_numbers` meets its contract: the elements up to s are filled, and `found` is the last. Assumes nothing.
+-- `reduce_representatives::renumber::new_numbers` meets its contract: the elements up to s are
+-- filled, and `found` is the last. Assumes nothing.
 use Prim.Native.Nat.{ℕ, _+_, _<_, _≤_, _-_}
 use mathlib.Core.Path.{_≡_, sym, ap, _∙_}
 use mathlib.Core.Logic.{⊎-elim}

@@ -1,4 +1,5 @@
--- `report_entry::print::print_contents` meets its contract: reading refuses exactly what is refused before a graph is asked. Assumes nothing.
+-- `report_entry::print::print_contents` meets its contract: reading refuses exactly what is refused
+-- before a graph is asked. Assumes nothing.
 use Prim.Native.Nat.{ℕ, _≤_}
 use native.Mathlib.Omega.{arith}
 use lib.ListN.{length, replicate, length-replicate}

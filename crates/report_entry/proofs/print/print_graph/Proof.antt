@@ -1,4 +1,5 @@
--- `report_entry::print::print_graph` meets its contract: of a graph that is admitted only row 5 is left to ask. Assumes nothing.
+-- `report_entry::print::print_graph` meets its contract: of a graph that is admitted only row 5 is
+-- left to ask. Assumes nothing.
 use Rattle.graph_successors.proofs.Firsts.{admitted-indexable}
 use Rattle.report_text.proofs.Puts.{put-same}
 use Rattle.report_entry.proofs.Lengths.{refusal-most}

@@ -1,4 +1,5 @@
--- `report_entry::print::print_input` meets its contract: an input that is too long is refused, and any other is printed as a file. Assumes nothing.
+-- `report_entry::print::print_input` meets its contract: an input that is too long is refused, and
+-- any other is printed as a file. Assumes nothing.
 use mathlib.Core.Path.{_∙_, ap}
 use Rattle.report_text.proofs.Puts.{put-same}
 use Rattle.report_rows.specs.Rows.{refusalOf}

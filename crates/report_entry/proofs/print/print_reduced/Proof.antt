@@ -1,4 +1,5 @@
--- `report_entry::print::print_reduced` meets its contract: what marking and reducing left is what the report shows. Assumes nothing.
+-- `report_entry::print::print_reduced` meets its contract: what marking and reducing left is what
+-- the report shows. Assumes nothing.
 use native.Mathlib.Omega.{arith}
 use mathlib.Core.Path.{sym}
 use lib.ListN.{replicate}

@@ -1,4 +1,5 @@
--- `walk_silent::chosen::silent_byte` meets its contract: the two ways out are the two cases of the definition. Assumes nothing.
+-- `walk_silent::chosen::silent_byte` meets its contract: the two ways out are the two cases of the
+-- definition. Assumes nothing.
 use mathlib.Core.Path.{sym, _∙_}
 use borrow.Author.Needs.{needs}
 use borrow.Author.Tests.{eq-eqb, ne-eqb}

@@ -1,4 +1,5 @@
--- `walk_silent::chosen::silent_bytes` meets its contract: the bytes below i are filled. Assumes nothing.
+-- `walk_silent::chosen::silent_bytes` meets its contract: the bytes below i are filled. Assumes
+-- nothing.
 use Prim.Native.Nat.{ℕ, _-_, _<_, _≤_}
 use mathlib.Core.Path.{_≡_, ap, _∙_}
 use mathlib.Core.Bool.{cond}
