@@ -1,6 +1,7 @@
 #!/usr/bin/env bash
-# Does what README.md and docs/REFERENCE.md show: compiles and runs the C program (as C and as C++) and the Rust program, compares the reports, and turns
-# the files that are written out byte by byte into files for the program.
+# Does what README.md, docs/REFERENCE.md and rust/README.md show. Compiles and runs the C program (as
+# C and as C++) and the Rust program, and compares the reports. Pastes every listing of REFERENCE,
+# and every one of rust/README.md that has an output, into a shell and compares what it prints.
 set -euo pipefail
 cd "$(dirname "$0")/.."
 top=$PWD
@@ -28,10 +29,51 @@ same() {
 # block FILE FENCE TEXT: the first fenced block of FILE that opens with FENCE and has TEXT in it
 block() {
     awk -v fence="$2" -v text="$3" '
-        inside && /^```$/ { inside = 0; if (index(held, text)) { printf "%s", held; found = 1; exit } }
+        !inside && /^```/ { inside = 1; opened = $0; held = ""; next }
+        inside && /^```$/ {
+            inside = 0
+            if (opened == fence && index(held, text)) { printf "%s", held; found = 1; exit }
+            next
+        }
         inside { held = held $0 "\n" }
-        !inside && $0 == fence { inside = 1; held = "" }
         END { if (!found) exit 1 }' "$1"
+}
+
+# listings FILE TO: each fenced block of FILE that opens with ```sh becomes TO/NN.sh. The next block,
+# if it opens with ``` alone, is what it prints: TO/NN.out. Any other block becomes TO/NN.other
+listings() {
+    mkdir -p "$2"
+    awk -v to="$2" '
+        !inside && /^```/ {
+            inside = 1
+            kind = $0 == "```sh" ? "sh" : $0 == "```" && before == "sh" ? "out" : "other"
+            before = kind
+            if (kind != "out") count++
+            file = sprintf("%s/%02d.%s", to, count, kind)
+            printf "" >file
+            next
+        }
+        inside && /^```$/ { inside = 0; next }
+        inside { print >file }' "$1"
+}
+
+# pasted PAGE LISTING DIR: LISTING.sh, a listing of a page, prints in DIR what LISTING.out has; its
+# status is 1 where that is a refusal, else 0
+pasted() {
+    local name status=0 expected=0
+    name="$1, listing $(basename "$2")"
+    if [ ! -e "$2.out" ]; then
+        failed=$((failed + 1))
+        echo "$name: the page does not show what it prints" >&2
+        return
+    fi
+    if grep -q '^no ' "$2.out"; then expected=1; fi
+    (cd "$3" && bash "$2.sh") >"$2.printed" || status=$?
+    if [ "$status" -ne "$expected" ]; then
+        failed=$((failed + 1))
+        echo "$name: status $status, expected $expected" >&2
+    fi
+    same "$name" "$2.out" "$2.printed"
 }
 
 # shown NAME PRINTED: each line that was printed stands in the README, in backquotes
@@ -87,26 +129,34 @@ for page in README.md docs/REFERENCE.md; do
     same "the report in $page" crates/zundrafipo/stdout "$work/report"
 done
 
-# bytes: the numbers in base 16 that a line begins with, up to three spaces and a word
-bytes() {
-    sed -E 's/ {3,}.*//; s/[^0-9a-f ]//g' | tr -s ' \n' '\n' | while IFS= read -r byte; do
-        [ -z "$byte" ] || printf '%b' "\\x$byte"
-    done
-}
-
-block docs/REFERENCE.md '```' '02                 hops follow' | bytes >"$work/p1.zf"
+# the listings of REFERENCE, which has no other blocks; the files that they write are the tests' own
+listings docs/REFERENCE.md "$work/reference"
+ln -s "$top/run" "$work/run"
+for listing in "$work"/reference/*.sh; do
+    pasted docs/REFERENCE.md "${listing%.sh}" "$work"
+done
+for other in "$work"/reference/*.other; do
+    [ -e "$other" ] || continue
+    failed=$((failed + 1))
+    echo "docs/REFERENCE.md: a block that is no listing: $(head -n 1 "$other")" >&2
+done
 same "the bytes of P1" crates/zundrafipo/stdin "$work/p1.zf"
-block docs/REFERENCE.md '```' '07                 initial state' | bytes >"$work/named.zf"
 [ "$(wc -c <"$work/named.zf")" -eq 38 ]
 same "the bytes of P1 with an initial state and a name" tests/program/p1_reference.in "$work/named.zf"
-block docs/REFERENCE.md '```' '0a                 hops and lines follow' | bytes >"$work/lined.zf"
 [ "$(wc -c <"$work/lined.zf")" -eq 39 ]
 same "the bytes of P1 with lines" tests/program/p1_lines.in "$work/lined.zf"
-block docs/REFERENCE.md '```' 'two.zf' | sed -n 's/^printf/printf/p' >"$work/two.sh"
-(cd "$work" && bash two.sh)
-target/bin/zundrafipo <"$work/two.zf" >"$work/printed"
 printf 'in 2 1\nmap 0 0\nmap 1 1\nout 2 1 0\nhop 0 1 1 0\n' >"$work/expected"
+target/bin/zundrafipo <"$work/two.zf" >"$work/printed"
 same "the file written by hand" "$work/expected" "$work/printed"
+
+# rust/README.md: its program is the example p1, and its listings that have an output are run in rust/
+tail -n +2 rust/zundrafipo/examples/p1.rs >"$work/expected"
+block rust/README.md '```rust' 'fn main()' >"$work/found"
+same "the program of rust/README.md" "$work/expected" "$work/found"
+listings rust/README.md "$work/rust"
+for output in "$work"/rust/*.out; do
+    pasted rust/README.md "${output%.out}" "$top/rust"
+done
 
 echo "readme: $passed passed, $failed failed"
 [ "$failed" -eq 0 ]

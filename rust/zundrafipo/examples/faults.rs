@@ -1,5 +1,9 @@
-//! Audits P1, its label 1 named `pass` and its hops from lines 3, 4, 5 and 2, with its short graph, with that one less its hop and with one more, and says which fault is
-//! first (P9).
+//! Audits P1 with three short graphs, and says in words which fault is first (P9).
+//!
+//!     cargo run -p zundrafipo --example faults
+//!
+//! Label 1 of P1 is named `pass`, and its hops come from lines 3, 4, 5 and 2. The first short graph
+//! is the one that reducing leaves, the second lacks its hop, the third has one hop more.
 
 use zundrafipo::{Graph, Hop, NameBlock, Refusal, Sense};
 

@@ -1,9 +1,12 @@
-//! Says which line of the source each hop of a short graph comes from. Of several lines it is the smallest; a hop that comes from no line has none.
+//! Says which line of the source each hop of a short graph comes from. Of several lines it is the
+//! smallest. A hop that comes from no line has none.
 //!
 //!     cargo run -p zundrafipo --example lines [FILE]
 //!
-//! Without a file it is P1, written as a file with lines 3, 4, 5 and 2 and read again. States 0 and 1 become one, and both have a hop labelled 1 into what states 2 and 3
-//! become: the short hop comes from that of the representative, state 1, in line 5, though the other one's line is lower.
+//! Without a file it is P1, written as a file with lines 3, 4, 5 and 2 and read again. States 0 and
+//! 1 become one state, and so do states 2 and 3. Both 0 and 1 have a hop labelled 1 from the one
+//! class to the other. The short hop comes from that of the representative, state 1, in line 5,
+//! though the other hop's line is lower.
 
 use zundrafipo::{read, Graph, Hop, Refusal, Sense};
 

@@ -1,9 +1,10 @@
-//! Prints the short graph of a graph file with names in the place of label numbers: `tau` for the silent label, and the number where a label has no name. Lines are left
-//! out; the example `lines` is about them.
+//! Prints the short graph of a graph file with names in the place of label numbers. The silent
+//! label is `tau`, and a label without a name is its number. Lines are left out: the example
+//! `lines` is about them.
 //!
 //!     cargo run -p zundrafipo --example names [FILE]
 //!
-//! Without a file it is P1, its label 1 named `pass`.
+//! Without a file it is P1, with label 1 named `pass`.
 
 use zundrafipo::{read, File, Graph, Hop, NameBlock, Refusal, Sense};
 
@@ -12,7 +13,7 @@ fn p1() -> Result<Vec<u8>, Refusal> {
     Graph::from_hops(4, 2, 0, hops).write(NameBlock::from_names(["pass"])?.as_bytes())
 }
 
-/// A name may hold any bytes: what is no ASCII to be printed is escaped.
+/// A name may hold any bytes: those that are not printable ASCII are escaped.
 fn shown(file: &File, label: u16) -> String {
     if label == 0 {
         return "tau".to_string();

@@ -1,4 +1,7 @@
-//! Reads a graph file from standard input and prints its short graph, from, label, to and line of each hop, with what the audit of the two says.
+//! Reads a graph file from standard input, reduces the graph and audits the result. Prints the
+//! state counts, the fault count, and from, label, to and line of each short hop.
+//!
+//!     cargo run -p zundrafipo --example reduce <FILE
 
 use std::io::Read;
 

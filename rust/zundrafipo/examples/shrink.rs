@@ -1,6 +1,9 @@
-//! Reduces a silent chain once and then until nothing moves, in each sense. Each reduction but that of R8 takes one state off the chain: only the first silent hop closes,
-//! for state i has a hop labelled 1 to itself where i is odd and to 0 where it is even, and one labelled 2 the other way round. Each state has a line of its own, and what
-//! is left of the chain comes from the line of the last state.
+//! Reduces a silent chain once, and then until no hop is marked, in each sense.
+//!
+//! State i has a hop labelled 1 to itself where i is odd and to 0 where it is even, and one
+//! labelled 2 the other way round. So only the first silent hop is marked, and each reduction takes
+//! one state off the chain. Under R8 one reduction leaves a single state. Each state has a line of
+//! its own, and what is left of the chain comes from the line of the last state.
 //!
 //!     cargo run -p zundrafipo --example shrink [STATES]
 //!

@@ -13,13 +13,18 @@ use std::fmt;
 /// ```
 #[derive(Clone, Copy, Debug, PartialEq, Eq, Hash)]
 pub struct Audit {
-    /// The fault count, at most 4,198,401; 0 when, and only when, the map is a branching bisimulation that joins the initial states.
+    /// The fault count, at most 4,198,401. It is 0 exactly when the map is a branching bisimulation
+    /// that joins the initial states.
     pub faults: u64,
-    /// The first fault, which is the least of all as they are ordered; `None` when, and only when, there is none.
+    /// The first fault, which is the least in the order of [`Fault`]. It is `None` exactly when
+    /// there is no fault.
     pub first: Option<Fault>,
 }
 
-/// A fault of a map from graph 1 to graph 2. Faults are ordered by kind, then by the place of the hop, then by the state.
+/// A fault of a map from graph 1 to graph 2: a place where the map is no branching bisimulation, or
+/// does not join the initial states.
+///
+/// Faults are ordered by kind, then by the place of the hop, then by the state.
 ///
 /// ```
 /// use zundrafipo::{Fault, Graph};
@@ -37,12 +42,14 @@ pub struct Audit {
 pub enum Fault {
     /// Kind 1: the map of the initial state of graph 1 is not that of graph 2.
     Initial,
-    /// Kind 2: a hop of graph 1 that graph 2 does not have between the states to which its ends are mapped; nor is it silent with both mapped to one.
+    /// Kind 2: a hop of graph 1 that graph 2 does not have between the states to which its ends are
+    /// mapped. A silent hop whose ends are mapped to one state is no fault.
     Lost {
         /// The hop's place in graph 1.
         place: usize,
     },
-    /// Kind 3: a hop of graph 2 and a state of graph 1 that is mapped to where the hop starts and does not answer it.
+    /// Kind 3: a hop of graph 2, and a state of graph 1 that is mapped to where the hop starts and
+    /// does not answer it.
     MadeUp {
         /// The hop's place in graph 2.
         place: usize,
@@ -79,7 +86,8 @@ impl Fault {
         }
     }
 
-    /// The place of the hop in its graph, which is graph 1 for kind 2 and graph 2 for kind 3; 0 for kind 1.
+    /// The place of the hop in its graph: in graph 1 for kind 2, in graph 2 for kind 3. It is 0 for
+    /// kind 1.
     ///
     /// ```
     /// use zundrafipo::Fault;
@@ -107,9 +115,12 @@ impl Fault {
         }
     }
 
-    /// A sentence with the numbers of the hop, or of the initial states, with the label's name where the block has one (as
-    /// [`Graph::write`] takes it; empty: no names) and with the hop's source line where it has one. Of a graph that has no hop at the place it says what the fault
-    /// says by itself.
+    /// The fault as a sentence.
+    ///
+    /// It has the numbers of the hop, or of the initial states. It has the label's name where
+    /// `names` has one, and the hop's source line where it has one. `names` is a name block as
+    /// [`Graph::write`] takes it; empty means no names. If the graph has no hop at the place, the
+    /// sentence is that of [`Fault`]'s `Display`.
     ///
     /// ```
     /// use zundrafipo::{Fault, Graph, NameBlock};
@@ -149,7 +160,8 @@ impl Fault {
     }
 }
 
-/// A hop by its numbers, with its label's name where there is one. A name may hold any bytes: what is no ASCII to be printed is escaped.
+/// A hop by its numbers, with its label's name where there is one. A name may hold any bytes: those
+/// that are not printable ASCII are escaped.
 fn shown(hop: Hop, names: &[u8]) -> String {
     let Hop { from, label, to, .. } = hop;
     if hop.is_silent() {
@@ -161,7 +173,7 @@ fn shown(hop: Hop, names: &[u8]) -> String {
     }
 }
 
-/// What the fault says by itself; [`Fault::describe`] has the hop's numbers too.
+/// The fault without the graphs. [`Fault::describe`] has the hop's numbers too.
 ///
 /// ```
 /// use zundrafipo::Fault;

@@ -1,16 +1,21 @@
 //! The archive's functions as `include/zundrafipo.h` declares them.
 //!
-//! A list of hops has four numbers a hop, from, label, to and line, in what goes in and in what is written ([`NUMBERS_A_HOP`](crate::NUMBERS_A_HOP)).
+//! A list of hops has four numbers a hop: from, label, to and line. That holds of inputs and of
+//! outputs ([`NUMBERS_A_HOP`](crate::NUMBERS_A_HOP)).
 //!
-//! Each writes its answer, number, table and place and then its own figures, to `answer` and returns the number. An answer too short speaks last, as
-//! an output too short does: 6, and nothing is written at all. Lengths count elements, a pointer has that many elements behind it (beside a length of 0 it
-//! may be null), and no output may overlap anything else that is lent in the same call. The functions of the crate's root keep all that by themselves.
+//! Each function writes its answer to `answer`: number, table and place, then its own figures. It
+//! returns the number. The answer of [`zf_hops_of`] has figures alone. An answer that is too short
+//! is refused with 6, after everything else was asked, and then nothing at all is written.
+//!
+//! Lengths count elements. A pointer has that many elements behind it; beside a length of 0 it may
+//! be null. No output may overlap anything else that is lent in the same call. The safe functions
+//! of this crate keep all that by themselves.
 
 extern "C" {
-    /// Checks a graph for 1 to 4. Answer: 3.
+    /// Checks a graph (refusals 1 to 4). Answer: 3 elements.
     pub fn zf_check(states: u32, labels: u32, initial: u32, hops: *const u16, hops_len: usize, answer: *mut u64, answer_len: usize) -> u32;
 
-    /// Marks the hops of the greatest set of a sense. Answer: 3.
+    /// Marks the hops of the greatest confluent set of a sense. Answer: 3 elements.
     pub fn zf_mark(
         states: u32,
         labels: u32,
@@ -24,7 +29,7 @@ extern "C" {
         answer_len: usize,
     ) -> u32;
 
-    /// Marks the hops of R1 by rounds. Answer: 4, with the number of tests.
+    /// Marks the hops of R1 by rounds. Answer: 4 elements, with the number of tests.
     pub fn zf_mark_fast(
         states: u32,
         labels: u32,
@@ -37,7 +42,8 @@ extern "C" {
         answer_len: usize,
     ) -> u32;
 
-    /// Reduces a graph in a sense. Answer: 7, with the short graph's state count, label count, hop count and initial state.
+    /// Reduces a graph in a sense. Answer: 7 elements, with the short graph's state count, label
+    /// count, hop count and initial state.
     pub fn zf_reduce(
         states: u32,
         labels: u32,
@@ -53,8 +59,9 @@ extern "C" {
         answer_len: usize,
     ) -> u32;
 
-    /// Reduces in a sense again and again until no hop is marked. Answer: 8, with the last graph's state count, label count, hop count and initial state, and the number
-    /// of reductions that marked something.
+    /// Reduces in a sense again and again until no hop is marked. Answer: 8 elements, with the last
+    /// graph's state count, label count, hop count and initial state, and the number of reductions
+    /// that marked something.
     pub fn zf_shrink(
         states: u32,
         labels: u32,
@@ -70,7 +77,8 @@ extern "C" {
         answer_len: usize,
     ) -> u32;
 
-    /// Counts the faults of a map from graph 1 to graph 2 and names the first. Answer: 7, with the fault count and the first fault's kind, place and state.
+    /// Counts the faults of a map from graph 1 to graph 2 and names the first. Answer: 7 elements,
+    /// with the fault count and the first fault's kind, place and state.
     pub fn zf_audit(
         states1: u32,
         labels1: u32,
@@ -88,7 +96,7 @@ extern "C" {
         answer_len: usize,
     ) -> u32;
 
-    /// The round question. Answer: 4, with 1 or 0.
+    /// The round question. Answer: 4 elements, with 1 or 0.
     pub fn zf_round(
         states: u32,
         labels: u32,
@@ -101,7 +109,8 @@ extern "C" {
         answer_len: usize,
     ) -> u32;
 
-    /// Looks a hop up. Answer: 5, with 1 or 0 and its place, or the number of hops before it.
+    /// Looks a hop up. Answer: 5 elements, with 1 or 0 and its place, or the number of hops before
+    /// it.
     pub fn zf_find(
         states: u32,
         labels: u32,
@@ -115,7 +124,8 @@ extern "C" {
         answer_len: usize,
     ) -> u32;
 
-    /// The outgoing hops of a state. Answer: 2, start and length in numbers of that side's list. Returns 0, or 6 for an answer too short.
+    /// The outgoing hops of a state. Answer: 2 elements, start and length in numbers of that side's
+    /// list. Returns 0, or 6 for an answer that is too short.
     pub fn zf_hops_of(
         side: u32,
         state: u32,
@@ -133,10 +143,11 @@ extern "C" {
         answer_len: usize,
     ) -> u32;
 
-    /// Reads a graph file. Answer: 9, with state count, label count, initial state, hop count, place and length of the name block.
+    /// Reads a graph file. Answer: 9 elements, with state count, label count, initial state, hop
+    /// count, place and length of the name block.
     pub fn zf_read(file: *const u8, file_len: usize, hops: *mut u16, hops_len: usize, answer: *mut u64, answer_len: usize) -> u32;
 
-    /// Writes a graph file. Answer: 4, with the file's length.
+    /// Writes a graph file. Answer: 4 elements, with the file's length.
     pub fn zf_write(
         states: u32,
         labels: u32,

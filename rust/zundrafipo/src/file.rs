@@ -19,12 +19,12 @@ use crate::{ffi, figure, judge, length, Graph, Names, Refusal, MOST_HOPS, NUMBER
 pub struct File<'a> {
     /// The graph.
     pub graph: Graph,
-    /// The name block, which ends where the lines begin; empty for a file without names.
+    /// The name block, which ends where the lines begin. It is empty for a file without names.
     pub name_block: &'a [u8],
 }
 
 impl<'a> File<'a> {
-    /// The names, for labels 1 upward.
+    /// The names of the labels from 1 upward.
     ///
     /// ```
     /// let file = zundrafipo::read(b"\x04\x01\x00\x02\x00\x04pass")?;
@@ -35,7 +35,7 @@ impl<'a> File<'a> {
         Names { left: self.name_block }
     }
 
-    /// The name of a label. The silent one has none, and no label has one in a file without names.
+    /// The name of a label. The silent label has none. In a file without names no label has one.
     ///
     /// ```
     /// let file = zundrafipo::read(b"\x04\x01\x00\x03\x00\x01a\x02bc")?;
@@ -64,7 +64,7 @@ pub struct Figures {
     pub labels: u32,
     /// Initial state.
     pub initial: u32,
-    /// Hop count; the output holds four numbers for each.
+    /// Hop count. The output holds four numbers for each hop.
     pub hops: u32,
     /// The place of the name block in the file; 0 without names.
     pub names_place: usize,
@@ -72,7 +72,7 @@ pub struct Figures {
     pub names_length: usize,
 }
 
-/// Reads a graph file. The lines stand at its end, and only where some hop has one; else all are 0.
+/// Reads a graph file. Where the file has no lines, all lines are 0.
 ///
 /// ```
 /// use zundrafipo::{read, Graph};
@@ -92,7 +92,8 @@ pub fn read(file: &[u8]) -> Result<File<'_>, Refusal> {
     Ok(File { graph, name_block: &file[figures.names_place..figures.names_place + figures.names_length] })
 }
 
-/// Reads a graph file, writing its hops to the front of `hops`; nothing past them, and nothing at all with a refusal.
+/// Reads a graph file and writes its hops to the front of `hops`, which needs four numbers for each
+/// hop of the file. Nothing is written past them, and nothing at all with a refusal.
 ///
 /// ```
 /// let mut hops = [9; 5];
@@ -102,7 +103,8 @@ pub fn read(file: &[u8]) -> Result<File<'_>, Refusal> {
 /// ```
 pub fn read_into(file: &[u8], hops: &mut [u16]) -> Result<Figures, Refusal> {
     let mut answer = [0; 9];
-    // SAFETY: each pointer stands with the length of the slice it is of; output and answer are borrowed alone.
+    // SAFETY: each pointer comes with the length of its slice. Output and answer are borrowed
+    // alone.
     let number = unsafe { ffi::zf_read(file.as_ptr(), file.len(), hops.as_mut_ptr(), hops.len(), answer.as_mut_ptr(), answer.len()) };
     let [_, _, _, states, labels, initial, count, place, block] = judge(number, answer)?;
     Ok(Figures {

@@ -1,9 +1,11 @@
 use crate::{ffi, figure, judge, length, Audit, Fault, Hop, Hops, Refusal, Sense, LONGEST_FILE, MOST_HOPS, NUMBERS_A_HOP};
 use std::ops::Range;
 
-/// A mode graph: counts, initial state and one flat list of hops, which [`Graph::hops`] shows as [`Hop`]s.
+/// A mode graph (labelled transition system): counts, initial state and one flat list of hops.
+/// [`Graph::hops`] gives them as [`Hop`]s.
 ///
-/// Nothing is asked of the numbers here; each entry checks them and refuses what is not admitted. Two graphs are equal where all their numbers are, the hops' lines too.
+/// The numbers may be any. Each entry checks them, and refuses what is not admitted. Two graphs are
+/// equal where all their numbers are, the hops' lines too.
 ///
 /// ```
 /// use zundrafipo::{Graph, Hop};
@@ -22,7 +24,8 @@ pub struct Graph {
     pub labels: u32,
     /// The initial state.
     pub initial: u32,
-    /// Four numbers a hop: from, label, to and the line of the source that it comes from, 0 for none. Strictly ascending by the first three, at most 4,096 hops.
+    /// Four numbers a hop: from, label, to and the line of the source that it comes from, 0 for
+    /// none. Hops are strictly ascending by the first three, and there are at most 4,096.
     pub flat_hops: Vec<u16>,
 }
 
@@ -40,8 +43,9 @@ pub struct Graph {
 pub struct FastMarking {
     /// Whether each hop, in list order, is marked, as [`Graph::mark`] has it under [`Sense::R1`].
     pub marks: Vec<bool>,
-    /// The number of tests. The first round tests every silent hop, each later one those still marked that have a hop to try with a closing that fell in the
-    /// round before.
+    /// The number of tests. The first round tests every silent hop. Each later round tests the hops
+    /// that are still marked and have a hop to try with a closing that lost its mark in the round
+    /// before.
     pub tests: u32,
 }
 
@@ -63,12 +67,12 @@ pub struct FastMarking {
 pub enum Found {
     /// The graph has it, at this place.
     At(usize),
-    /// The graph does not have it; so many hops come before it.
+    /// The graph does not have it. So many hops come before it.
     Gap(usize),
 }
 
 impl Graph {
-    /// A graph of these numbers, its hops as a flat list, not checked yet.
+    /// A graph of these numbers, with its hops as a flat list. Nothing is checked yet.
     ///
     /// ```
     /// let graph = zundrafipo::Graph::new(3, 1, 0, vec![0, 0, 1, 0]);
@@ -78,8 +82,10 @@ impl Graph {
         Graph { states, labels, initial, flat_hops }
     }
 
-    /// A graph of these hops, not checked yet. They stay in the order in which they come, and one out of order is refused with 4: sort them
-    /// first, and keep each once. Hops that differ in the line alone are the same hop.
+    /// A graph of these hops. Nothing is checked yet.
+    ///
+    /// The hops stay in the order in which they come, and a hop out of order is refused with 4. So
+    /// sort them first, and keep each once. Hops that differ in the line alone are the same hop.
     ///
     /// ```
     /// use zundrafipo::{Graph, Hop};
@@ -94,7 +100,7 @@ impl Graph {
         Graph::new(states, labels, initial, hops.into_iter().flat_map(<[u16; NUMBERS_A_HOP]>::from).collect())
     }
 
-    /// The hops, in list order; numbers past the last whole hop are left out.
+    /// The hops, in list order. Numbers past the last whole hop are left out.
     ///
     /// ```
     /// use zundrafipo::{Graph, Hop};
@@ -107,7 +113,8 @@ impl Graph {
         Hops::from(&self.flat_hops[..])
     }
 
-    /// The outgoing hops of a state: a part of the list. Empty for an absent state, or if the graph is refused with 1 to 4; each call checks it.
+    /// The outgoing hops of a state, as a part of the list. It is empty for a state that is not
+    /// there, and if the graph is refused with 1 to 4. Each call checks the graph.
     ///
     /// ```
     /// use zundrafipo::{Graph, Hop};
@@ -122,7 +129,8 @@ impl Graph {
         Hops::from(&self.flat_hops[part_of(1, state, self, &other)])
     }
 
-    /// Looks a hop up: its place in the list, or how many hops come before it. Its line is no matter. The graph is checked as by [`Graph::check`], each time.
+    /// Looks a hop up: gives its place in the list, or how many hops come before it. Its line is
+    /// not looked at. Each call checks the graph as [`Graph::check`] does.
     ///
     /// ```
     /// use zundrafipo::{Found, Graph, Hop};
@@ -136,7 +144,7 @@ impl Graph {
     /// ```
     pub fn find(&self, hop: Hop) -> Result<Found, Refusal> {
         let mut answer = [0; 5];
-        // SAFETY: each pointer stands with the length of the slice it is of; the answer is borrowed alone.
+        // SAFETY: each pointer comes with the length of its slice. The answer is borrowed alone.
         let number = unsafe {
             ffi::zf_find(
                 self.states,
@@ -155,7 +163,8 @@ impl Graph {
         Ok(if found == 1 { Found::At(length(place)) } else { Found::Gap(length(place)) })
     }
 
-    /// Checks counts, initial state, and the range and order of the hops (refusals 1 to 4). Rings are not looked for.
+    /// Checks counts, initial state, and the range and order of the hops (refusals 1 to 4). It does
+    /// not look for rings.
     ///
     /// ```
     /// use zundrafipo::Graph;
@@ -166,14 +175,14 @@ impl Graph {
     /// ```
     pub fn check(&self) -> Result<(), Refusal> {
         let mut answer = [0; 3];
-        // SAFETY: each pointer stands with the length of the slice it is of; the answer is borrowed alone.
+        // SAFETY: each pointer comes with the length of its slice. The answer is borrowed alone.
         let number = unsafe {
             ffi::zf_check(self.states, self.labels, self.initial, self.flat_hops.as_ptr(), self.flat_hops.len(), answer.as_mut_ptr(), answer.len())
         };
         judge(number, answer).map(|_| ())
     }
 
-    /// Whether each hop, in list order, is marked: silent, and in some set of the sense.
+    /// Whether each hop, in list order, is marked: silent, and in some confluent set of the sense.
     ///
     /// ```
     /// use zundrafipo::{Graph, Sense};
@@ -192,7 +201,8 @@ impl Graph {
         Ok(marks.iter().map(|&mark| mark == 1).collect())
     }
 
-    /// Writes one 1 or 0 a hop to the front of `marks`; nothing past them, and nothing at all with a refusal.
+    /// Writes a 1 or a 0 for each hop to the front of `marks`. Nothing is written past them, and
+    /// nothing at all with a refusal.
     ///
     /// ```
     /// use zundrafipo::{Graph, Sense};
@@ -204,7 +214,8 @@ impl Graph {
     /// ```
     pub fn mark_into(&self, sense: Sense, marks: &mut [u8]) -> Result<(), Refusal> {
         let mut answer = [0; 3];
-        // SAFETY: each pointer stands with the length of the slice it is of; outputs and answer are borrowed alone.
+        // SAFETY: each pointer comes with the length of its slice. Outputs and answer are borrowed
+        // alone.
         let number = unsafe {
             ffi::zf_mark(
                 self.states,
@@ -222,7 +233,8 @@ impl Graph {
         judge(number, answer).map(|_| ())
     }
 
-    /// The marks of [`Graph::mark`] under [`Sense::R1`], with the number of tests that the rounds of the marking took.
+    /// The marks of [`Graph::mark`] under [`Sense::R1`], with the number of tests that the rounds
+    /// of the marking took.
     ///
     /// ```
     /// use zundrafipo::{Graph, Sense};
@@ -239,7 +251,8 @@ impl Graph {
         Ok(FastMarking { marks: marks.iter().map(|&mark| mark == 1).collect(), tests })
     }
 
-    /// Writes one 1 or 0 a hop to the front of `marks` and gives the number of tests; nothing past them, and nothing at all with a refusal.
+    /// Writes a 1 or a 0 for each hop to the front of `marks`, and gives the number of tests.
+    /// Nothing is written past them, and nothing at all with a refusal.
     ///
     /// ```
     /// use zundrafipo::Graph;
@@ -251,7 +264,8 @@ impl Graph {
     /// ```
     pub fn mark_fast_into(&self, marks: &mut [u8]) -> Result<u32, Refusal> {
         let mut answer = [0; 4];
-        // SAFETY: each pointer stands with the length of the slice it is of; outputs and answer are borrowed alone.
+        // SAFETY: each pointer comes with the length of its slice. Outputs and answer are borrowed
+        // alone.
         let number = unsafe {
             ffi::zf_mark_fast(
                 self.states,
@@ -269,7 +283,8 @@ impl Graph {
         Ok(figure(tests))
     }
 
-    /// Counts the faults of `map` as a map from this graph, graph 1, to `other`, graph 2, and names the first. Rings are allowed in both.
+    /// Counts the faults of `map` as a map from this graph, graph 1, to `other`, graph 2, and names
+    /// the first. Rings are allowed in both.
     ///
     /// ```
     /// use zundrafipo::{Fault, Graph};
@@ -282,7 +297,7 @@ impl Graph {
     /// ```
     pub fn audit(&self, other: &Graph, map: &[u16]) -> Result<Audit, Refusal> {
         let mut answer = [0; 7];
-        // SAFETY: each pointer stands with the length of the slice it is of; the answer is borrowed alone.
+        // SAFETY: each pointer comes with the length of its slice. The answer is borrowed alone.
         let number = unsafe {
             ffi::zf_audit(
                 self.states,
@@ -305,7 +320,8 @@ impl Graph {
         Ok(Audit { faults, first: Fault::named(kind, place, state) })
     }
 
-    /// Whether the silent hop at `place` survives `rounds`, 0 to 4, of the marking under [`Sense::R1`]. Rings do not matter.
+    /// Whether the silent hop at `place` survives `rounds`, 0 to 4, of the marking under
+    /// [`Sense::R1`]. Rings are allowed.
     ///
     /// ```
     /// use zundrafipo::Graph;
@@ -318,7 +334,7 @@ impl Graph {
     /// ```
     pub fn survives(&self, place: u64, rounds: u32) -> Result<bool, Refusal> {
         let mut answer = [0; 4];
-        // SAFETY: each pointer stands with the length of the slice it is of; the answer is borrowed alone.
+        // SAFETY: each pointer comes with the length of its slice. The answer is borrowed alone.
         let number = unsafe {
             ffi::zf_round(
                 self.states,
@@ -336,8 +352,11 @@ impl Graph {
         Ok(survives == 1)
     }
 
-    /// The graph as a file, with a name block ([`NameBlock`](crate::NameBlock)): for labels 1 upward a length byte of 1 to 32 and that many bytes. An
-    /// empty block: no names. The lines stand behind the names where some hop has one.
+    /// The graph as a file, with a name block.
+    ///
+    /// The block has, for each label from 1 upward, a length byte of 1 to 32 and that many bytes.
+    /// An empty block means no names. [`NameBlock`](crate::NameBlock) makes one. Where some hop has
+    /// a line, the lines stand behind the names.
     ///
     /// ```
     /// use zundrafipo::Graph;
@@ -356,7 +375,8 @@ impl Graph {
         Ok(file)
     }
 
-    /// Writes the graph as a file to the front of `out` and gives the file's length; nothing past it, and nothing at all with a refusal.
+    /// Writes the graph as a file to the front of `out`, and gives the file's length. Nothing is
+    /// written past it, and nothing at all with a refusal.
     ///
     /// ```
     /// use zundrafipo::Graph;
@@ -368,7 +388,8 @@ impl Graph {
     /// ```
     pub fn write_into(&self, names: &[u8], out: &mut [u8]) -> Result<usize, Refusal> {
         let mut answer = [0; 4];
-        // SAFETY: each pointer stands with the length of the slice it is of; output and answer are borrowed alone.
+        // SAFETY: each pointer comes with the length of its slice. Output and answer are borrowed
+        // alone.
         let number = unsafe {
             ffi::zf_write(
                 self.states,
@@ -389,8 +410,11 @@ impl Graph {
     }
 }
 
-/// The outgoing hops of a state, as a part of the flat list of the graph on that side, 1 or 2. Empty for another side, an absent state, or if either
-/// graph is refused with 1 to 4. For one graph there is [`Graph::hops_of`]; [`Hops::from`] shows the part as hops.
+/// The outgoing hops of a state, as a part of the flat list of the graph on that side, 1 or 2.
+///
+/// The part is empty for another side, for a state that is not there, and if either graph is
+/// refused with 1 to 4. [`Hops::from`] gives the part as hops. For one graph there is
+/// [`Graph::hops_of`].
 ///
 /// ```
 /// use zundrafipo::{hops_of, Graph};
@@ -409,7 +433,7 @@ pub fn hops_of<'a>(side: u32, state: u32, one: &'a Graph, two: &'a Graph) -> &'a
 /// Where the outgoing hops of a state stand in the list of the graph on that side.
 fn part_of(side: u32, state: u32, one: &Graph, two: &Graph) -> Range<usize> {
     let mut answer = [0; 2];
-    // SAFETY: each pointer stands with the length of the slice it is of; the answer is borrowed alone.
+    // SAFETY: each pointer comes with the length of its slice. The answer is borrowed alone.
     unsafe {
         ffi::zf_hops_of(
             side,

@@ -4,10 +4,12 @@ use std::hash::{Hash, Hasher};
 use std::iter::FusedIterator;
 use std::num::NonZeroU16;
 
-/// A hop. Hops are ordered as a graph's list must be: by `from`, then `label`, then `to`.
+/// A hop (transition). Hops are ordered as a graph's list must be: by `from`, then `label`, then
+/// `to`.
 ///
-/// **The line has no part in it**: hops that differ in the line alone are equal, have the same hash, and are not both admitted in one graph. To compare lines too, compare
-/// `[u16; 4]`s; two [`Graph`](crate::Graph)s are equal only where their lines are.
+/// **Order, equality and hash leave the line out.** Hops that differ in the line alone are equal,
+/// have the same hash, and are not both admitted in one graph. To compare lines too, compare
+/// `[u16; 4]`s. Two [`Graph`](crate::Graph)s are equal only where their lines are.
 ///
 /// ```
 /// use zundrafipo::Hop;
@@ -25,11 +27,11 @@ use std::num::NonZeroU16;
 pub struct Hop {
     /// The state it leaves.
     pub from: u16,
-    /// Its label; 0 is silent.
+    /// Its label. 0 is silent (tau).
     pub label: u16,
     /// The state it leads to.
     pub to: u16,
-    /// The line of the source that it comes from; 0 for none.
+    /// The line of the source that it comes from, 0 for none.
     pub line: u16,
 }
 
@@ -44,7 +46,7 @@ impl Hop {
         Hop { from, label, to, line: 0 }
     }
 
-    /// The same hop with this line; with 0 it has none.
+    /// The same hop with this line. With 0 it has none.
     ///
     /// ```
     /// use zundrafipo::Hop;
@@ -131,9 +133,11 @@ impl From<Hop> for [u16; NUMBERS_A_HOP] {
     }
 }
 
-/// A flat list of numbers, or a part of one, seen as hops: four numbers a hop. Numbers past the last whole hop are left out.
+/// A flat list of numbers, or a part of one, seen as hops: four numbers a hop. Numbers past the
+/// last whole hop are left out.
 ///
-/// [`Graph::hops`](crate::Graph::hops) and [`Graph::hops_of`](crate::Graph::hops_of) give it out; `Hops::from` makes one of any flat list.
+/// [`Graph::hops`](crate::Graph::hops) and [`Graph::hops_of`](crate::Graph::hops_of) return it.
+/// `Hops::from` makes one of any flat list.
 ///
 /// ```
 /// use zundrafipo::{Hop, Hops};

@@ -1,8 +1,9 @@
-//! Silent-hop reduction for mode graphs.
+//! Silent-hop reduction for mode graphs (tau-confluence on labelled transition systems).
 //!
-//! Safe wrappers over an archive in which every function is proved against its contract. A graph is shrunk by striking out confluent silent hops
-//! ([`Graph::reduce`]), and the result can be held against the original ([`Graph::audit`]): no faults means that the map between them is a branching
-//! bisimulation that joins the initial states.
+//! This crate has safe wrappers over an archive in which every function is proved against its
+//! contract. [`Graph::reduce`] makes a graph smaller by striking out confluent silent hops.
+//! [`Graph::audit`] compares the result with the original: no faults means that the map between
+//! them is a branching bisimulation that joins the initial states.
 //!
 //! ```
 //! use zundrafipo::{Graph, Sense};
@@ -16,16 +17,23 @@
 //! # Ok::<(), zundrafipo::Refusal>(())
 //! ```
 //!
-//! Which silent hops count as confluent is said by a [`Sense`]: [`Sense::R1`] is strong confluence, and the weaker ones mark more hops. What one reduction leaves may
-//! be reduced again: [`Graph::shrink`] goes on until no hop is marked, with one map for all of it.
+//! A [`Sense`] says which silent hops count as confluent. [`Sense::R1`] is strong confluence, and
+//! the weaker ones can mark more hops. What one reduction leaves may have marked hops again:
+//! [`Graph::shrink`] goes on until no hop is marked, and gives one map for all of it.
 //!
-//! A graph's hops are one flat list, four numbers a hop; [`Hop`] and [`Graph::hops`] are a typed view of it, and [`Graph::from_hops`] makes one of hops. The fourth is the
-//! line of the source that the hop comes from, 0 for none: a short hop keeps the smallest of those that it comes from ([`Graph::reduce`]), and nothing else looks at it.
-//! [`Graph::find`] says where in the list a hop stands. Where an audit counts faults it names the first of them, and a [`Fault`] says itself in words.
+//! A graph's hops are one flat list, four numbers a hop. [`Hop`] and [`Graph::hops`] are a typed
+//! view of it, and [`Graph::from_hops`] makes a graph of hops. The fourth number is the line of the
+//! source that the hop comes from, 0 for none. A short hop keeps the smallest nonzero line of the
+//! hops that it comes from ([`Graph::reduce`]). Order, marking and audit do not look at lines.
 //!
-//! No entry panics on what it is given: whatever is not admitted comes back as a [`Refusal`], and numbers go through unchanged.
+//! [`Graph::find`] says where in the list a hop stands. An audit that counts faults names the first
+//! of them, and [`Fault::describe`] says it in words.
 //!
-//! The archive is made for x86-64 Linux, and so is this crate: for another target it does not build.
+//! No entry panics on what it is given. Numbers go to the archive unchanged, and whatever is not
+//! admitted comes back as a [`Refusal`].
+//!
+//! The archive is made for x86-64 Linux, and so is this crate. For another target it does not
+//! build.
 
 #![deny(missing_docs)]
 
@@ -51,7 +59,7 @@ pub use short::{Reduction, ShortFigures, Shrinking, ShrunkFigures};
 /// The most states a graph can have.
 pub const MOST_STATES: usize = 1024;
 
-/// The most labels a graph can have, the silent one counted.
+/// The most labels a graph can have, with the silent one.
 pub const MOST_LABELS: usize = 1024;
 
 /// The most hops a graph can have.
@@ -63,7 +71,7 @@ pub const NUMBERS_A_HOP: usize = 4;
 /// The length of the longest legal file. The program takes files of up to 65,536 bytes.
 pub const LONGEST_FILE: usize = 66_536;
 
-/// Splits an answer of an entry: its figures, or the refusal.
+/// Splits the answer of an entry: its figures, or the refusal.
 fn judge<const N: usize>(number: u32, answer: [u64; N]) -> Result<[u64; N], Refusal> {
     if number == 0 {
         Ok(answer)
@@ -72,7 +80,8 @@ fn judge<const N: usize>(number: u32, answer: [u64; N]) -> Result<[u64; N], Refu
     }
 }
 
-/// A count or state number of an accepted graph, at most 65,535, or the number of tests of its marking, at most 16,777,216.
+/// A count or state number of an accepted graph, at most 65,535, or the number of tests of its
+/// marking, at most 16,777,216.
 fn figure(number: u64) -> u32 {
     u32::try_from(number).expect("a figure of an accepted graph fits 32 bits")
 }

@@ -4,11 +4,13 @@ use std::iter::FusedIterator;
 /// The most bytes that a name can have.
 const LONGEST_NAME: usize = 32;
 
-/// A name block put together name by name, for labels 1 upward: what [`Graph::write`](crate::Graph::write) takes.
+/// A name block (label table), made name by name for the labels from 1 upward.
+/// [`Graph::write`](crate::Graph::write) takes it.
 ///
-/// A name that no block can hold, of no bytes, of more than 32 or with the bytes of an earlier one, is refused when it is added, with the number
-/// and place that writing would give it (14, and where its length byte would stand). How many names there must be only the graph knows: a block
-/// with too many or too few is refused by [`Graph::write`](crate::Graph::write).
+/// A name of no bytes, of more than 32, or with the bytes of an earlier name is refused when it is
+/// added. The refusal is the one that writing would give: number 14, and the place where the length
+/// byte would stand. A block with too many or too few names for a graph is refused by
+/// [`Graph::write`](crate::Graph::write).
 ///
 /// ```
 /// use zundrafipo::{read, Graph, NameBlock};
@@ -53,7 +55,7 @@ impl NameBlock {
         Ok(block)
     }
 
-    /// Adds the name of the next label; with a refusal the block stays as it is.
+    /// Adds the name of the next label. With a refusal the block stays as it is.
     ///
     /// ```
     /// use zundrafipo::{NameBlock, Refusal};
@@ -77,7 +79,7 @@ impl NameBlock {
         }
     }
 
-    /// The names, for labels 1 upward.
+    /// The names of the labels from 1 upward.
     ///
     /// ```
     /// let names = zundrafipo::NameBlock::from_names(["a", "bc"])?;
@@ -99,7 +101,8 @@ impl NameBlock {
     }
 }
 
-/// The names of a block in the order of their labels; see [`File::names`](crate::File::names) and [`NameBlock::names`].
+/// The names of a block in the order of their labels. [`File::names`](crate::File::names) and
+/// [`NameBlock::names`] return it.
 ///
 /// ```
 /// let names: zundrafipo::Names = zundrafipo::read(b"\x00\x01\x00\x02\x00")?.names();

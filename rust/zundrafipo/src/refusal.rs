@@ -1,16 +1,21 @@
 use std::fmt;
 
-/// Why an entry refused: the number, the table that it speaks of and the place in it, as the scope document's table of answers has them.
+/// Why an entry refused: the number, the table (which graph) and the place in it. If several
+/// refusals apply, an entry returns the one that it asks first. `docs/REFERENCE.md` has the order
+/// for each entry.
 ///
-/// Places count from 0, that of a hop in hops. The place is
-/// - with 3 and 4 the first such hop;
-/// - with 5 the lowest state on a ring;
-/// - with 8 the map's length where that is wrong, else the first such entry;
-/// - with 11 the file's length;
-/// - with 13 66,536 for a file that is longer, else the first extra byte;
-/// - with 14 the length byte of the first such name, for writing counted from the block's start; but first the length of a block that ends early, or
-///   the first byte left over;
-/// - with every other number 0.
+/// Places count from 0, that of a hop in hops.
+///
+/// | number | place |
+/// |---|---|
+/// | 3, 4 | the first such hop |
+/// | 5 | the lowest state on a ring |
+/// | 8 | the map's length where that is wrong, else the first such entry |
+/// | 11 | the file's length |
+/// | 13 | 66,536 for a file that is longer, else the first byte left over |
+/// | 14, reading | the length byte of the first such name, counted from the file's start |
+/// | 14, writing | the length of a block that ends early, else the first byte left over, else the length byte of the first such name, counted from the block's start |
+/// | every other | 0 |
 ///
 /// ```
 /// use zundrafipo::{Graph, Sense};

@@ -1,11 +1,12 @@
 use crate::Refusal;
 use std::fmt;
 
-/// What the marked hops may do to close a hop that is tried against one of them.
+/// A notion of tau-confluence: which sets of silent hops count as confluent.
 ///
-/// A set of silent hops is of a sense when for each hop s1 to s2 in it and each hop of s1, with label a to s3, there is a hop labelled a that answers it (or a is
-/// silent and nothing need answer) and a state s4 at which both ways meet. In every sense the answering hop may be any hop. What the senses differ in is where hops of
-/// the set may stand besides:
+/// A set of silent hops is confluent in a sense when, for each hop s1 to s2 in it and each hop of
+/// s1, with label a to s3, there is a hop labelled a that answers it, and a state s4 at which both
+/// ways meet. Where a is silent no hop need answer. In every sense the answering hop may be any
+/// hop. The senses differ in where hops of the set may stand besides:
 ///
 /// | | before the answering hop | behind it, to s4 | from s3 to s4 |
 /// |---|---|---|---|
@@ -14,7 +15,11 @@ use std::fmt;
 /// | R3 | zero or more | none | at most one |
 /// | R8 | zero or more | zero or more | zero or more |
 ///
-/// The marked hops are those that are in some set of the sense. R1's are among R2's and R3's, and theirs among R8's; reducing has no faults in any of them.
+/// The marked hops are those that are in some confluent set of the sense. R1's are among R2's and
+/// among R3's, and theirs are among R8's. In each sense the audit of what [`Graph::reduce`] leaves
+/// counts no faults.
+///
+/// [`Graph::reduce`]: crate::Graph::reduce
 ///
 /// ```
 /// use zundrafipo::{Graph, Sense};
@@ -27,14 +32,15 @@ use std::fmt;
 /// ```
 #[derive(Clone, Copy, Debug, Default, PartialEq, Eq, PartialOrd, Ord, Hash)]
 pub enum Sense {
-    /// Strong confluence: the answering hop leaves s2 and leads to s4, which is s3 or where a marked hop of s3 leads.
+    /// Strong confluence: the answering hop leaves s2 and leads to s4. s4 is s3, or a marked hop
+    /// leads from s3 to s4.
     #[default]
     R1 = 1,
-    /// After the answering hop zero or more marked hops lead to s4.
+    /// As R1, but zero or more marked hops lead from the end of the answering hop to s4.
     R2 = 2,
-    /// Zero or more marked hops come before the answering hop.
+    /// As R1, but zero or more marked hops come before the answering hop.
     R3 = 3,
-    /// Weak confluence: both, and s3 reaches s4 by zero or more marked hops too.
+    /// Weak confluence: as R2 and R3 at once, and zero or more marked hops lead from s3 to s4.
     R8 = 8,
 }
 
@@ -58,7 +64,8 @@ impl Sense {
     }
 }
 
-/// A number as a sense; any other than 1, 2, 3 and 8 is refused as the library's entries refuse it, with 19.
+/// A number as a sense. Any other than 1, 2, 3 and 8 is refused with 19, as the library's entries
+/// refuse it.
 ///
 /// ```
 /// use zundrafipo::Sense;

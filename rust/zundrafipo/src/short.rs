@@ -1,6 +1,6 @@
 use crate::{ffi, figure, judge, length, Graph, Refusal, Sense, MOST_HOPS, MOST_STATES, NUMBERS_A_HOP};
 
-/// What [`Graph::reduce`] gives: the short graph, and the map that leads to it.
+/// What [`Graph::reduce`] gives: the short graph (the quotient), and the map to it.
 ///
 /// ```
 /// use zundrafipo::{Graph, Reduction, Sense};
@@ -18,7 +18,8 @@ pub struct Reduction {
     pub map: Vec<u16>,
 }
 
-/// The counts and the initial state of a short graph whose hops are in a lent output ([`Graph::reduce_into`]).
+/// The counts and the initial state of a short graph whose hops are in a lent output
+/// ([`Graph::reduce_into`]).
 ///
 /// ```
 /// use zundrafipo::{Graph, Sense, ShortFigures};
@@ -34,13 +35,13 @@ pub struct ShortFigures {
     pub states: u32,
     /// Label count.
     pub labels: u32,
-    /// Hop count; the output holds four numbers for each.
+    /// Hop count. The output holds four numbers for each hop.
     pub hops: u32,
     /// Initial state.
     pub initial: u32,
 }
 
-/// What [`Graph::shrink`] gives: the last graph, the map that leads to it, and how many reductions it took.
+/// What [`Graph::shrink`] gives: the last graph, the map to it, and how many reductions it took.
 ///
 /// ```
 /// use zundrafipo::{Graph, Sense, Shrinking};
@@ -54,13 +55,14 @@ pub struct ShortFigures {
 pub struct Shrinking {
     /// The last graph, in which no hop is marked.
     pub graph: Graph,
-    /// The last state of each first one.
+    /// The state of the last graph for each state of the first.
     pub map: Vec<u16>,
     /// The number of reductions that marked something.
     pub reductions: u32,
 }
 
-/// The counts and the initial state of a last graph whose hops are in a lent output, and the number of reductions ([`Graph::shrink_into`]).
+/// The counts and the initial state of a last graph whose hops are in a lent output, and the number
+/// of reductions ([`Graph::shrink_into`]).
 ///
 /// ```
 /// use zundrafipo::{Graph, Sense, ShortFigures, ShrunkFigures};
@@ -72,7 +74,7 @@ pub struct Shrinking {
 /// ```
 #[derive(Clone, Copy, Debug, PartialEq, Eq, Hash)]
 pub struct ShrunkFigures {
-    /// Those of the last graph.
+    /// The counts and the initial state of the last graph.
     pub last: ShortFigures,
     /// The number of reductions that marked something.
     pub reductions: u32,
@@ -82,10 +84,12 @@ pub struct ShrunkFigures {
 type Entry = unsafe extern "C" fn(u32, u32, u32, *const u16, usize, u32, *mut u16, usize, *mut u16, usize, *mut u64, usize) -> u32;
 
 impl Graph {
-    /// The short graph, in which each class of states joined by the hops that the sense marks is one state, with the map to it.
+    /// The short graph, with the map to it. In the short graph each class of states joined by hops
+    /// that the sense marks is one state.
     ///
-    /// A short hop has the smallest line, 0 apart, of the hops that it comes from, and 0 where none of them has a line. Those are the hops of the class's representative
-    /// alone, the state that no marked hop leaves, and not like hops of other states of the class.
+    /// A short hop has the smallest nonzero line of the hops that it comes from, and 0 where none
+    /// of them has a line. It comes from hops of the class's representative, the state that no
+    /// marked hop leaves. It does not come from like hops of other states of the class.
     ///
     /// ```
     /// use zundrafipo::{Graph, Sense};
@@ -109,8 +113,9 @@ impl Graph {
         Ok(Reduction { graph: figures.graph(hops), map })
     }
 
-    /// Writes the map to the front of `map` and the short hops to that of `short_hops`; nothing past them, and nothing at all with a refusal. `short_hops` must have
-    /// room for as many numbers as this graph's list.
+    /// Writes the map to the front of `map`, and the short hops to the front of `short_hops`.
+    /// Nothing is written past them, and nothing at all with a refusal. `map` needs one element a
+    /// state of this graph, and `short_hops` as many as this graph's list has.
     ///
     /// ```
     /// use zundrafipo::{Graph, Sense};
@@ -126,10 +131,15 @@ impl Graph {
         Ok(ShortFigures::of([states, labels, hops, initial]))
     }
 
-    /// The last graph that is left when this one is reduced in the sense again and again until no hop is marked, with one map from this graph's states to it and the
-    /// number of reductions that marked something. One reduction can lay bare another, but under [`Sense::R8`] there is one at the most; in every sense the number is
-    /// below this graph's state count, and the map has no faults. Lines go by the rule of [`Graph::reduce`] in each reduction: a hop of the last graph has the smallest,
-    /// 0 apart, of this graph's hops that it comes from through all of them.
+    /// The last graph: what is left when this graph is reduced in the sense again and again, until
+    /// no hop is marked. With it come one map from this graph's states to it, and the number of
+    /// reductions that marked something.
+    ///
+    /// The number is below this graph's state count, and at most 1 under [`Sense::R8`]. In every
+    /// sense the map has no faults.
+    ///
+    /// Each reduction gives lines by the rule of [`Graph::reduce`]. So a hop of the last graph has
+    /// the smallest nonzero line of this graph's hops that it comes from through all reductions.
     ///
     /// ```
     /// use zundrafipo::{Graph, Sense};
@@ -157,8 +167,9 @@ impl Graph {
         Ok(Shrinking { graph: last.graph(hops), map, reductions })
     }
 
-    /// Writes the map to the front of `map` and the last graph's hops to that of `last_hops`; nothing past them, and nothing at all with a refusal. `last_hops` must have
-    /// room for as many numbers as this graph's list.
+    /// Writes the map to the front of `map`, and the last graph's hops to the front of `last_hops`.
+    /// Nothing is written past them, and nothing at all with a refusal. `map` needs one element a
+    /// state of this graph, and `last_hops` as many as this graph's list has.
     ///
     /// ```
     /// use zundrafipo::{Graph, Sense};
@@ -174,14 +185,15 @@ impl Graph {
         Ok(ShrunkFigures { last: ShortFigures::of([states, labels, hops, initial]), reductions: figure(reductions) })
     }
 
-    /// Outputs for a map and for hops, with the room that both entries ask for.
+    /// Outputs for a map and for hops, as long as both entries need them.
     fn room(&self) -> (Vec<u16>, Vec<u16>) {
         (vec![0; length(self.states.into()).min(MOST_STATES)], vec![0; self.flat_hops.len().min(NUMBERS_A_HOP * MOST_HOPS)])
     }
 
     fn shortened<const N: usize>(&self, entry: Entry, sense: Sense, map: &mut [u16], hops: &mut [u16]) -> Result<[u64; N], Refusal> {
         let mut answer = [0; N];
-        // SAFETY: each pointer stands with the length of the slice it is of; outputs and answer are borrowed alone.
+        // SAFETY: each pointer comes with the length of its slice. Outputs and answer are borrowed
+        // alone.
         let number = unsafe {
             entry(
                 self.states,
