@@ -1,7 +1,7 @@
 #!/usr/bin/env bash
 # The repository's rules that a script can check (CONTRIBUTING.md): line lengths, names, numbers that have
 # a name, lists of modules, edits, and that the documents name what there is; and, after the gate has
-# tried the edits, that each was refused by a fact. tests/promises.sh has the rule on specs/.
+# tried the edits, that each was refused by a fact.
 set -euo pipefail
 cd "$(dirname "$0")/.."
 export LC_ALL=C.UTF-8
@@ -18,8 +18,12 @@ none() {
 # lines of code and contracts have at most 160 characters, comments 100, and what a function asks stands
 # one named line each
 none "lines of more than 160 characters" "$(grep -nE '^.{161,}$' crates/*/src/*.rt | grep -vE ':[0-9]+: *(\/\/|ghost use )' || true)"
-none "comments of more than 100 characters" "$(find crates \( -name '*.rt' -o -name '*.antt' \) -print0 | sort -z | xargs -0 grep -nE '^ *(//|--).*$' | grep -E '^[^:]*:[0-9]+:.{101,}$' || true)"
+none "comments of more than 100 characters" "$(find crates \( -name '*.rt' -o -name '*.antt' \) -print0 | sort -z | xargs -0 grep -nE '^ *(//|--|pub mod |mod )' | grep -E '^[^:]*:[0-9]+:.{101,}$' || true)"
 none "a requires that asks several things" "$(grep -nE 'requires.*⌝ ∗ ⌜' crates/*/src/*.rt || true)"
+
+# specs/ is what a reader must believe: what the entries' contracts and README's theorems cite, down to
+# the kit, lies in specs/*.antt, and nothing there is outside it
+none "in specs/ and not cited by a promise, or cited and not in specs/" "$(tools/promises --outside)"
 
 # a name of specs/ stands in one crate; the tables worked by hand, which nothing cites, may use the same
 declared() {

@@ -1,1 +1,1 @@
-pub mod Admitted  -- the answer is 0 exactly where both graphs and the map are admitted and the label counts agree
+pub mod Admitted  -- the answer is 0 exactly where all that was lent is admitted

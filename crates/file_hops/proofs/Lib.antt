@@ -1,2 +1,2 @@
 pub mod Lists  -- hop lists by their places, and hops put one after the other
-pub mod Field  -- the field: its lengths, and that it is read as it was written and written as it was read
+pub mod Field  -- the field: its lengths, and that reading and writing undo one another

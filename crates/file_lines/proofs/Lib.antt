@@ -1,1 +1,1 @@
-pub mod Laws  -- the list of lines: its length, that it is read as it was written and written as it was read, and when its lines are all 0
+pub mod Laws  -- its length, that reading and writing undo one another, when all are 0

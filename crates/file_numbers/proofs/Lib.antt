@@ -1,2 +1,2 @@
 pub mod TwoBytes  -- a number read is the number that was written, and the other way round
-pub mod Parts  -- parts that are put one after the other, what then stands at each one's place, and that what stands at each place is all
+pub mod Parts  -- parts of one width: put one by one, found at their places

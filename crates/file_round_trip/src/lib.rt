@@ -3,4 +3,4 @@
 // Their contracts are the two sentences; the laws behind them, and the longest legal file, are in
 // proofs/.
 // Uses `file_read` and `file_write`.
-pub mod round_trip; // round_trip.rt: a file read and written again, and a graph written and read again
+pub mod round_trip; // round_trip.rt: read and write, one after the other

@@ -1,4 +1,4 @@
 pub mod Stages  -- what every stage keeps: it can be reduced, and its map has no fault
-pub mod Last  -- the last stage: the repetition ends there, its map has no fault, and fewer reductions than states
-pub mod Lines  -- the line of a last hop is the smallest that is not 0 of the first hops it comes from through all reductions
+pub mod Last  -- the last stage: the end, no fault, fewer reductions than states
+pub mod Lines  -- the line of a last hop: the smallest, 0 aside, of those that it comes from
 pub mod Once  -- under R8 at most one reduction marks something
