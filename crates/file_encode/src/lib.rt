@@ -106,7 +106,7 @@ fn put_hops(out: &mut [u8], at: usize, hops: &[u16])
 }
 
 fn put_lines_of(out: &mut [u8], at: usize, hops: &[u16], lined: bool)
-    requires ordered { ⌜ lined ≡ anyLine (now hops) ⌝ }
+    requires lined { ⌜ lined ≡ anyLine (now hops) ⌝ }
     requires capacity { ⌜ at + length (linesBytes (now hops)) ≤ length (now out) ⌝ }
     ensures { λ _. ⌜ now (out .exit) ≡ overAt at (linesBytes (now (hops .entry))) (now (out .entry)) ⌝ }
 {
