@@ -225,6 +225,13 @@ table = record {
         hops = p1;
         outcome = accepts (1 ∷ 0 ∷ 0 ∷ 1 ∷ []) (0 ∷ 0 ∷ 0 ∷ 0 ∷ []) 2 (0 ∷ 0 ∷ 1 ∷ 1 ∷ []) (shapeFrom 2 2 1) 1 (hop 0 1 1 ∷ []);
       } ∷
+      -- ours: the representative is state 0, which the silent hop of state 1 leads to, and not the
+      -- highest member of the class, which lacks the hop labelled 2
+      record {
+        graph = shape 2 3;
+        hops = hop 0 1 0 ∷ hop 0 2 0 ∷ hop 1 0 0 ∷ hop 1 1 0 ∷ [];
+        outcome = accepts (0 ∷ 0 ∷ 1 ∷ 0 ∷ []) (0 ∷ 0 ∷ 0 ∷ 0 ∷ []) 1 (0 ∷ 0 ∷ []) (shape 1 3) 2 (hop 0 1 0 ∷ hop 0 2 0 ∷ []);
+      } ∷
       [];
   -- P9: P1 with its result; with the short hop taken out; with (1,1,1) added to the short graph
   audits =
@@ -237,21 +244,6 @@ table = record {
         hops2 = hop 0 1 1 ∷ hop 1 1 1 ∷ [];
         map = 0 ∷ 0 ∷ 1 ∷ 1 ∷ [];
         audit = finds 2 (fault 3 1 2);
-      } ∷
-      -- ours: the same begun in state 2, with a short graph that begins in its state 0 and not in
-      -- 1, the map of 2
-      record { shape1 = shapeFrom 4 2 2; hops1 = p1; shape2 = shape 2 2; hops2 = hop 0 1 1 ∷ []; map = 0 ∷ 0 ∷ 1 ∷ 1 ∷ []; audit = finds 1 (fault 1 0 0) } ∷
-      -- ours: a fault of each kind, (1,1,1) for the short hop, and the first is that of the initial
-      -- states
-      record { shape1 = shapeFrom 4 2 2; hops1 = p1; shape2 = shape 2 2; hops2 = hop 1 1 1 ∷ []; map = 0 ∷ 0 ∷ 1 ∷ 1 ∷ []; audit = finds 5 (fault 1 0 0) } ∷
-      -- ours: a later state has the fault of an earlier hop, and that is the first
-      record {
-        shape1 = shape 2 3;
-        hops1 = hop 0 1 0 ∷ hop 1 2 1 ∷ [];
-        shape2 = shape 1 3;
-        hops2 = hop 0 1 0 ∷ hop 0 2 0 ∷ [];
-        map = 0 ∷ 0 ∷ [];
-        audit = finds 2 (fault 3 0 1);
       } ∷
       [];
   -- ours: hops of P1; a hop that it has not, which would stand between two, before all or behind

@@ -5,13 +5,12 @@ use Prim.Native.Nat.{ℕ}
 use mathlib.Core.List.{List, [], _∷_, map}
 use lib.ListN.{length}
 use Rattle.graph.specs.Hops.{hopOf, flat}
-use Rattle.graph.specs.Answers.{accepted, refused}
+use Rattle.graph.specs.Answers.{accepted}
 use Rattle.graph.specs.declared.Hop.{Hop}
 use Rattle.graph.specs.declared.Shape.{Shape}
-use Rattle.graph.specs.declared.Answer.{Answer}
 use Rattle.mark_confluence.specs.Marks.{marksOf}
 use Rattle.mark_senses.specs.Senses.{markedBy}
-use Rattle.reduce_entry.specs.Reduce.{reduceAnswer, reduceOf, reducedMap, reducedHops}
+use Rattle.reduce_entry.specs.Reduce.{reduceOf, reducedMap, reducedHops}
 use Rattle.reduce_entry.specs.declared.Reduction.{Reduction}
 
 -- a hop as document 01 writes it; a state count and a label count, with initial state 0
@@ -40,20 +39,9 @@ pub record Reduced : Type 0 where
   pub map : List ℕ
   pub short : List Hop
 
--- what is said of an answer: the graph, the number of the sense, how long the two outputs are, and
--- what `reduce` answers
-pub record SenseAsked : Type 0 where
-  pub graph : Shape
-  pub hops : List Hop
-  pub sense : ℕ
-  pub entries : ℕ
-  pub numbers : ℕ
-  pub answer : Answer
-
 pub record SensesTable : Type 0 where
   pub marks : List Marked
   pub reductions : List Reduced
-  pub answers : List SenseAsked
 
 -- the definitions' own account
 abbrev marksIn : ℕ → Shape → List Hop → List ℕ
@@ -79,18 +67,8 @@ reducedOf m = record {
   short = reducedHops (m .graph) (flat (m .hops)) (m .sense);
 }
 
-abbrev pub senseAskedOf : SenseAsked → SenseAsked
-senseAskedOf q = record {
-  graph = q .graph;
-  hops = q .hops;
-  sense = q .sense;
-  entries = q .entries;
-  numbers = q .numbers;
-  answer = reduceAnswer (q .graph) (flat (q .hops)) (q .sense) (q .entries) (q .numbers);
-}
-
 abbrev pub tableOf : SensesTable → SensesTable
-tableOf t = record { marks = map markedOf (t .marks); reductions = map reducedOf (t .reductions); answers = map senseAskedOf (t .answers) }
+tableOf t = record { marks = map markedOf (t .marks); reductions = map reducedOf (t .reductions) }
 
 -- wish 7's case, and the two that separate R2 from R3
 abbrev case : List Hop
@@ -116,10 +94,6 @@ leaves sh hs k n m t s = record {
   map = t;
   short = s;
 }
-
--- the answer in the sense k, for outputs that are so long
-abbrev says : Shape → List Hop → ℕ → ℕ → ℕ → Answer → SenseAsked
-says sh hs k m n a = record { graph = sh; hops = hs; sense = k; entries = m; numbers = n; answer = a }
 
 abbrev pub table : SensesTable
 table = record {
@@ -188,19 +162,5 @@ table = record {
       leaves (shape 2 2) after 3 2 3 (0 ∷ 1 ∷ []) after ∷
       leaves (shape 3 2) before 2 2 3 (0 ∷ 1 ∷ 1 ∷ []) (hop 0 0 1 ∷ hop 0 1 0 ∷ hop 1 1 1 ∷ []) ∷
       leaves (shape 3 2) before 3 1 1 (0 ∷ 0 ∷ 0 ∷ []) (hop 0 1 0 ∷ []) ∷
-      [];
-  answers =
-      -- ours: "19 for another sense"
-      says (shape 5 2) case 0 5 15 (refused 19 0) ∷
-      says (shape 5 2) case 4 5 15 (refused 19 0) ∷
-      says (shape 5 2) case 9 5 15 (refused 19 0) ∷
-      says (shape 5 2) case 4294967295 5 15 (refused 19 0) ∷
-      -- ours: ".. after 4 and before 5", and so before 6
-      says (shape 2 2) (hop 0 1 0 ∷ hop 0 0 1 ∷ []) 4 2 6 (refused 4 1) ∷
-      says (shape 2 2) ring 4 0 0 (refused 19 0) ∷
-      says (shape 2 2) ring 8 0 0 (refused 5 1) ∷
-      says (shape 5 2) case 4 0 0 (refused 19 0) ∷
-      says (shape 5 2) case 8 4 15 (refused 6 0) ∷
-      says (shape 5 2) case 8 5 14 (refused 6 0) ∷
       [];
 }
