@@ -50,6 +50,7 @@ gate() {
 fresh
 gate "all passes" passes "one: ran"
 gate "the kit is named" passes "kit: stand-in"
+gate "each part has its time" passes "tests/one.sh: "
 gate "a crate is not proved" fails "2 passed, 1 failed" CI_STATUS=1 CI_PRINTS='a fact fails\n2 passed, 1 failed\n'
 gate "the fact that fails is shown" fails "a fact fails" CI_STATUS=1 CI_PRINTS='a fact fails\n2 passed, 1 failed\n'
 gate "rt says one line and stops" fails "rt: crates.txt has no crate" CI_STATUS=2 CI_PRINTS='rt: crates.txt has no crate\n'

@@ -64,11 +64,26 @@ none "hops looked for elsewhere than in graph" "$(grep -nE '(^|[^a-z_])(sum_of|i
 # every module of a list has a word on it
 none "modules without a word" "$(grep -nE '^pub mod [A-Za-z]+ *$' crates/*/specs/Lib.antt crates/*/specs/Internal.antt crates/*/proofs/Lib.antt || true)"
 
-# at most six edits a crate
-none "more than six edits" "$(for crate in crates/*/must-fail; do
-    edits=$(find "$crate" -name '*.edit' | wc -l)
-    [ "$edits" -le 6 ] || echo "$crate: $edits"
-done)"
+# The gate's time goes into edits, since each checks its crate again. Where the gate has just tried
+# them, their seconds are in target/: the edits of a crate take together at most six times what a
+# crate takes to prove on average (some 25 processor seconds where the average is 8, with room for
+# a machine that is slow or busy), and all edits at most four times what all proofs take.
+seconds() {
+    sed -nE 's/^rt: (must-fail )?([a-z_0-9]+)(\/[a-z_0-9]+: refused.*[ (]| proved \()([0-9]+) s\)$/\2 \4/p' "$@"
+}
+if compgen -G 'target/must-fail/*/*.out' >/dev/null; then
+    none "crates whose edits take too long (seconds, and what is allowed)" "$({
+        seconds target/log/*.out | sed 's/^/proof /'
+        seconds target/must-fail/*/*.out | sed 's/^/edit /'
+    } | awk '
+        $1 == "proof" { crates++; proofs += $3 }
+        $1 == "edit" { of[$2] += $3; edits += $3 }
+        END {
+            if (!crates || !proofs) { print "no times of proofs in target/log"; exit }
+            for (crate in of) if (of[crate] > 6 * proofs / crates) printf "%s: %d, %d\n", crate, of[crate], 6 * proofs / crates
+            if (edits > 4 * proofs) printf "all edits: %d, %d\n", edits, 4 * proofs
+        }')"
+fi
 
 # docs/TRACE.md: each edit is there, and each name that it gives to a crate is in that crate
 none "edits that docs/TRACE.md does not name" "$(for edit in crates/*/must-fail/*.edit; do
