@@ -1,1 +1,2 @@
-pub mod SuccessorIndex  -- the table of first places, and what it needs of a hop list
+pub mod SuccessorIndex  -- the table of first places, what it needs of a list, and marks beside both
+pub mod Row  -- a state's hops from a label on

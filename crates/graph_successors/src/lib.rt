@@ -3,12 +3,14 @@
 // One linear pass builds the table of first places. With it a hop is found by binary search among
 // the hops of its own state only, and a state's hops with one label are a range of places; its
 // silent (tau) hops are those labelled 0. It serves rings, marking, the round question and the
-// audit, and either graph, so a state is a bare number here.
+// audit, and either graph, so a state is a bare number here. Only `Rest` is of the old graph, since
+// marking alone uses it.
 // Uses `graph` for hops and the search, `graph_check` for what an admitted graph is.
 use graph::Found;
 use graph::Hop;
 use graph::Label;
 use graph::MOST_STATES;
+use graph::OldState;
 use graph::hops::hop_at;
 use graph::hops::hop_count;
 use graph::hops::hop_of;
@@ -24,6 +26,13 @@ ghost use Rattle.graph_successors.specs.Internal.SuccessorIndex.{Success
 
 // How many places the table has: one for each state that can be, and one past the last.
 pub const STARTS: usize = MOST_STATES + 1;
+
+// The hops of a state from place `at` on; `past` is the place past its last.
+pub struct Rest {
+    pub state: OldState,
+    pub at: usize,
+    pub past: usize,
+}
 
 // A number read from the list or the table, as a place or an index.
 pub fn wide(x: u16) -> usize

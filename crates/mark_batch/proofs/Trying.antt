@@ -28,8 +28,8 @@ use Rattle.mark_confluence.proofs.MarkSet.{mark-set-says, mark-set-yes}
 use Rattle.mark_senses.specs.Senses.{closesIn, markedIn}
 use Rattle.mark_senses.proofs.Tests.{closes-says, closes-yes}
 use Rattle.mark_senses.proofs.Marked.{in-kept, in-same}
-use Rattle.mark_sweeps.specs.Internal.Sweep.{markCount, Marking, Swept}
-use Rattle.mark_sweeps.proofs.Fixpoint.{fixpoint-marks}
+use Rattle.mark_removal.specs.Internal.Removal.{markCount, Marking, Swept}
+use Rattle.mark_removal.proofs.Fixpoint.{fixpoint-marks}
 use Rattle.base_bitset.specs.Internal.Bits.{bitIn, word-bits}
 use Rattle.mark_batch_spread.specs.Internal.Spread.{SpreadBack, SpreadForth}
 use Rattle.mark_batch_tables.specs.Internal.BatchTables.{KeyTable, AnswerTable}

@@ -25,7 +25,7 @@ ghost use Rattle.graph.specs.Hops.{count};
 ghost use Rattle.graph_successors.specs.Internal.SuccessorIndex.{Indexable};
 ghost use Rattle.base_fixpoint.specs.Pairs.{In};
 ghost use Rattle.mark_confluence.specs.Internal.MarkSet.{markSet};
-ghost use Rattle.mark_sweeps.specs.Internal.Sweep.{Marking, Swept};
+ghost use Rattle.mark_removal.specs.Internal.Removal.{Marking, Swept};
 ghost use Rattle.mark_senses.specs.Senses.{senseOf, markedBy};
 ghost use Rattle.base_bitset.specs.Internal.Bits.{word-bits};
 ghost use Rattle.walk_topological_order.specs.Internal.TopologicalOrder.{TopologicalOrder};

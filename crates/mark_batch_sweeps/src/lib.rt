@@ -29,7 +29,7 @@ ghost use Rattle.graph.specs.Answers.{most-hops};
 ghost use Rattle.graph_successors.specs.Internal.SuccessorIndex.{Indexable, Indexed};
 ghost use Rattle.walk_silent.specs.Silent.{ringAnswer};
 ghost use Rattle.mark_confluence.specs.Marks.{marksOf};
-ghost use Rattle.mark_sweeps.specs.Internal.Sweep.{Marking, Swept};
+ghost use Rattle.mark_removal.specs.Internal.Removal.{Marking, Swept};
 ghost use Rattle.mark_senses.specs.Senses.{senseOf, markedBy};
 ghost use Rattle.base_bitset.specs.Internal.Bits.{word-bits};
 ghost use Rattle.mark_batch.specs.Internal.Batch.{NothingKnown, SweepInput, TriedIn};

@@ -26,7 +26,7 @@ use Rattle.mark_confluence.specs.Rounds.{closing, hopAnswers, answers, tried, c
 use Rattle.mark_confluence.specs.Internal.Rounds.{answered}
 use Rattle.graph_successors.proofs.Firsts.{first-below, first-next}
 use Rattle.graph_successors.proofs.Rows.{row-bracket}
-use Rattle.mark_diamond_merge.specs.Internal.Row.{Row}
+use Rattle.graph_successors.specs.Internal.Row.{Row}
 use Rattle.mark_diamond_merge.proofs.Rows.{ascending-label}
 use Rattle.mark_diamond.specs.Internal.Skipped.{Skipped}
 use Rattle.mark_confluence.proofs.Closing.{answers-still, answers-else, answers-yes, answered-at, answered-itself, tried-own, tried-other}

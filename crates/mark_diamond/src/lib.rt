@@ -5,8 +5,8 @@
 // `mark_sweeps` asks it of each marked hop, `mark_worklist_round` of each silent hop in the first
 // round; `mark_diamond_retest` uses the trial of one hop (`is_answered`).
 // Uses `mark_confluence` for the condition and the set that marks are, `graph` for hops and the
-// search, `graph_successors` for the hops of a state, `mark_diamond_merge` for a state's hops from
-// a place on, and `mark_diamond_search` for one diamond.
+// search, `graph_successors` for the hops of a state and those from a place on, and
+// `mark_diamond_search` for one diamond.
 use graph::Label;
 use graph::OldState;
 use graph::hops::from_at;
@@ -16,23 +16,22 @@ use graph::hops::to_at;
 use graph::search::find_ahead;
 use graph::search::is_at;
 use graph::search::place_of;
+use graph_successors::Rest;
 use graph_successors::STARTS;
 use graph_successors::start_of;
 use graph_successors::wide;
-use mark_diamond_merge::Rest;
 use mark_diamond_search::hop_answers;
 use mark_diamond_search::is_closed;
 ghost use mathlib.Core.Path.{_≡_};
 ghost use Prim.Native.Nat.{_<_, _≤_};
-ghost use lib.ListN.{length};
 ghost use lib.Dec.{eqb};
 ghost use mathlib.Core.Bool.{_&&_};
 ghost use Rattle.graph.specs.Hops.{count, label, to, has};
 ghost use Rattle.graph.specs.Answers.{most-states};
 ghost use Rattle.mark_confluence.specs.Internal.Rounds.{answered, closesAt};
 ghost use Rattle.mark_confluence.specs.Internal.MarkSet.{markSet};
-ghost use Rattle.graph_successors.specs.Internal.SuccessorIndex.{SuccessorIndex, Indexable};
-ghost use Rattle.mark_diamond_merge.specs.Internal.Row.{Row};
+ghost use Rattle.graph_successors.specs.Internal.SuccessorIndex.{MarkInput};
+ghost use Rattle.graph_successors.specs.Internal.Row.{Row};
 ghost use Rattle.mark_diamond.specs.Internal.Skipped.{Skipped};
 
 // The first place from `at` on whose label is not below a, or `past`.
@@ -54,9 +53,7 @@ fn skip(hops: &[u16], at: usize, past: usize, a: Label) -> usize
 // Y: whether the hop at place j is answered from the state of `rest`, which holds that state's hops
 // of the label of j or above.
 pub fn is_answered(hops: &[u16], starts: &[u16; STARTS], marks: &[u8], rest: Rest, j: usize) -> bool
-    requires ready { ⌜ Indexable (now hops) ⌝ }
-    requires table { ⌜ SuccessorIndex (now hops) (now starts) ⌝ }
-    requires capacity { ⌜ count (now hops) ≤ length (now marks) ⌝ }
+    requires given { ⌜ MarkInput (now hops) (now starts) (now marks) ⌝ }
     requires place { ⌜ j < count (now hops) ⌝ }
     requires row { ⌜ Row (now hops) (rest .state .0) (label (now hops) j) (rest .at) (rest .past) ⌝ }
     requires asked { ⌜ rest .state .0 < most-states ⌝ }
@@ -83,9 +80,7 @@ fn is_answered_unless_alike(
     alike: bool,
     j: usize,
 ) -> bool
-    requires ready { ⌜ Indexable (now hops) ⌝ }
-    requires table { ⌜ SuccessorIndex (now hops) (now starts) ⌝ }
-    requires capacity { ⌜ count (now hops) ≤ length (now marks) ⌝ }
+    requires given { ⌜ MarkInput (now hops) (now starts) (now marks) ⌝ }
     requires place { ⌜ j < count (now hops) ⌝ }
     requires row { ⌜ Row (now hops) (rest .state .0) (label (now hops) j) (rest .at) (rest .past) ⌝ }
     requires asked { ⌜ rest .state .0 < most-states ⌝ }
@@ -112,9 +107,7 @@ fn stays(hops: &[u16], s2: OldState, j: usize) -> bool
 
 // X of a silent hop, the one at place i: whether each hop from its start is answered from its end.
 pub fn closes_at(hops: &[u16], starts: &[u16; STARTS], marks: &[u8], i: usize) -> bool
-    requires ready { ⌜ Indexable (now hops) ⌝ }
-    requires table { ⌜ SuccessorIndex (now hops) (now starts) ⌝ }
-    requires capacity { ⌜ count (now hops) ≤ length (now marks) ⌝ }
+    requires given { ⌜ MarkInput (now hops) (now starts) (now marks) ⌝ }
     requires place { ⌜ i < count (now hops) ⌝ }
     ensures { λ r. ⌜ r ≡ closesAt (now (hops .entry)) (markSet (now (hops .entry)) (now (marks .entry))) i ⌝ }
 {

@@ -20,7 +20,7 @@ use Rattle.mark_confluence.specs.Rounds.{closing}
 use Rattle.mark_confluence.specs.Internal.MarkSet.{markSet}
 use Rattle.mark_confluence.proofs.Closing.{closing-other}
 use Rattle.mark_confluence.proofs.MarkSet.{mark-set-found, mark-set-missing}
-use Rattle.mark_diamond_merge.specs.Internal.Row.{Row}
+use Rattle.graph_successors.specs.Internal.Row.{Row}
 use Rattle.mark_diamond_merge.specs.Internal.Found.{foundMarked}
 
 -- m and `end` bracket the silent hop from s3 to the end of each hop labelled a from k on

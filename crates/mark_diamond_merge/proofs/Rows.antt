@@ -15,7 +15,7 @@ use Rattle.graph.proofs.Ordered.{Below, before-below, ascending-lt}
 use Rattle.base_fixpoint.specs.Pairs.{Pairs}
 use Rattle.mark_confluence.specs.Rounds.{closing, hopAnswers}
 use Rattle.mark_confluence.proofs.Closing.{closing-is, hop-answers, none-answers}
-use Rattle.mark_diamond_merge.specs.Internal.Row.{Row}
+use Rattle.graph_successors.specs.Internal.Row.{Row}
 
 module _ (hs : List ℕ) (up : Ascending hs) where
   pub ascending-label : {i j : ℕ} → i ≤ j → j < count hs → from hs i ≡ from hs j → label hs i ≤ label hs j

@@ -4,7 +4,7 @@
 // walked side by side: each search goes on from where the one before it ended.
 // `mark_diamond_search` takes this way where neither list is far shorter than the other.
 // Uses `mark_confluence` for the condition and the set that marks are, `graph` for hops and the
-// search, `graph_successors` for the hops of a state.
+// search, `graph_successors` for the hops of a state and those from a place on.
 use graph::Found;
 use graph::Label;
 use graph::OldState;
@@ -13,6 +13,7 @@ use graph::hops::label_at;
 use graph::hops::to_at;
 use graph::search::find_ahead;
 use graph::search::place_of;
+use graph_successors::Rest;
 use graph_successors::STARTS;
 use graph_successors::start_of;
 use graph_successors::wide;
@@ -24,16 +25,9 @@ ghost use Rattle.graph.specs.Answers.{most-states};
 ghost use Rattle.graph.specs.declared.Found.the-variants.{At};
 ghost use Rattle.mark_confluence.specs.Rounds.{closing, hopAnswers};
 ghost use Rattle.mark_confluence.specs.Internal.MarkSet.{markSet};
-ghost use Rattle.graph_successors.specs.Internal.SuccessorIndex.{SuccessorIndex, Indexable};
-ghost use Rattle.mark_diamond_merge.specs.Internal.Row.{Row};
+ghost use Rattle.graph_successors.specs.Internal.SuccessorIndex.{Indexable, MarkInput};
+ghost use Rattle.graph_successors.specs.Internal.Row.{Row};
 ghost use Rattle.mark_diamond_merge.specs.Internal.Found.{foundMarked};
-
-// The hops of a state from place `at` on; `past` is the place past its last.
-pub struct Rest {
-    pub state: OldState,
-    pub at: usize,
-    pub past: usize,
-}
 
 // Whether the hops labelled a that `few` begins with are far fewer than those labelled b that
 // `many` begins with: both are counted side by side, one of the first for each eight of the second.
@@ -84,9 +78,7 @@ pub fn row_answers(
     a: Label,
     s3: OldState,
 ) -> bool
-    requires ready { ⌜ Indexable (now hops) ⌝ }
-    requires table { ⌜ SuccessorIndex (now hops) (now starts) ⌝ }
-    requires capacity { ⌜ count (now hops) ≤ length (now marks) ⌝ }
+    requires given { ⌜ MarkInput (now hops) (now starts) (now marks) ⌝ }
     requires row { ⌜ Row (now hops) (rest .state .0) (a .0) (rest .at) (rest .past) ⌝ }
     requires state { ⌜ s3 .0 < most-states ⌝ }
     ensures { λ r. ⌜ r ≡ hopAnswers (now (hops .entry)) (closing (markSet (now (hops .entry)) (now (marks .entry)))) (rest .state .0) (a .0) (s3 .0) ⌝ }

@@ -18,7 +18,7 @@ use Rattle.graph.proofs.Lookup.{lower-law, first-within, range-holds, range-onl
 use Rattle.graph_successors.proofs.Rows.{first-labelled}
 use Rattle.mark_confluence.specs.Internal.Rounds.{answered}
 use Rattle.mark_confluence.specs.Internal.MarkSet.{markSet, isMarked}
-use Rattle.mark_diamond_merge.specs.Internal.Row.{Row}
+use Rattle.graph_successors.specs.Internal.Row.{Row}
 use Rattle.mark_diamond_retest.specs.Internal.Retest.{CleanAnswered}
 
 -- the hops of s labelled a or more

@@ -4,38 +4,35 @@
 // are tried again; the others are answered as they were. The like hop and the first hop of a label
 // are found by binary search.
 // Uses `mark_confluence` for the condition and the set that marks are, `graph` for hops and their
-// order, `graph_successors` for the hops of a state and the search among them, `mark_diamond_merge`
-// for a state's hops from a label on, `mark_diamond_search` for whether a state has a hop, and
-// `mark_diamond` for the trial of one hop.
+// order, `graph_successors` for the hops of a state, those from a label on, and the search among
+// them, `mark_diamond_search` for whether a state has a hop, and `mark_diamond` for the trial of
+// one hop.
 use graph::MOST_STATES;
 use graph::OldState;
 use graph::hops::from_at;
 use graph::hops::label_at;
 use graph::hops::to_at;
+use graph_successors::Rest;
 use graph_successors::STARTS;
 use graph_successors::labelled_from;
 use graph_successors::start_of;
 use graph_successors::wide;
 use mark_diamond::is_answered;
-use mark_diamond_merge::Rest;
 use mark_diamond_search::leads_to;
 ghost use mathlib.Core.Path.{_≡_};
-ghost use Prim.Native.Nat.{_<_, _≤_};
-ghost use lib.ListN.{length};
+ghost use Prim.Native.Nat.{_<_};
 ghost use mathlib.Core.Bool.{true};
 ghost use Rattle.graph.specs.Hops.{count};
 ghost use Rattle.graph.specs.Answers.{most-states};
 ghost use Rattle.mark_confluence.specs.Internal.Rounds.{answered, closesAt};
 ghost use Rattle.mark_confluence.specs.Internal.MarkSet.{markSet};
-ghost use Rattle.graph_successors.specs.Internal.SuccessorIndex.{SuccessorIndex, Indexable};
+ghost use Rattle.graph_successors.specs.Internal.SuccessorIndex.{MarkInput};
 ghost use Rattle.mark_diamond_retest.specs.Internal.Retest.{CleanAnswered};
 
 // Y of the hop at place j against a silent hop to s2. The merge of `mark_diamond` would pass over
 // most of s2's hops here, so the like hop and the place of the label are found by binary search.
 fn passes(hops: &[u16], starts: &[u16; STARTS], marks: &[u8], s2: OldState, j: usize) -> bool
-    requires ready { ⌜ Indexable (now hops) ⌝ }
-    requires table { ⌜ SuccessorIndex (now hops) (now starts) ⌝ }
-    requires capacity { ⌜ count (now hops) ≤ length (now marks) ⌝ }
+    requires given { ⌜ MarkInput (now hops) (now starts) (now marks) ⌝ }
     requires place { ⌜ j < count (now hops) ⌝ }
     requires asked { ⌜ s2 .0 < most-states ⌝ }
     ensures { λ r. ⌜ r ≡ answered (now (hops .entry)) (markSet (now (hops .entry)) (now (marks .entry))) (s2 .0) j ⌝ }
@@ -69,9 +66,7 @@ pub fn closes_again(
     dirty: &[u8; MOST_STATES],
     i: usize,
 ) -> bool
-    requires ready { ⌜ Indexable (now hops) ⌝ }
-    requires table { ⌜ SuccessorIndex (now hops) (now starts) ⌝ }
-    requires capacity { ⌜ count (now hops) ≤ length (now marks) ⌝ }
+    requires given { ⌜ MarkInput (now hops) (now starts) (now marks) ⌝ }
     requires place { ⌜ i < count (now hops) ⌝ }
     requires others { ⌜ CleanAnswered (now hops) (now marks) (now dirty) i ⌝ }
     ensures { λ r. ⌜ r ≡ closesAt (now (hops .entry)) (markSet (now (hops .entry)) (now (marks .entry))) i ⌝ }

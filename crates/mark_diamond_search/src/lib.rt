@@ -4,36 +4,33 @@
 // of the few is looked up among the many by binary search; else `mark_diamond_merge` merges both.
 // `mark_diamond` asks it for a hop tried where s2 has no like hop.
 // Uses `mark_confluence` for the condition and the set that marks are, `graph` for hops and the
-// search, `graph_successors` for the hops of a state, and `mark_diamond_merge` for a state's hops
-// from a place on, for which of two lists is far shorter, and for the merge.
+// search, `graph_successors` for the hops of a state and those from a place on, and
+// `mark_diamond_merge` for which of two lists is far shorter, and for the merge.
 use graph::Found;
 use graph::Label;
 use graph::OldState;
 use graph::hops::hop_of;
 use graph::hops::label_at;
 use graph::hops::to_at;
+use graph_successors::Rest;
 use graph_successors::STARTS;
 use graph_successors::find_row;
 use graph_successors::start_of;
 use graph_successors::wide;
-use mark_diamond_merge::Rest;
 use mark_diamond_merge::is_fewer;
 use mark_diamond_merge::row_answers;
 ghost use mathlib.Core.Path.{_≡_};
 ghost use Prim.Native.Nat.{_<_, _≤_};
-ghost use lib.ListN.{length};
 ghost use Rattle.graph.specs.Hops.{count, has};
 ghost use Rattle.graph.specs.Answers.{most-states};
 ghost use Rattle.mark_confluence.specs.Rounds.{closing, hopAnswers};
 ghost use Rattle.mark_confluence.specs.Internal.MarkSet.{markSet};
-ghost use Rattle.graph_successors.specs.Internal.SuccessorIndex.{SuccessorIndex, Indexable};
-ghost use Rattle.mark_diamond_merge.specs.Internal.Row.{Row};
+ghost use Rattle.graph_successors.specs.Internal.SuccessorIndex.{SuccessorIndex, Indexable, MarkInput};
+ghost use Rattle.graph_successors.specs.Internal.Row.{Row};
 
 // Whether the silent hop from x to y is marked.
 fn holds(hops: &[u16], starts: &[u16; STARTS], marks: &[u8], x: OldState, y: OldState) -> bool
-    requires ready { ⌜ Indexable (now hops) ⌝ }
-    requires table { ⌜ SuccessorIndex (now hops) (now starts) ⌝ }
-    requires capacity { ⌜ count (now hops) ≤ length (now marks) ⌝ }
+    requires given { ⌜ MarkInput (now hops) (now starts) (now marks) ⌝ }
     requires state { ⌜ x .0 < most-states ⌝ }
     ensures { λ r. ⌜ r ≡ markSet (now (hops .entry)) (now (marks .entry)) (x .0) (y .0) ⌝ }
 {
@@ -51,9 +48,7 @@ pub fn is_closed(
     s3: OldState,
     s4: OldState,
 ) -> bool
-    requires ready { ⌜ Indexable (now hops) ⌝ }
-    requires table { ⌜ SuccessorIndex (now hops) (now starts) ⌝ }
-    requires capacity { ⌜ count (now hops) ≤ length (now marks) ⌝ }
+    requires given { ⌜ MarkInput (now hops) (now starts) (now marks) ⌝ }
     requires state { ⌜ s3 .0 < most-states ⌝ }
     ensures { λ r. ⌜ r ≡ closing (markSet (now (hops .entry)) (now (marks .entry))) (s3 .0) (s4 .0) ⌝ }
 {
@@ -72,9 +67,7 @@ fn few_answer(
     a: Label,
     s3: OldState,
 ) -> bool
-    requires ready { ⌜ Indexable (now hops) ⌝ }
-    requires table { ⌜ SuccessorIndex (now hops) (now starts) ⌝ }
-    requires capacity { ⌜ count (now hops) ≤ length (now marks) ⌝ }
+    requires given { ⌜ MarkInput (now hops) (now starts) (now marks) ⌝ }
     requires row { ⌜ Row (now hops) (rest .state .0) (a .0) (rest .at) (rest .past) ⌝ }
     requires state { ⌜ s3 .0 < most-states ⌝ }
     ensures { λ r. ⌜ r ≡ hopAnswers (now (hops .entry)) (closing (markSet (now (hops .entry)) (now (marks .entry)))) (rest .state .0) (a .0) (s3 .0) ⌝ }
@@ -116,9 +109,7 @@ fn ends_answer(
     a: Label,
     s3: OldState,
 ) -> bool
-    requires ready { ⌜ Indexable (now hops) ⌝ }
-    requires table { ⌜ SuccessorIndex (now hops) (now starts) ⌝ }
-    requires capacity { ⌜ count (now hops) ≤ length (now marks) ⌝ }
+    requires given { ⌜ MarkInput (now hops) (now starts) (now marks) ⌝ }
     requires asked { ⌜ s2 .0 < most-states ⌝ }
     requires state { ⌜ s3 .0 < most-states ⌝ }
     ensures { λ r. ⌜ r ≡ hopAnswers (now (hops .entry)) (closing (markSet (now (hops .entry)) (now (marks .entry)))) (s2 .0) (a .0) (s3 .0) ⌝ }
@@ -153,9 +144,7 @@ fn long_answer(
     a: Label,
     s3: OldState,
 ) -> bool
-    requires ready { ⌜ Indexable (now hops) ⌝ }
-    requires table { ⌜ SuccessorIndex (now hops) (now starts) ⌝ }
-    requires capacity { ⌜ count (now hops) ≤ length (now marks) ⌝ }
+    requires given { ⌜ MarkInput (now hops) (now starts) (now marks) ⌝ }
     requires row { ⌜ Row (now hops) (rest .state .0) (a .0) (rest .at) (rest .past) ⌝ }
     requires asked { ⌜ rest .state .0 < most-states ⌝ }
     requires state { ⌜ s3 .0 < most-states ⌝ }
@@ -202,9 +191,7 @@ pub fn hop_answers(
     a: Label,
     s3: OldState,
 ) -> bool
-    requires ready { ⌜ Indexable (now hops) ⌝ }
-    requires table { ⌜ SuccessorIndex (now hops) (now starts) ⌝ }
-    requires capacity { ⌜ count (now hops) ≤ length (now marks) ⌝ }
+    requires given { ⌜ MarkInput (now hops) (now starts) (now marks) ⌝ }
     requires row { ⌜ Row (now hops) (rest .state .0) (a .0) (rest .at) (rest .past) ⌝ }
     requires asked { ⌜ rest .state .0 < most-states ⌝ }
     requires state { ⌜ s3 .0 < most-states ⌝ }

@@ -8,7 +8,8 @@ use lib.ListN.{drop}
 use Rattle.graph.specs.Hops.{count}
 use Rattle.graph.specs.Order.{Ascending}
 use Rattle.mark_confluence.specs.Rounds.{marked}
-use Rattle.mark_sweeps.specs.Internal.Sweep.{Marking, ClosesUpTo}
+use Rattle.mark_removal.specs.Internal.Removal.{Marking}
+use Rattle.mark_sweeps.specs.Internal.Sweep.{ClosesUpTo}
 use Rattle.mark_sweeps.proofs.Sweeping.{rested-marks}
 use Rattle.mark_worklist_loop.specs.Internal.BetweenRounds.{After}
 use Rattle.mark_worklist_loop.proofs.Rounds.{after-marks}

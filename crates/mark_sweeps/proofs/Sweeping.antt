@@ -21,8 +21,9 @@ use Rattle.mark_confluence.specs.Internal.MarkSet.{isMarked, markSet}
 use Rattle.mark_confluence.specs.Marks.{marksOf}
 use Rattle.mark_confluence.proofs.Marked.{marked-kept, marked-same}
 use Rattle.mark_confluence.proofs.MarkSet.{mark-set-says, mark-set-yes}
-use Rattle.mark_sweeps.specs.Internal.Sweep.{markCount, Marking, Swept, ClosesIfMarked, ClosesUpTo}
-use Rattle.mark_sweeps.proofs.Fixpoint.{on-or-off, swept-none, fixpoint-marks}
+use Rattle.mark_removal.specs.Internal.Removal.{markCount, Marking, Swept}
+use Rattle.mark_sweeps.specs.Internal.Sweep.{ClosesIfMarked, ClosesUpTo}
+use Rattle.mark_removal.proofs.Fixpoint.{on-or-off, swept-none, fixpoint-marks}
 
 module _ (hs : List ℕ) {ms : List ℕ} (m : Marking hs (marked hs) ms) where
   pub tested-off : (i : ℕ) → getD ms i 0 ≡ 0 → Swept hs (marked hs) (ClosesIfMarked hs i) ms ms 0

@@ -1,1 +1,1 @@
-pub mod Sweep  -- what marks keep while sweeps run
+pub mod Sweep  -- what a test and a sweep know of the marks that they leave

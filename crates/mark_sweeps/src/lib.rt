@@ -3,10 +3,9 @@
 // Marks start at 1 for every silent hop; a sweep visits the places in list order. The marks contain
 // the marked set throughout, and at the fixpoint they are a confluent set. The entries mark sense 1
 // with `mark_worklist_loop`, which leaves the same marks (`mark_entry_fast: sweeps-same-marks`);
-// this is the plain algorithm, with a proof that needs no rounds. That removing marks ends with the
-// greatest set is proved here for any condition (proofs/Fixpoint); `mark_batch_sweeps` rests on it
-// too.
-// Uses `mark_confluence` for the marked set and its theorems, `mark_diamond` for the test of a hop.
+// this is the plain algorithm, with a proof that needs no rounds.
+// Uses `mark_confluence` for the marked set and its theorems, `mark_removal` for what marks keep
+// under removal, for any condition, and `mark_diamond` for the test of a hop.
 use graph::hops::hop_count;
 use graph_successors::STARTS;
 use graph_successors::starts_of;
@@ -19,7 +18,8 @@ ghost use Rattle.base_outputs.specs.Output.{onFront};
 ghost use Rattle.graph.specs.Hops.{count};
 ghost use Rattle.mark_confluence.specs.Rounds.{marked};
 ghost use Rattle.mark_confluence.specs.Marks.{marksOf};
-ghost use Rattle.mark_sweeps.specs.Internal.Sweep.{Marking, Swept, ClosesIfMarked, ClosesUpTo};
+ghost use Rattle.mark_removal.specs.Internal.Removal.{Marking, Swept};
+ghost use Rattle.mark_sweeps.specs.Internal.Sweep.{ClosesIfMarked, ClosesUpTo};
 ghost use Rattle.graph_successors.specs.Internal.SuccessorIndex.{SuccessorIndex, Indexable};
 
 // Takes the mark of the hop at place i if it does not close; returns how many marks went.

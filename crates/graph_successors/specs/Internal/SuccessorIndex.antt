@@ -3,7 +3,7 @@
 use Prim.Native.Nat.{ℕ, _<_, _≤_}
 use mathlib.Core.Path.{_≡_}
 use mathlib.Core.List.{List}
-use lib.ListN.{getD}
+use lib.ListN.{length, getD}
 use Rattle.graph.specs.Hops.{count, from, to}
 use Rattle.graph.specs.Order.{Ascending}
 use Rattle.graph.specs.Search.{firstOf}
@@ -27,3 +27,9 @@ pub record Indexable (hs : List ℕ) : Type 0 where
 pub record Indexed (sh : Shape) (hs st : List ℕ) : Type 0 where
   pub admitted : Admitted sh hs
   pub table : SuccessorIndex hs st
+
+-- what a test of marks stands on: a hop list, its table, and a mark for each hop
+pub record MarkInput (hs st ms : List ℕ) : Type 0 where
+  pub ready : Indexable hs
+  pub table : SuccessorIndex hs st
+  pub capacity : count hs ≤ length ms

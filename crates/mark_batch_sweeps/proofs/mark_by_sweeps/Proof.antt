@@ -8,7 +8,7 @@ use Rattle.graph.specs.Answers.{most-hops}
 use Rattle.graph_successors.proofs.Firsts.{admitted-indexable}
 use Rattle.mark_confluence.specs.Internal.MarkSet.{everyPair}
 use Rattle.mark_confluence.proofs.Marks.{marks-over}
-use Rattle.mark_sweeps.proofs.Fixpoint.{first-marking}
+use Rattle.mark_removal.proofs.Fixpoint.{first-marking}
 use Rattle.mark_senses.specs.Senses.{senseOf, markedBy}
 use Rattle.mark_senses.proofs.Marked.{in-silent}
 use Rattle.mark_batch_sweeps.proofs.mark_by_sweeps.Statement.{statement}

@@ -7,8 +7,8 @@ use lib.ListN.{length}
 use Rattle.graph.specs.Hops.{count}
 use Rattle.mark_senses.specs.Senses.{markedBy}
 use Rattle.base_bitset.specs.Internal.Bits.{word-bits}
-use Rattle.mark_sweeps.specs.Internal.Sweep.{Swept}
-use Rattle.mark_sweeps.proofs.Fixpoint.{count-within, swept-none, swept-then}
+use Rattle.mark_removal.specs.Internal.Removal.{Swept}
+use Rattle.mark_removal.proofs.Fixpoint.{count-within, swept-none, swept-then}
 use Rattle.mark_batch.specs.Internal.Batch.{NothingKnown}
 use Rattle.mark_batch_sweeps.proofs.pass_pending.Statement.{statement}
 use Rattle.mark_batch_sweeps.proofs.pass_pending.Tie as tie

@@ -5,8 +5,8 @@ use mathlib.Core.Path.{_≡_, refl, _∙_}
 use native.Mathlib.Omega.{arith}
 use lib.ListN.{length}
 use Rattle.mark_senses.specs.Senses.{markedBy}
-use Rattle.mark_sweeps.specs.Internal.Sweep.{markCount, Swept}
-use Rattle.mark_sweeps.proofs.Fixpoint.{count-within, swept-none, swept-then}
+use Rattle.mark_removal.specs.Internal.Removal.{markCount, Swept}
+use Rattle.mark_removal.proofs.Fixpoint.{count-within, swept-none, swept-then}
 use Rattle.mark_batch.specs.Internal.Batch.{NothingKnown}
 use Rattle.mark_batch_sweeps.proofs.run_all_pending.Statement.{statement}
 use Rattle.mark_batch_sweeps.proofs.run_all_pending.Tie as tie

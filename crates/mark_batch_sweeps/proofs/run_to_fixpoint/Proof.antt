@@ -6,8 +6,8 @@ use native.Mathlib.Omega.{arith}
 use borrow.Author.Needs.{needs}
 use lib.ListN.{length}
 use Rattle.mark_senses.specs.Senses.{senseOf, markedBy}
-use Rattle.mark_sweeps.specs.Internal.Sweep.{markCount, Swept}
-use Rattle.mark_sweeps.proofs.Fixpoint.{count-within, swept-none, swept-then}
+use Rattle.mark_removal.specs.Internal.Removal.{markCount, Swept}
+use Rattle.mark_removal.proofs.Fixpoint.{count-within, swept-none, swept-then}
 use Rattle.mark_batch.specs.Internal.Batch.{NothingKnown, TriedIn}
 use Rattle.mark_batch_sweeps.proofs.run_to_fixpoint.Statement.{statement}
 use Rattle.mark_batch_sweeps.proofs.run_to_fixpoint.Tie as tie

@@ -6,8 +6,8 @@ use borrow.Author.Needs.{needs}
 use lib.ListN.{length}
 use Rattle.graph.specs.Hops.{count}
 use Rattle.mark_senses.specs.Senses.{senseOf, markedBy}
-use Rattle.mark_sweeps.specs.Internal.Sweep.{Swept}
-use Rattle.mark_sweeps.proofs.Fixpoint.{count-within, swept-none, swept-then}
+use Rattle.mark_removal.specs.Internal.Removal.{Swept}
+use Rattle.mark_removal.proofs.Fixpoint.{count-within, swept-none, swept-then}
 use Rattle.mark_batch.specs.Internal.Batch.{TriedIn}
 use Rattle.mark_batch.proofs.Trying.{tried-more}
 use Rattle.mark_batch_sweeps.proofs.sweep.Statement.{statement}

@@ -7,8 +7,8 @@ use borrow.Author.Needs.{needs}
 use lib.ListN.{length, drop}
 use Rattle.graph.specs.Hops.{count}
 use Rattle.mark_senses.specs.Senses.{senseOf, markedBy}
-use Rattle.mark_sweeps.specs.Internal.Sweep.{markCount, Marking}
-use Rattle.mark_sweeps.proofs.Fixpoint.{swept-rests}
+use Rattle.mark_removal.specs.Internal.Removal.{markCount, Marking}
+use Rattle.mark_removal.proofs.Fixpoint.{swept-rests}
 use Rattle.mark_batch.specs.Internal.Batch.{TriedIn}
 use Rattle.mark_batch.proofs.Trying.{tried-marks}
 use Rattle.mark_batch_sweeps.proofs.sweep_to_fixpoint.Statement.{statement}

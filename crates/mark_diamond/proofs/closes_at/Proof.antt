@@ -42,32 +42,32 @@ wide-requires-2 c κs = search needs
 add-start-of : tie.Need-add-start-of Inv-loop μ-loop
 add-start-of c =
     let st = c .before .before .before .before .before .before in
-    omega (arith, st .pre .0 .from-in (st .args .i) (st .pre .1 .1 .1))
+    omega (arith, st .pre .0 .ready .from-in (st .args .i) (st .pre .1))
 
 start-of-requires : tie.Need-start-of-requires Inv-loop μ-loop
 start-of-requires c κs =
     let st = c .before .before .before .before .before .before in
-    omega (arith, st .pre .0 .from-in (st .args .i) (st .pre .1 .1 .1))
+    omega (arith, st .pre .0 .ready .from-in (st .args .i) (st .pre .1))
 
 add-start-of-2 : tie.Need-add-start-of-2 Inv-loop μ-loop
 add-start-of-2 c =
     let st = c .before .before .before .before .before .before .before in
-    omega (arith, st .pre .0 .to-in (st .args .i) (st .pre .1 .1 .1))
+    omega (arith, st .pre .0 .ready .to-in (st .args .i) (st .pre .1))
 
 start-of-requires-2 : tie.Need-start-of-requires-2 Inv-loop μ-loop
 start-of-requires-2 c κs =
     let st = c .before .before .before .before .before .before .before in
-    omega (arith, st .pre .0 .to-in (st .args .i) (st .pre .1 .1 .1))
+    omega (arith, st .pre .0 .ready .to-in (st .args .i) (st .pre .1))
 
 start-of-requires-3 : tie.Need-start-of-requires-3 Inv-loop μ-loop
 start-of-requires-3 c κs =
     let st = c .before .before .before .before .before .before .before .before in
-    omega (arith, st .pre .0 .to-in (st .args .i) (st .pre .1 .1 .1))
+    omega (arith, st .pre .0 .ready .to-in (st .args .i) (st .pre .1))
 
 start-of-requires-4 : tie.Need-start-of-requires-4 Inv-loop μ-loop
 start-of-requires-4 c κs =
     let st = c .before .before .before .before .before .before .before .before .before in
-    omega (arith, st .pre .0 .from-in (st .args .i) (st .pre .1 .1 .1))
+    omega (arith, st .pre .0 .ready .from-in (st .args .i) (st .pre .1))
 
 loop-holds : tie.Need-loop-holds Inv-loop μ-loop
 loop-holds c =
@@ -75,28 +75,28 @@ loop-holds c =
     let hs = st .args .hops .now in
     let f : c .before .before .before .before .before .before .wide .result ≡ from hs (st .args .i) = omega arith in
     let t : c .before .before .before .before .wide2 .result ≡ to hs (st .args .i) = omega arith in
-    let fi : from hs (st .args .i) < most-states = st .pre .0 .from-in (st .args .i) (st .pre .1 .1 .1) in
-    let ti : to hs (st .args .i) < most-states = st .pre .0 .to-in (st .args .i) (st .pre .1 .1 .1) in
-    let end = start-is hs (st .args .starts .now) (st .pre .1 .0) _ (ap (λ (x : ℕ). x + 1) f) (omega arith) (c .before .before .before .start-of .ensures) in
-    let past = start-is hs (st .args .starts .now) (st .pre .1 .0) _ (ap (λ (x : ℕ). x + 1) t) (omega arith) (c .before .before .start-of2 .ensures) in
-    let at = start-is hs (st .args .starts .now) (st .pre .1 .0) _ t (omega arith) (c .before .start-of3 .ensures) in
-    let j = start-is hs (st .args .starts .now) (st .pre .1 .0) _ f (omega arith) (c .start-of4 .ensures) in (
-      walk-start hs (st .pre .0 .ascending) _ _ _ _ end past at j,
-      beside-start hs (st .pre .0 .ascending) (from hs (st .args .i)) _ _ _ at past,
-      tried-before hs (st .pre .0 .ascending) _ _ _ j,
+    let fi : from hs (st .args .i) < most-states = st .pre .0 .ready .from-in (st .args .i) (st .pre .1) in
+    let ti : to hs (st .args .i) < most-states = st .pre .0 .ready .to-in (st .args .i) (st .pre .1) in
+    let end = start-is hs (st .args .starts .now) (st .pre .0 .table) _ (ap (λ (x : ℕ). x + 1) f) (omega arith) (c .before .before .before .start-of .ensures) in
+    let past = start-is hs (st .args .starts .now) (st .pre .0 .table) _ (ap (λ (x : ℕ). x + 1) t) (omega arith) (c .before .before .start-of2 .ensures) in
+    let at = start-is hs (st .args .starts .now) (st .pre .0 .table) _ t (omega arith) (c .before .start-of3 .ensures) in
+    let j = start-is hs (st .args .starts .now) (st .pre .0 .table) _ f (omega arith) (c .start-of4 .ensures) in (
+      walk-start hs (st .pre .0 .ready .ascending) _ _ _ _ end past at j,
+      beside-start hs (st .pre .0 .ready .ascending) (from hs (st .args .i)) _ _ _ at past,
+      tried-before hs (st .pre .0 .ready .ascending) _ _ _ j,
     )
 
 stays-requires : tie.Need-stays-requires Inv-loop μ-loop
-stays-requires c κs = own-in _ (c .before .before .before .before .before .before .before .before .before .before .before .before .pre .0 .ascending) _ _ (c .before .loop .inv .0 .own) (c .loop-test .taken)
+stays-requires c κs = own-in _ (c .before .before .before .before .before .before .before .before .before .before .before .before .pre .0 .ready .ascending) _ _ (c .before .loop .inv .0 .own) (c .loop-test .taken)
 
 label-at-requires : tie.Need-label-at-requires Inv-loop μ-loop
-label-at-requires c κs = own-in _ (c .before .before .before .before .before .before .before .before .before .before .before .before .before .before .pre .0 .ascending) _ _ (c .before .before .before .loop .inv .0 .own) (c .before .before .loop-test .taken)
+label-at-requires c κs = own-in _ (c .before .before .before .before .before .before .before .before .before .before .before .before .before .before .pre .0 .ready .ascending) _ _ (c .before .before .before .loop .inv .0 .own) (c .before .before .loop-test .taken)
 
 skip-requires : tie.Need-skip-requires Inv-loop μ-loop
-skip-requires c κs = (c .before .before .before .before .loop .inv .0 .at-in, walk-past _ (c .before .before .before .before .before .before .before .before .before .before .before .before .before .before .before .pre .0 .ascending) _ _ _ _ (c .before .before .before .before .loop .inv .0) (c .before .before .before .loop-test .taken))
+skip-requires c κs = (c .before .before .before .before .loop .inv .0 .at-in, walk-past _ (c .before .before .before .before .before .before .before .before .before .before .before .before .before .before .before .pre .0 .ready .ascending) _ _ _ _ (c .before .before .before .before .loop .inv .0) (c .before .before .before .loop-test .taken))
 
 to-at-requires-2 : tie.Need-to-at-requires-2 Inv-loop μ-loop
-to-at-requires-2 c κs = own-in _ (c .before .before .before .before .before .before .before .before .before .before .before .before .before .before .before .before .pre .0 .ascending) _ _ (c .before .before .before .before .before .loop .inv .0 .own) (c .before .before .before .before .loop-test .taken)
+to-at-requires-2 c κs = own-in _ (c .before .before .before .before .before .before .before .before .before .before .before .before .before .before .before .before .pre .0 .ready .ascending) _ _ (c .before .before .before .before .before .loop .inv .0 .own) (c .before .before .before .before .loop-test .taken)
 
 hop-of-requires : tie.Need-hop-of-requires Inv-loop μ-loop
 hop-of-requires c κs = search needs
@@ -111,8 +111,8 @@ find-ahead-requires c κs =
     let st = c .before .before .before .before .before .before .before .before .before .before .before .before .before .before .before .before .before .before in
     let lp = c .before .before .before .before .before .before .before .loop in
     let hs = st .args .hops .now in (
-      st .pre .0 .ascending,
-      (rw (like c) (lp .inv .1 (lp .j) (le-refl _) (c .before .before .before .before .before .before .loop-test .taken)), rw (like c) (row-absent hs (st .pre .0 .ascending) (likeAt hs (to hs (st .args .i)) (lp .j)) (lp .inv .0 .past-is))),
+      st .pre .0 .ready .ascending,
+      (rw (like c) (lp .inv .1 (lp .j) (le-refl _) (c .before .before .before .before .before .before .loop-test .taken)), rw (like c) (row-absent hs (st .pre .0 .ready .ascending) (likeAt hs (to hs (st .args .i)) (lp .j)) (lp .inv .0 .past-is))),
     )
 
 place-of-requires : tie.Need-place-of-requires Inv-loop μ-loop
@@ -131,28 +131,22 @@ is-answered-unless-alike-requires c κs =
     let st = c .before .before .before .before .before .before .before .before .before .before .before .before .before .before .before .before .before .before .before .before .before in
     let w = c .before .before .before .before .before .before .before .before .before .before .loop .inv .0 in
     let l = c .before .before .before .before .before .before .before .before .before .loop-test .taken in
-    let row = walk-row _ (st .pre .0 .ascending) _ _ _ _ w l (skipped (c .before .before .before .before .before)) in
+    let row = walk-row _ (st .pre .0 .ready .ascending) _ _ _ _ w l (skipped (c .before .before .before .before .before)) in
     let t = c .before .before .before .before .before .before .before .before .before .before .before .before .before .before .before .before .to-at .ensures in (
       st .pre .0,
       (
-        st .pre .1 .0,
-        (
-          st .pre .1 .1 .0,
-          (
-            own-in _ (st .pre .0 .ascending) _ _ (w .own) l,
-            (rw t row, (rw t (st .pre .0 .to-in (st .args .i) (st .pre .1 .1 .1)), rw t (like-has _ (st .pre .0 .ascending) _ _ (like (c .before .before .before)) (c .before .before .find-ahead .ensures) (c .is-at .ensures)))),
-          ),
-        ),
+        own-in _ (st .pre .0 .ready .ascending) _ _ (w .own) l,
+        (rw t row, (rw t (st .pre .0 .ready .to-in (st .args .i) (st .pre .1)), rw t (like-has _ (st .pre .0 .ready .ascending) _ _ (like (c .before .before .before)) (c .before .before .find-ahead .ensures) (c .is-at .ensures)))),
       ),
     )
 
 returns : tie.Need-returns Inv-loop μ-loop
 returns c =
-    tried-fails _ (c .before .before .before .before .before .before .before .before .before .before .before .before .before .before .before .before .before .before .before .before .before .before .before .pre .0 .ascending) _ _ (c .before .before .before .before .before .before .before .before .before .before .before .before .loop .inv .0 .own) (c .before .before .before .before .before .before .before .before .before .before .before .loop-test .taken) _ _
+    tried-fails _ (c .before .before .before .before .before .before .before .before .before .before .before .before .before .before .before .before .before .before .before .before .before .before .before .pre .0 .ready .ascending) _ _ (c .before .before .before .before .before .before .before .before .before .before .before .before .loop .inv .0 .own) (c .before .before .before .before .before .before .before .before .before .before .before .loop-test .taken) _ _
     (c .before .before .before .before .before .before .before .before .before .before .before .before .before .before .before .before .before .before .to-at .ensures) (c .before .is-answered-unless-alike .ensures) (c .if2 .taken)
 
 add-j : tie.Need-add-j Inv-loop μ-loop
-add-j c = omega (arith, own-in _ (c .before .before .before .before .before .before .before .before .before .before .before .before .before .before .pre .0 .ascending) _ _ (c .before .before .before .loop .inv .0 .own) (c .before .before .loop-test .taken))
+add-j c = omega (arith, own-in _ (c .before .before .before .before .before .before .before .before .before .before .before .before .before .before .pre .0 .ready .ascending) _ _ (c .before .before .before .loop .inv .0 .own) (c .before .before .loop-test .taken))
 
 loop-less : tie.Need-loop-less Inv-loop μ-loop
 loop-less c = omega arith
@@ -160,7 +154,7 @@ loop-less c = omega arith
 -- the hop at place j is answered: it was tried, or s2 itself answers it
 loop-again : tie.Need-loop-again Inv-loop μ-loop
 loop-again c =
-    let up = c .before .before .before .before .before .before .before .before .before .before .before .before .before .before .pre .0 .ascending in
+    let up = c .before .before .before .before .before .before .before .before .before .before .before .before .before .before .pre .0 .ready .ascending in
     let (w, v, f) = c .before .before .before .loop .inv in
     let l = c .before .before .loop-test .taken in
     let t = c .before .before .before .before .before .before .before .before .before .to-at .ensures in (
@@ -174,7 +168,7 @@ loop-again c =
 returns-2 : tie.Need-returns-2 Inv-loop μ-loop
 returns-2 c =
     let (w, v, f) = c .before .loop .inv in
-    tried-done _ (c .before .before .before .before .before .before .before .before .before .before .before .before .pre .0 .ascending) _ _ (w .own) _ _ (c .loop-test .left) f
+    tried-done _ (c .before .before .before .before .before .before .before .before .before .before .before .before .pre .0 .ready .ascending) _ _ (w .own) _ _ (c .loop-test .left) f
 
 pub closes-at-spec : {M : Type 1} → statement M
 closes-at-spec =

@@ -16,7 +16,7 @@ to-at-requires c κs = search needs
 is-closed-requires : tie.Need-is-closed-requires
 is-closed-requires c κs =
     let st = c .before .before .before .before .before .before .before in
-    (st .pre .0, (st .pre .1 .0, (st .pre .1 .1 .0, rw (c .before .before .before .to-at .ensures) (st .pre .0 .to-in _ (st .pre .1 .1 .1 .0)))))
+    (st .pre .0, rw (c .before .before .before .to-at .ensures) (st .pre .0 .ready .to-in _ (st .pre .1 .0)))
 
 returns : tie.Need-returns
 returns c = answered-still _ _ _ _ (c .before .before .before .before .before .before .label-at .ensures) (c .before .before .before .before .before .to-at .ensures) (c .before .before .if1 .taken) (c .before .is-closed .ensures) (c .if2 .taken)
@@ -26,14 +26,8 @@ hop-answers-requires c κs =
     let st = c .before .before .before .before .before .before .before in (
       st .pre .0,
       (
-        st .pre .1 .0,
-        (
-          st .pre .1 .1 .0,
-          (
-            rw (c .before .before .before .before .label-at .ensures) (st .pre .1 .1 .1 .1 .0),
-            (st .pre .1 .1 .1 .1 .1, rw (c .before .before .before .to-at .ensures) (st .pre .0 .to-in _ (st .pre .1 .1 .1 .0))),
-          ),
-        ),
+        rw (c .before .before .before .before .label-at .ensures) (st .pre .1 .1 .0),
+        (st .pre .1 .1 .1, rw (c .before .before .before .to-at .ensures) (st .pre .0 .ready .to-in _ (st .pre .1 .0))),
       ),
     )
 

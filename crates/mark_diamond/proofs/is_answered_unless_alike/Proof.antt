@@ -6,12 +6,12 @@ use Rattle.mark_diamond.proofs.is_answered_unless_alike.Statement.{stat
 use Rattle.mark_diamond.proofs.is_answered_unless_alike.Tie as tie
 
 returns : tie.Need-returns
-returns c = answered-alike _ _ _ _ (c .before .before .before .pre .1 .1 .1 .1 .1 .1) (c .if1 .taken)
+returns c = answered-alike _ _ _ _ (c .before .before .before .pre .1 .1 .1 .1) (c .if1 .taken)
 
 is-answered-requires : tie.Need-is-answered-requires
 is-answered-requires c κs =
     let st = c .before .before .before in
-    (st .pre .0, (st .pre .1 .0, (st .pre .1 .1 .0, (st .pre .1 .1 .1 .0, (st .pre .1 .1 .1 .1 .0, st .pre .1 .1 .1 .1 .1 .0)))))
+    (st .pre .0, (st .pre .1 .0, (st .pre .1 .1 .0, st .pre .1 .1 .1 .0)))
 
 returns-2 : tie.Need-returns-2
 returns-2 c = search needs

@@ -40,9 +40,9 @@ is-answered-requires : tie.Need-is-answered-requires
 is-answered-requires c κs =
     let st = c .before .before .before .before .before .before .before .before .before in
     let hs = st .args .hops .now in
-    let past = start-is hs (st .args .starts .now) (st .pre .1 .0) _ (ap (λ (x : ℕ). x + 1) (c .before .wide .ensures)) (omega arith) (c .start-of .ensures) in
-    let row = row-is hs (st .pre .0 .ascending) _ (c .before .before .before .before .before .label-at .ensures) (c .before .before .labelled-from .ensures) past in
-    (st .pre .0, (st .pre .1 .0, (st .pre .1 .1 .0, (st .pre .1 .1 .1 .0, (row, st .pre .1 .1 .1 .1)))))
+    let past = start-is hs (st .args .starts .now) (st .pre .0 .table) _ (ap (λ (x : ℕ). x + 1) (c .before .wide .ensures)) (omega arith) (c .start-of .ensures) in
+    let row = row-is hs (st .pre .0 .ready .ascending) _ (c .before .before .before .before .before .label-at .ensures) (c .before .before .labelled-from .ensures) past in
+    (st .pre .0, (st .pre .1 .0, (row, st .pre .1 .1)))
 
 returns-2 : tie.Need-returns-2
 returns-2 c = search needs

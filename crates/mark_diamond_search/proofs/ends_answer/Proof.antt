@@ -42,32 +42,32 @@ loop-holds c =
     let st = c .before .before .before .before .before .before .before in
     let hs = st .args .hops .now in
     let t = c .before .before .wide .ensures in
-    let at = start-is hs (st .args .starts .now) (st .pre .1 .0) _ t (omega arith) (c .start-of2 .ensures) in
-    let past = start-is hs (st .args .starts .now) (st .pre .1 .0) _ (ap (λ (x : ℕ). x + 1) t) (omega arith) (c .before .start-of .ensures) in
+    let at = start-is hs (st .args .starts .now) (st .pre .0 .table) _ t (omega arith) (c .start-of2 .ensures) in
+    let past = start-is hs (st .args .starts .now) (st .pre .0 .table) _ (ap (λ (x : ℕ). x + 1) t) (omega arith) (c .before .start-of .ensures) in
     rw (← t) at (passed-start hs (st .args .marks .now) _ _ _ at past (c .before .before .before .before .leads-to .ensures) (c .before .before .before .if1 .left))
 
 label-at-requires : tie.Need-label-at-requires Inv-loop μ-loop
 label-at-requires c κs =
     let st = c .before .before .before .before .before .before .before .before .before in
-    passed-in _ _ _ _ _ (st .pre .0 .ascending) (c .before .loop .inv) (c .loop-test .taken)
+    passed-in _ _ _ _ _ (st .pre .0 .ready .ascending) (c .before .loop .inv) (c .loop-test .taken)
 
 returns-2 : tie.Need-returns-2 Inv-loop μ-loop
 returns-2 c =
     let lp = c .before .before .before .before in
     let st = lp .before .before .before .before .before .before .before .before in
-    rw (lp .before .before .before .wide .ensures) at (passed-ends _ _ _ _ _ (st .pre .0 .ascending) (lp .loop .inv) (λ m q. c .if2 .taken (c .before .before .label-at .ensures ∙ q)))
+    rw (lp .before .before .before .wide .ensures) at (passed-ends _ _ _ _ _ (st .pre .0 .ready .ascending) (lp .loop .inv) (λ m q. c .if2 .taken (c .before .before .label-at .ensures ∙ q)))
 
 shared-slice-read-if3 : tie.Need-shared-slice-read-if3 Inv-loop μ-loop
 shared-slice-read-if3 c =
     let lp = c .before .before .before .before .before in
     let st = lp .before .before .before .before .before .before .before .before in
-    omega (arith, passed-in _ _ _ _ _ (st .pre .0 .ascending) (lp .loop .inv) (c .before .before .before .before .loop-test .taken))
+    omega (arith, passed-in _ _ _ _ _ (st .pre .0 .ready .ascending) (lp .loop .inv) (c .before .before .before .before .loop-test .taken))
 
 to-at-requires : tie.Need-to-at-requires Inv-loop μ-loop
 to-at-requires c κs =
     let lp = c .before .before .before .before .before .before in
     let st = lp .before .before .before .before .before .before .before .before in
-    passed-in _ _ _ _ _ (st .pre .0 .ascending) (lp .loop .inv) (c .before .before .before .before .before .loop-test .taken)
+    passed-in _ _ _ _ _ (st .pre .0 .ready .ascending) (lp .loop .inv) (c .before .before .before .before .before .loop-test .taken)
 
 leads-to-requires-2 : tie.Need-leads-to-requires-2 Inv-loop μ-loop
 leads-to-requires-2 c κs = search needs
@@ -78,14 +78,14 @@ returns-3 c =
     let lp = c .before .before .before .before .before .before .before .before .before in
     let st = lp .before .before .before .before .before .before .before .before in
     let silent = sym (c .before .before .before .before .before .before .before .label-at .ensures) ∙ c .before .before .before .before .before .if2 .left in
-    rw (lp .before .before .before .wide .ensures) at (marked-answers _ _ _ _ _ (st .pre .0 .ascending) (lp .loop .inv) (c .before .before .before .before .before .before .before .before .loop-test .taken) silent
+    rw (lp .before .before .before .wide .ensures) at (marked-answers _ _ _ _ _ (st .pre .0 .ready .ascending) (lp .loop .inv) (c .before .before .before .before .before .before .before .before .loop-test .taken) silent
     (eq-eqb _ _ (c .before .before .before .if3 .taken)) (c .before .before .to-at .ensures) (c .before .leads-to2 .ensures) (c .if4 .taken))
 
 add-i : tie.Need-add-i Inv-loop μ-loop
 add-i c =
     let lp = c .before .before .before .before .before .before in
     let st = lp .before .before .before .before .before .before .before .before in
-    omega (arith, passed-in _ _ _ _ _ (st .pre .0 .ascending) (lp .loop .inv) (c .before .before .before .before .before .loop-test .taken))
+    omega (arith, passed-in _ _ _ _ _ (st .pre .0 .ready .ascending) (lp .loop .inv) (c .before .before .before .before .before .loop-test .taken))
 
 loop-less : tie.Need-loop-less Inv-loop μ-loop
 loop-less c = omega arith
@@ -95,14 +95,14 @@ unfolding isMarked
 loop-again c =
     let lp = c .before .before .before .before .before .before in
     let st = lp .before .before .before .before .before .before .before .before in
-    passed-next _ _ _ _ _ (st .pre .0 .ascending) (lp .loop .inv)
+    passed-next _ _ _ _ _ (st .pre .0 .ready .ascending) (lp .loop .inv)
     (⊎-elim (λ w e. leads-is _ _ _ (w .1 .ensures) (w .2 .ensures) (w .3 .left)) (λ w e. clash e (ne-eqb _ _ (w .left))) (c .if3 .came))
 
 returns-4 : tie.Need-returns-4 Inv-loop μ-loop
 returns-4 c =
     let lp = c .before in
     let st = lp .before .before .before .before .before .before .before .before in
-    rw (lp .before .before .before .wide .ensures) at (passed-ends _ _ _ _ _ (st .pre .0 .ascending) (lp .loop .inv) (λ m q. absurd (omega arith)))
+    rw (lp .before .before .before .wide .ensures) at (passed-ends _ _ _ _ _ (st .pre .0 .ready .ascending) (lp .loop .inv) (λ m q. absurd (omega arith)))
 
 pub ends-answer-spec : {M : Type 1} → statement M
 ends-answer-spec =

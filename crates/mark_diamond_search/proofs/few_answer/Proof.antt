@@ -30,7 +30,7 @@ returns : tie.Need-returns Inv-loop μ-loop
 returns c =
     let st = c .before .before .before .before .before .before .before .before in
     let lp = c .before .before .before .before .before .loop in
-    row-ends (st .args .hops .now) (st .pre .0 .ascending) _ _ _ _ (st .pre .1 .1 .1 .0) (lp .k) (lp .inv .0) (lp .inv .1)
+    row-ends (st .args .hops .now) (st .pre .0 .ready .ascending) _ _ _ _ (st .pre .1 .0) (lp .k) (lp .inv .0) (lp .inv .1)
     (λ m q. c .if1 .taken (c .before .before .before .label-at .ensures ∙ q))
 
 to-at-requires : tie.Need-to-at-requires Inv-loop μ-loop
@@ -42,7 +42,7 @@ is-closed-requires c κs = search needs
 returns-2 : tie.Need-returns-2 Inv-loop μ-loop
 returns-2 c =
     let st = c .before .before .before .before .before .before .before .before .before .before .before in
-    row-answers (st .args .hops .now) (st .pre .0 .ascending) _ _ _ _ (st .pre .1 .1 .1 .0) (c .before .before .before .before .before .before .before .before .loop .inv .0) (omega arith) (omega arith)
+    row-answers (st .args .hops .now) (st .pre .0 .ready .ascending) _ _ _ _ (st .pre .1 .0) (c .before .before .before .before .before .before .before .before .loop .inv .0) (omega arith) (omega arith)
     (c .before .before .to-at .ensures) (c .before .is-closed .ensures) (c .if2 .taken)
 
 add-k : tie.Need-add-k Inv-loop μ-loop
@@ -62,7 +62,7 @@ returns-3 : tie.Need-returns-3 Inv-loop μ-loop
 returns-3 c =
     let st = c .before .before .before .before in
     let lp = c .before .loop in
-    row-ends (st .args .hops .now) (st .pre .0 .ascending) _ _ _ _ (st .pre .1 .1 .1 .0) (lp .k) (lp .inv .0) (lp .inv .1) (λ m q. absurd (omega arith))
+    row-ends (st .args .hops .now) (st .pre .0 .ready .ascending) _ _ _ _ (st .pre .1 .0) (lp .k) (lp .inv .0) (lp .inv .1) (λ m q. absurd (omega arith))
 
 pub few-answer-spec : {M : Type 1} → statement M
 few-answer-spec =

@@ -13,7 +13,7 @@ hop-of-requires c κs = search needs
 find-row-requires : tie.Need-find-row-requires
 find-row-requires c κs =
     let st = c .before .before .before in
-    (st .pre .0, (st .pre .1 .0, rw (c .hop-of .ensures) (st .pre .1 .1 .1)))
+    (st .pre .0 .ready, (st .pre .0 .table, rw (c .hop-of .ensures) (st .pre .1)))
 
 enum-known-p : tie.Need-enum-known-p
 enum-known-p c = search needs
@@ -21,7 +21,7 @@ enum-known-p c = search needs
 shared-slice-read-result : tie.Need-shared-slice-read-result
 shared-slice-read-result c =
     let st = c .before .before .before .before .before .before .before .before in
-    omega (arith, mark-set-found (st .args .hops .now) (st .args .marks .now) (st .pre .0 .ascending) _ _ (c .before .before .before .before .before .hop-of .ensures) (c .before .before .before .before .find-row .ensures) (c .before .before .p .given .1) .0)
+    omega (arith, mark-set-found (st .args .hops .now) (st .args .marks .now) (st .pre .0 .ready .ascending) _ _ (c .before .before .before .before .before .hop-of .ensures) (c .before .before .before .before .find-row .ensures) (c .before .before .p .given .1) .0)
 
 enum-told : tie.Need-enum-told
 enum-told c = search needs
@@ -30,11 +30,11 @@ returns : tie.Need-returns
 unfolding isMarked
 returns c =
     let st = c .before .before .before .before .before .before .before .before in
-    mark-set-found _ _ (st .pre .0 .ascending) _ _ (c .before .before .before .before .before .hop-of .ensures) (c .before .before .before .before .find-row .ensures) (c .before .before .p .given .1) .1
+    mark-set-found _ _ (st .pre .0 .ready .ascending) _ _ (c .before .before .before .before .before .hop-of .ensures) (c .before .before .before .before .find-row .ensures) (c .before .before .p .given .1) .1
 
 returns-2 : tie.Need-returns-2
 returns-2 c =
-    mark-set-missing _ _ (c .before .before .before .before .before .before .pre .0 .ascending) _ _ (c .before .before .before .hop-of .ensures) (c .before .before .find-row .ensures) (c .enum-told .given .1)
+    mark-set-missing _ _ (c .before .before .before .before .before .before .pre .0 .ready .ascending) _ _ (c .before .before .before .hop-of .ensures) (c .before .before .find-row .ensures) (c .enum-told .given .1)
 
 pub holds-spec : {M : Type 1} → statement M
 holds-spec =

@@ -10,7 +10,7 @@ is-single-requires c κs = search needs
 few-answer-requires : tie.Need-few-answer-requires
 few-answer-requires c κs =
     let st = c .before .before .before .before in
-    (st .pre .0, (st .pre .1 .0, (st .pre .1 .1 .0, (st .pre .1 .1 .1 .0, st .pre .1 .1 .1 .1 .1))))
+    (st .pre .0, (st .pre .1 .0, st .pre .1 .1 .1))
 
 returns : tie.Need-returns
 returns c = search needs

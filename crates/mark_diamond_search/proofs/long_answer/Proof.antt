@@ -9,15 +9,15 @@ use lib.ListN.{getD}
 use Rattle.graph.specs.Hops.{count}
 use Rattle.graph.specs.Answers.{most-states}
 use Rattle.graph.proofs.Lookup.{first-within}
-use Rattle.graph_successors.specs.Internal.SuccessorIndex.{SuccessorIndex, Indexable}
+use Rattle.graph_successors.specs.Internal.SuccessorIndex.{MarkInput}
 use Rattle.graph_successors.proofs.Firsts.{start-is}
 use Rattle.mark_diamond_search.proofs.long_answer.Statement.{statement}
 use Rattle.mark_diamond_search.proofs.long_answer.Tie as tie
 
 -- the place past the hops of s is one of the list, or past its last
-past-in : (hs st : List ℕ) → Indexable hs → SuccessorIndex hs st → {s t past : ℕ} → s < most-states → t ≡ s → past ≡ getD st (t + 1) 0 → past ≤ count hs
-past-in hs st ready table {s} l q e =
-    omega (arith, start-is hs st table _ (ap (λ (x : ℕ). x + 1) q) (omega arith) e, first-within hs (ready .ascending) (s + 1))
+past-in : (hs st ms : List ℕ) → MarkInput hs st ms → {s t past : ℕ} → s < most-states → t ≡ s → past ≡ getD st (t + 1) 0 → past ≤ count hs
+past-in hs st ms given {s} l q e =
+    omega (arith, start-is hs st (given .table) _ (ap (λ (x : ℕ). x + 1) q) (omega arith) e, first-within hs (given .ready .ascending) (s + 1))
 
 wide-requires : tie.Need-wide-requires
 wide-requires c κs = search needs
@@ -34,12 +34,12 @@ start-of-requires-2 c κs = search needs
 is-fewer-requires : tie.Need-is-fewer-requires
 is-fewer-requires c κs =
     let st = c .before .before .before .before .before in
-    (st .pre .0, (past-in _ _ (st .pre .0) (st .pre .1 .0) (st .pre .1 .1 .1 .1 .1) (c .before .before .wide .ensures) (c .start-of2 .ensures), st .pre .1 .1 .1 .0 .within))
+    (st .pre .0 .ready, (past-in _ _ _ (st .pre .0) (st .pre .1 .1 .1) (c .before .before .wide .ensures) (c .start-of2 .ensures), st .pre .1 .0 .within))
 
 ends-answer-requires : tie.Need-ends-answer-requires
 ends-answer-requires c κs =
     let st = c .before .before .before .before .before .before .before in
-    (st .pre .0, (st .pre .1 .0, (st .pre .1 .1 .0, st .pre .1 .1 .1 .1)))
+    (st .pre .0, st .pre .1 .1)
 
 returns : tie.Need-returns
 returns c = c .ends-answer .ensures
@@ -47,12 +47,12 @@ returns c = c .ends-answer .ensures
 is-fewer-requires-2 : tie.Need-is-fewer-requires-2
 is-fewer-requires-2 c κs =
     let st = c .before .before .before .before .before .before .before in
-    (st .pre .0, (st .pre .1 .1 .1 .0 .within, past-in _ _ (st .pre .0) (st .pre .1 .0) (st .pre .1 .1 .1 .1 .1) (c .before .before .before .before .wide .ensures) (c .before .before .start-of2 .ensures)))
+    (st .pre .0 .ready, (st .pre .1 .0 .within, past-in _ _ _ (st .pre .0) (st .pre .1 .1 .1) (c .before .before .before .before .wide .ensures) (c .before .before .start-of2 .ensures)))
 
 few-answer-requires : tie.Need-few-answer-requires
 few-answer-requires c κs =
     let st = c .before .before .before .before .before .before .before .before .before in
-    (st .pre .0, (st .pre .1 .0, (st .pre .1 .1 .0, (st .pre .1 .1 .1 .0, st .pre .1 .1 .1 .1 .1))))
+    (st .pre .0, (st .pre .1 .0, st .pre .1 .1 .1))
 
 returns-2 : tie.Need-returns-2
 returns-2 c = c .few-answer .ensures
@@ -60,7 +60,7 @@ returns-2 c = c .few-answer .ensures
 row-answers-requires : tie.Need-row-answers-requires
 row-answers-requires c κs =
     let st = c .before .before .before .before .before .before .before .before .before in
-    (st .pre .0, (st .pre .1 .0, (st .pre .1 .1 .0, (st .pre .1 .1 .1 .0, st .pre .1 .1 .1 .1 .1))))
+    (st .pre .0, (st .pre .1 .0, st .pre .1 .1 .1))
 
 returns-3 : tie.Need-returns-3
 returns-3 c = c .row-answers .ensures

@@ -3,7 +3,7 @@
 use borrow.Author.Needs.{needs}
 use Rattle.mark_confluence.specs.Rounds.{marked}
 use Rattle.mark_confluence.proofs.Marked.{marked-confluent}
-use Rattle.mark_sweeps.proofs.Fixpoint.{first-marking}
+use Rattle.mark_removal.proofs.Fixpoint.{first-marking}
 use Rattle.mark_confluence.specs.Internal.MarkSet.{everyPair}
 use Rattle.mark_confluence.proofs.Marks.{marks-over}
 use Rattle.mark_sweeps.proofs.mark_all.Statement.{statement}

@@ -7,8 +7,9 @@ use lib.ListN.{length}
 use Rattle.graph.specs.Hops.{count}
 use Rattle.mark_confluence.specs.Rounds.{marked}
 use borrow.Author.Count.{below-more}
-use Rattle.mark_sweeps.specs.Internal.Sweep.{Swept, ClosesUpTo}
-use Rattle.mark_sweeps.proofs.Fixpoint.{count-within, swept-none, swept-then}
+use Rattle.mark_removal.specs.Internal.Removal.{Swept}
+use Rattle.mark_sweeps.specs.Internal.Sweep.{ClosesUpTo}
+use Rattle.mark_removal.proofs.Fixpoint.{count-within, swept-none, swept-then}
 use Rattle.mark_sweeps.proofs.sweep.Statement.{statement}
 use Rattle.mark_sweeps.proofs.sweep.Tie as tie
 

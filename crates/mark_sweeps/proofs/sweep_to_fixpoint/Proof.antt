@@ -5,9 +5,10 @@ use mathlib.Core.Path.{_≡_, refl, _∙_}
 use native.Mathlib.Omega.{arith}
 use lib.ListN.{length, drop}
 use Rattle.graph.specs.Hops.{count}
-use Rattle.mark_sweeps.specs.Internal.Sweep.{markCount, Marking, ClosesUpTo}
+use Rattle.mark_removal.specs.Internal.Removal.{markCount, Marking}
+use Rattle.mark_sweeps.specs.Internal.Sweep.{ClosesUpTo}
 use Rattle.mark_confluence.specs.Rounds.{marked}
-use Rattle.mark_sweeps.proofs.Fixpoint.{swept-rests}
+use Rattle.mark_removal.proofs.Fixpoint.{swept-rests}
 use Rattle.mark_sweeps.proofs.Sweeping.{rested-marks}
 use Rattle.mark_sweeps.proofs.sweep_to_fixpoint.Statement.{statement}
 use Rattle.mark_sweeps.proofs.sweep_to_fixpoint.Tie as tie

@@ -15,7 +15,7 @@ returns c = tested-off _ (c .before .before .before .before .pre .1 .1 .0) _ (c 
 closes-at-requires : tie.Need-closes-at-requires
 closes-at-requires c κs =
     let st = c .before .before .before .before .before in
-    (st .pre .0, (st .pre .1 .0, (st .pre .1 .1 .0 .capacity, st .pre .1 .1 .1)))
+    (record { ready = st .pre .0; table = st .pre .1 .0; capacity = st .pre .1 .1 .0 .capacity }, st .pre .1 .1 .1)
 
 same-length : tie.Need-same-length
 same-length c = search needs

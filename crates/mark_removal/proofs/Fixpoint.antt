@@ -22,7 +22,7 @@ use Rattle.mark_confluence.specs.Internal.MarkSet.{isMarked, markSet, everyPair
 use Rattle.mark_confluence.specs.Marks.{markOf, marksOf}
 use Rattle.mark_confluence.proofs.MarkSet.{mark-set-says, mark-set-yes, mark-set-at}
 use Rattle.mark_confluence.proofs.Marks.{mark-bit, mark-one, mark-says, marks-capacity, marks-bits, marks-silent, marks-mark-set, marks-made}
-use Rattle.mark_sweeps.specs.Internal.Sweep.{markCount, Marking, Swept}
+use Rattle.mark_removal.specs.Internal.Removal.{markCount, Marking, Swept}
 
 pub count-within : (hs ms : List ℕ) → markCount hs ms ≤ count hs
 unfolding markCount

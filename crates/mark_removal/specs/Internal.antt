@@ -1,0 +1,1 @@
+pub mod Removal  -- what marks keep while hops lose theirs

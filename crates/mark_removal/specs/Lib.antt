@@ -1,0 +1,1 @@
+pub mod Internal  -- what only private functions and proofs cite
