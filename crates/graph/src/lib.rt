@@ -9,6 +9,7 @@ pub mod hops; // hops.rt: what stands at a place of a flat list
 pub mod map; // map.rt: a map at a state
 pub mod order; // order.rt: the one comparison of hops
 pub mod search; // search.rt: the one search, and the places of a state's hops
+pub mod tables; // tables.rt: 16-bit numbers as places, in tables and outside
 pub mod answers; // answers.rt: the accepted answer, and refusals
 
 // The limits of document 01, for code and for the lengths of arrays.

@@ -7,23 +7,11 @@
 use graph::MOST_HOPS;
 use graph::hops::hop_count;
 use graph::hops::to_at;
+use graph::tables::wide;
 use graph_successors::STARTS;
-use graph_successors::wide;
-ghost use mathlib.Core.Path.{_≡_};
-ghost use Prim.Native.Nat.{_<_};
-ghost use lib.ListN.{getD};
 ghost use Rattle.graph.specs.Hops.{count};
-ghost use Rattle.graph.specs.Answers.{most-hops};
 ghost use Rattle.graph_successors.specs.Internal.SuccessorIndex.{Indexable};
 ghost use Rattle.graph_predecessors.specs.Internal.PredecessorIndex.{InDegrees, PredecessorStarts, PredecessorPlaces};
-
-// The place that stands in the table at k.
-pub fn place_at(places: &[u16; MOST_HOPS], k: usize) -> usize
-    requires { ⌜ k < most-hops ⌝ }
-    ensures { λ r. ⌜ r ≡ getD (now (places .entry)) k 0 ⌝ }
-{
-    wide(places[k])
-}
 
 // How many hops end in each state.
 fn ends_of(hops: &[u16]) -> [u16; STARTS]

@@ -16,6 +16,7 @@ use graph::hops::hop_count;
 use graph::hops::hop_of;
 use graph::search::find_between;
 use graph::search::lower_between;
+use graph::tables::wide;
 ghost use mathlib.Core.Path.{_≡_};
 ghost use Prim.Native.Nat.{_+_, _<_, _≤_};
 ghost use Rattle.graph.specs.Answers.{most-states};
@@ -32,13 +33,6 @@ pub struct Rest {
     pub state: OldState,
     pub at: usize,
     pub past: usize,
-}
-
-// A number read from the list or the table, as a place or an index.
-pub fn wide(x: u16) -> usize
-    ensures { λ r. ⌜ r ≡ x ⌝ }
-{
-    x as usize
 }
 
 // Where the hops of s begin, by the table.

@@ -8,7 +8,7 @@ use base_bitset::holds;
 use graph::MOST_STATES;
 use graph::hops::hop_at;
 use graph::hops::hop_count;
-use graph_successors::wide;
+use graph::tables::wide;
 ghost use mathlib.Core.Path.{_≡_};
 ghost use mathlib.Core.Bool.{cond};
 ghost use Prim.Native.Nat.{_<_, _≤_};

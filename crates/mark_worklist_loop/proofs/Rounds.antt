@@ -10,7 +10,7 @@ use mathlib.Core.Logic.{_⊎_, inl, inr, ⊎-elim}
 use native.Mathlib.Nat.{not-suc-le-zero}
 use native.Mathlib.Numerals.{add-one}
 use native.Mathlib.Omega.{arith}
-use lib.ListN.{length, getD, replicate, getD-replicate}
+use lib.ListN.{length, getD, replicate, getD-replicate, length-replicate}
 use lib.Dec.{ltb}
 use borrow.Author.Tests.{lt-ltb, le-ltb}
 use Rattle.base_bounded.specs.Quantifiers.{tally, total}
@@ -33,7 +33,7 @@ use Rattle.mark_worklist.specs.Tests.{fell, stillMarked, affected, testedIn, te
 use Rattle.mark_worklist.proofs.Tests.{survives-closes, tested-still-marked, fell-yes, fell-place, still-marked-yes, still-marked-silent, still-marked-survives, still-marked-falls, affected-yes, affected-says, untested-survives, Stable, none-stable, stable-marked, tested-early, tests-end}
 use Rattle.mark_worklist_push.specs.Internal.Queue.{Among, Leaving, Queue, Pushed, ClosedByAny, PlacesBelow, Unset}
 use Rattle.mark_worklist_push.proofs.Pushing.{flag-no, queue-none}
-use Rattle.mark_worklist_round.specs.Internal.Round.{Enumerates, SkipsClean, DirtyStates, Tested, Unmarked, FallenIn}
+use Rattle.mark_worklist_round.specs.Internal.Round.{Enumerates, SkipsClean, DirtyStates, Tested, Cleared, Unmarked, FallenIn}
 use Rattle.mark_worklist_loop.specs.Internal.BetweenRounds.{After}
 use Rattle.mark_worklist_round.proofs.Parts.{held-survives, mark-test, falls-all, marks-next, unmarked-none}
 
@@ -112,9 +112,9 @@ module _ (hs : List ℕ) where
       pushed-most = omega (arith, g .queue .counted, tally-within (isMarked fs) (count hs))
 
       -- what leads to a state that nothing fell from is answered as it was in the round before
-      pub pushed-skipped : (sh : List ℕ) → DirtyStates hs fl n sh → SkipsClean hs ms sh false qs r
+      pub pushed-skipped : (sh : List ℕ) → DirtyStates hs fl n sh → SkipsClean hs ms sh qs r
       unfolding SkipsClean DirtyStates CleanAnswered answered
-      pushed-skipped sh f b m l j v e o = rw (held-survives hs (suc k) ms out (a .marks)) (answers-yes hs (survives hs (suc k)) (to hs i) (label hs j) (to hs j) (still (closes-says hs (survives hs k) (from hs i) (to hs i) closed (label hs j) (to hs j) (rw e at (has-at hs v))))) where
+      pushed-skipped sh f m l j v e o = rw (held-survives hs (suc k) ms out (a .marks)) (answers-yes hs (survives hs (suc k)) (to hs i) (label hs j) (to hs j) (still (closes-says hs (survives hs k) (from hs i) (to hs i) closed (label hs j) (to hs j) (rw e at (has-at hs v))))) where
         i : ℕ
         i = getD qs m 0
 
@@ -133,14 +133,15 @@ module _ (hs : List ℕ) where
               let u : isMarked sh (to hs j) ≡ true = rw (d, p .from-is) at (f q w) in
               clash u o
 
-      -- and its tests make the next round
-      module _ {new fl' : List ℕ} {n' : ℕ} (d : Tested hs ms qs r fs new fl' n') where
-        pub tested-queue : Queue hs new qs 0
-        unfolding Unset
-        tested-queue = queue-none hs ms (d .flags) (g .queue .capacity) unset where
-          unset : Unset hs new
-          unset i l = no-test (isMarked new i) (λ e. clash e (d .taken i (g .queue .all i l (d .kept i e))))
+      -- tested, the queue is empty again
+      pub tested-queue : {new : List ℕ} → Cleared hs qs r fs new → Queue hs new qs 0
+      unfolding Unset
+      tested-queue {new} d = queue-none hs ms (d .flags) (g .queue .capacity) unset where
+        unset : Unset hs new
+        unset i l = no-test (isMarked new i) (λ e. clash e (d .taken i (g .queue .all i l (d .kept i e))))
 
+      -- and its tests make the next round
+      module _ {fl' : List ℕ} {n' : ℕ} (d : Tested hs ms qs r fl' n') where
         pub next-falls : FallenIn hs (suc k) fl' n'
         next-falls = falls-all hs (suc k) ms out (a .marks) qs r pushed-lists d
 
@@ -214,7 +215,7 @@ module _ (hs : List ℕ) where
                 mark-one hs everyPair i q refl ∙ sym (mark-one hs (survives hs 0) i q (survives-none hs (from hs i) (to hs i) ∙ (rw q at (has-at hs l))))
             go (inr q) = mark-visible hs everyPair i q ∙ sym (mark-visible hs (survives hs 0) i q)
 
-    pub after-first : {qs old new fl ms' : List ℕ} {n r : ℕ} → Enumerates (count hs) (testedIn hs 0) qs n → Tested hs ms qs n old new fl r → r ≤ most-hops →
+    pub after-first : {qs fl ms' : List ℕ} {n r : ℕ} → Enumerates (count hs) (testedIn hs 0) qs n → Tested hs ms qs n fl r → r ≤ most-hops →
         Unmarked ms fl r ms' → count hs ≤ length ms' → After hs 0 ms' out fl r n
     unfolding testsUpTo testsIn total
     after-first {qs} {n = n} d x l w m = record {
@@ -226,20 +227,15 @@ module _ (hs : List ℕ) where
     }
 
     -- in which nothing fell
-    pub after-still : {qs old new fl : List ℕ} {n r : ℕ} → Enumerates (count hs) (testedIn hs 0) qs n → Tested hs ms qs n old new fl r → r ≡ 0 → After hs 0 ms out fl r n
+    pub after-still : {qs fl : List ℕ} {n r : ℕ} → Enumerates (count hs) (testedIn hs 0) qs n → Tested hs ms qs n fl r → r ≡ 0 → After hs 0 ms out fl r n
     after-still {fl = fl} d x z =
         after-first d x (omega arith) (rw z (unmarked-none ms fl)) (rw (marks-capacity hs everyPair ms out e capacity) capacity)
 
   pub lists-listed : {p : ℕ → Bool} {qs : List ℕ} {n : ℕ} → Enumerates (count hs) p qs n → PlacesBelow hs qs n
-  unfolding PlacesBelow
   lists-listed d j m = d .each j m .0
 
-  pub first-queue : {ms qs old new fl : List ℕ} {n r : ℕ} → Tested hs ms qs n old new fl r → count hs ≤ length qs → Unset hs old → Queue hs new qs 0
-  unfolding Unset
-  first-queue {ms} {new = new} x l u = queue-none hs ms (x .flags) l (λ i m. no-test (isMarked new i) (λ h. clash (x .kept i h) (u i m)))
-
   -- what is listed as fallen was listed to be tested
-  pub tested-inside : {p : ℕ → Bool} {ms qs old new fl : List ℕ} {n r : ℕ} → Enumerates (count hs) p qs n → Tested hs ms qs n old new fl r →
+  pub tested-inside : {p : ℕ → Bool} {ms qs fl : List ℕ} {n r : ℕ} → Enumerates (count hs) p qs n → Tested hs ms qs n fl r →
       (q : ℕ) → q < r → getD fl q 0 < count hs
   tested-inside d x q l = let ((j, m, e), y) = x .each q l in rw e at (d .each j m .0)
 
@@ -247,6 +243,8 @@ module _ (hs : List ℕ) where
   lists-most {p} d = omega (arith, d .counted, tally-within p (count hs))
 
   -- flags that are all 0
-  pub zeros-unset : count hs ≤ most-hops → Unset hs (replicate most-hops 0)
+  pub zeros-queue : (qs : List ℕ) → count hs ≤ most-hops → most-hops ≤ length qs → Queue hs (replicate most-hops 0) qs 0
   unfolding Unset
-  zeros-unset l i m = flag-no (replicate most-hops 0) i (λ e. absurd (omega (arith, getD-replicate {A = ℕ} most-hops i 0 0 (omega arith))))
+  zeros-queue qs l m =
+      queue-none hs qs (omega (arith, length-replicate {A = ℕ} most-hops 0)) (omega arith)
+      (λ i k. flag-no (replicate most-hops 0) i (λ e. absurd (omega (arith, getD-replicate {A = ℕ} most-hops i 0 0 (omega arith)))))

@@ -11,10 +11,10 @@ use graph::MOST_STATES;
 use graph::hops::from_at;
 use graph::hops::hop_count;
 use graph::hops::to_at;
-use graph_predecessors::place_at;
+use graph::tables::place_at;
+use graph::tables::wide;
 use graph_successors::STARTS;
 use graph_successors::start_of;
-use graph_successors::wide;
 use mark_worklist_push::push_into;
 use mark_worklist_push::push_out;
 ghost use Prim.Native.Nat.{_<_, _≤_};
@@ -22,7 +22,7 @@ ghost use lib.ListN.{length};
 ghost use Rattle.graph.specs.Hops.{count};
 ghost use Rattle.graph.specs.Answers.{most-hops};
 ghost use Rattle.graph_successors.specs.Internal.SuccessorIndex.{Indexable};
-ghost use Rattle.mark_worklist_push.specs.Internal.Queue.{Tables, Leaving, Queue, Pushed, Trying, ClosedBy, ClosedByAny, PlacesBelow};
+ghost use Rattle.mark_worklist_push.specs.Internal.Queue.{NextInput, Leaving, Pushed, Trying, ClosedBy, ClosedByAny, PlacesBelow};
 
 // Where s1 has at most this many hops more than lead to s4, its own hops are gone over: that needs
 // no search where none of them is marked.
@@ -63,10 +63,7 @@ fn push_hop(
     j: usize,
     p: usize,
 ) -> usize
-    requires tables { ⌜ Tables (now hops) (now starts) (now begins) (now places) ⌝ }
-    requires leaving { ⌜ Leaving (now hops) (now marks) (now leaving) ⌝ }
-    requires capacity { ⌜ count (now hops) ≤ length (now marks) ⌝ }
-    requires queue { ⌜ Queue (now hops) (now flags) (now queue) n ⌝ }
+    requires given { ⌜ NextInput (now hops) (now starts) (now begins) (now places) (now leaving) (now marks) (now flags) (now queue) n ⌝ }
     requires tried { ⌜ j < count (now hops) ⌝ }
     requires fallen { ⌜ p < count (now hops) ⌝ }
     ensures { λ r. ⌜ Pushed (now (hops .entry)) (now (marks .entry)) (Trying (now (hops .entry)) j p)
@@ -99,10 +96,7 @@ fn push_fallen(
     n: usize,
     p: usize,
 ) -> usize
-    requires tables { ⌜ Tables (now hops) (now starts) (now begins) (now places) ⌝ }
-    requires leaving { ⌜ Leaving (now hops) (now marks) (now leaving) ⌝ }
-    requires capacity { ⌜ count (now hops) ≤ length (now marks) ⌝ }
-    requires queue { ⌜ Queue (now hops) (now flags) (now queue) n ⌝ }
+    requires given { ⌜ NextInput (now hops) (now starts) (now begins) (now places) (now leaving) (now marks) (now flags) (now queue) n ⌝ }
     requires fallen { ⌜ p < count (now hops) ⌝ }
     ensures { λ r. ⌜ Pushed (now (hops .entry)) (now (marks .entry)) (ClosedBy (now (hops .entry)) p)
         (now (flags .entry)) (now (flags .exit)) (now (queue .exit)) r ⌝ }
@@ -145,10 +139,7 @@ pub fn next_queue(
     flags: &mut [u8; MOST_HOPS],
     queue: &mut [u16; MOST_HOPS],
 ) -> usize
-    requires tables { ⌜ Tables (now hops) (now starts) (now begins) (now places) ⌝ }
-    requires leaving { ⌜ Leaving (now hops) (now marks) (now leaving) ⌝ }
-    requires capacity { ⌜ count (now hops) ≤ length (now marks) ⌝ }
-    requires queue { ⌜ Queue (now hops) (now flags) (now queue) 0 ⌝ }
+    requires given { ⌜ NextInput (now hops) (now starts) (now begins) (now places) (now leaving) (now marks) (now flags) (now queue) 0 ⌝ }
     requires most { ⌜ lost ≤ most-hops ⌝ }
     requires fallen { ⌜ PlacesBelow (now hops) (now fallen) lost ⌝ }
     ensures { λ r. ⌜ Pushed (now (hops .entry)) (now (marks .entry)) (ClosedByAny (now (hops .entry)) (now (fallen .entry)) lost)

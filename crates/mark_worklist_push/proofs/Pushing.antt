@@ -72,9 +72,6 @@ module _ (hs ms : List ℕ) where
   queue-capacity {fs} q l e =
       omega (arith, q .counted, tally-less (isMarked fs) (λ (j : ℕ). true) (count hs) (λ j m h. refl) l e refl, tally-within (λ (j : ℕ). true) (count hs))
 
-  pub queue-most : {fs qs : List ℕ} {n : ℕ} → Queue hs fs qs n → n ≤ count hs
-  queue-most {fs} q = omega (arith, q .counted, tally-within (isMarked fs) (count hs))
-
   -- nothing is pushed if each wanted hop is in the queue
   pub pushed-none : {W : ℕ → Type 0} {fs qs : List ℕ} {n : ℕ} → Queue hs fs qs n → ((i : ℕ) → i < count hs → Wanted hs ms W i → isMarked fs i ≡ true) → Pushed hs ms W fs fs qs n
   pushed-none q f = record { queue = q; kept = λ i l e. e; came = λ i l e. inl e; all = f }

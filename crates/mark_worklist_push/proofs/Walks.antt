@@ -23,11 +23,12 @@ use Rattle.graph.proofs.Lookup.{at-place, gap-has, one-place, first-within}
 use Rattle.graph_successors.proofs.Firsts.{start-is}
 use Rattle.graph_successors.proofs.Rows.{labelled-holds, labelled-only, silent-first}
 use Rattle.graph.specs.Answers.{most-states, most-hops}
+use Rattle.graph_successors.specs.Internal.SuccessorIndex.{Indexable, MarkInput}
 use Rattle.graph_predecessors.specs.Internal.PredecessorIndex.{predecessorStart, PredecessorStarts, PredecessorPlaces}
 use Rattle.graph_predecessors.proofs.PredecessorIndex.{place-in}
 use Rattle.mark_confluence.specs.Rounds.{FirstPoint}
 use Rattle.mark_confluence.specs.Internal.MarkSet.{isMarked}
-use Rattle.mark_worklist_push.specs.Internal.Queue.{Tables, Leaving, Queue, Wanted, Pushed, OnlyPlace, Joining, Like, AnsweredTo, Trying, Asked, DecidesPoint, ClosedBy, ClosedByAny}
+use Rattle.mark_worklist_push.specs.Internal.Queue.{Tables, Leaving, Queue, NextInput, Wanted, Pushed, OnlyPlace, Joining, Like, AnsweredTo, Trying, Asked, DecidesPoint, ClosedBy, ClosedByAny}
 use Rattle.mark_worklist_push.proofs.Pushing.{flag-yes, flag-says, pushed-none, pushed-then, pushed-same}
 
 -- what the steps from lo on and before k push, if step y pushes X y
@@ -51,12 +52,6 @@ module _ (hs ms : List ℕ) (X : ℕ → ℕ → Type 0) where
     pub walk-more : {new q : List ℕ} {r : ℕ} → Pushed hs ms (X k) mid new q r → Pushed hs ms (Walked X lo (k + 1)) old new q r
     walk-more h = pushed-then hs ms g h less (λ x w. (k, l, omega arith, w)) (λ x w. more x (w .inside))
 
-    -- or nothing
-    pub walk-skip : ((x : ℕ) → Wanted hs ms (X k) x → ⊥) → Pushed hs ms (Walked X lo (k + 1)) old mid qs n
-    walk-skip f =
-        pushed-same hs ms g less
-        (λ x m w. ⊎-elim (λ a. a) (λ a. absurd (f x (record { silent = w .silent; marked = w .marked; inside = a }))) (more x (w .inside)))
-
 module _ (hs ms : List ℕ) where
   -- the silent hop from s1 to s2, as the search finds it
   module _ (up : Ascending hs) (s1 s2 : ℕ) {h : Hop} {f : Found} (q : h ≡ hopOf s1 0 s2) (e : f ≡ placed hs h) where
@@ -72,11 +67,8 @@ module _ (hs ms : List ℕ) where
       there : (i < count hs) × (is hs s1 0 s2 i ≡ true)
       there = let found : placed hs (hopOf s1 0 s2) ≡ At i = rw q at (sym e ∙ d) in at-place hs (hopOf s1 0 s2) found
 
-      pub pair-within : i < count hs
-      pair-within = there .0
-
-      pub pair-silent : label hs i ≡ 0
-      pair-silent = is-label hs s1 0 s2 i (there .1)
+      pub pair-there : (i < count hs) × (label hs i ≡ 0)
+      pair-there = (there .0, is-label hs s1 0 s2 i (there .1))
 
       pub pair-at : {fs new qs : List ℕ} {r : ℕ} → Pushed hs ms (OnlyPlace i) fs new qs r → Pushed hs ms (Joining hs s1 s2) fs new qs r
       pair-at g =
@@ -90,9 +82,6 @@ module _ (hs ms : List ℕ) where
 
     pub like-no : (a ≡ b → ⊥) → {fs qs : List ℕ} {n : ℕ} → Queue hs fs qs n → Pushed hs ms (Like hs j m) fs fs qs n
     like-no n c = pushed-none hs ms c (λ x l w. absurd (n (e ∙ (w .inside .0 ∙ sym f))))
-
-  pub pair-to : {s1 s2 t1 t2 : ℕ} {fs new qs : List ℕ} {r : ℕ} → s1 ≡ t1 → s2 ≡ t2 → Pushed hs ms (Joining hs s1 s2) fs new qs r → Pushed hs ms (Joining hs t1 t2) fs new qs r
-  pair-to p q g = rw (p, q) at g
 
   -- over the hops into s4, the end of the hop at place p: those of the label of the hop at place j
   module _ (ps : List ℕ) (j p : ℕ) where
@@ -232,9 +221,13 @@ pub begin-is : (hs bs : List ℕ) → PredecessorStarts hs bs → {x r : ℕ} (y
 unfolding PredecessorStarts
 begin-is hs bs t y q l e = e ∙ (rw q (t y l))
 
+-- the queue goes on, and the rest stays as it was
+pub next-onward : {hs st bs ps ls ms fs qs new q : List ℕ} {n r : ℕ} → NextInput hs st bs ps ls ms fs qs n → Queue hs new q r → NextInput hs st bs ps ls ms new q r
+next-onward i q = record { push = record { given = i .push .given; queue = q }; tables = i .tables; leaving = i .leaving }
+
 -- no place in the tables is past the hops
-pub start-most : {hs st bs ps : List ℕ} → Tables hs st bs ps → {x r : ℕ} → r ≡ getD st x 0 → x ≤ most-states → r ≤ most-hops
+pub start-most : {hs st ms : List ℕ} → MarkInput hs st ms → {x r : ℕ} → r ≡ getD st x 0 → x ≤ most-states → r ≤ most-hops
 start-most {hs} {st} t {x} e l = omega (arith, start-is hs st (t .table) x refl l e, first-within hs (t .ready .ascending) x, t .ready .hops-most)
 
-pub begin-most : {hs st bs ps : List ℕ} → Tables hs st bs ps → {x r : ℕ} → r ≡ getD bs x 0 → x ≤ most-states → r ≤ most-hops
-begin-most {hs} {bs = bs} t {x} e l = omega (arith, begin-is hs bs (t .begins) x refl l e, key-start-within (to hs) (count hs) x, t .ready .hops-most)
+pub begin-most : {hs bs ps : List ℕ} → Indexable hs → Tables hs bs ps → {x r : ℕ} → r ≡ getD bs x 0 → x ≤ most-states → r ≤ most-hops
+begin-most {hs} {bs} i t {x} e l = omega (arith, begin-is hs bs (t .begins) x refl l e, key-start-within (to hs) (count hs) x, i .hops-most)

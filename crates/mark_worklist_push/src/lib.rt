@@ -14,19 +14,19 @@ use graph::hops::from_at;
 use graph::hops::hop_of;
 use graph::hops::label_at;
 use graph::hops::to_at;
-use graph_predecessors::place_at;
+use graph::tables::place_at;
+use graph::tables::wide;
 use graph_successors::STARTS;
 use graph_successors::find_row;
 use graph_successors::labelled_past;
 use graph_successors::start_of;
-use graph_successors::wide;
 ghost use mathlib.Core.Path.{_≡_};
 ghost use Prim.Native.Nat.{_<_, _≤_};
 ghost use lib.ListN.{length};
 ghost use Rattle.graph.specs.Hops.{count, label};
 ghost use Rattle.graph.specs.Answers.{most-states};
 ghost use Rattle.graph_successors.specs.Internal.SuccessorIndex.{SuccessorIndex, Indexable};
-ghost use Rattle.mark_worklist_push.specs.Internal.Queue.{Tables, Queue, Pushed, OnlyPlace, Joining, Like, AnsweredTo, Trying, Asked, DecidesPoint};
+ghost use Rattle.mark_worklist_push.specs.Internal.Queue.{Tables, Queue, PushInput, Pushed, OnlyPlace, Joining, Like, AnsweredTo, Trying, Asked, DecidesPoint};
 
 // Pushes the silent hop at place i if it is marked and not in the queue yet; returns how long the
 // queue is.
@@ -67,10 +67,7 @@ fn push_pair(
     s1: OldState,
     s2: OldState,
 ) -> usize
-    requires ready { ⌜ Indexable (now hops) ⌝ }
-    requires table { ⌜ SuccessorIndex (now hops) (now starts) ⌝ }
-    requires capacity { ⌜ count (now hops) ≤ length (now marks) ⌝ }
-    requires queue { ⌜ Queue (now hops) (now flags) (now queue) n ⌝ }
+    requires given { ⌜ PushInput (now hops) (now starts) (now marks) (now flags) (now queue) n ⌝ }
     requires state { ⌜ s1 .0 < most-states ⌝ }
     ensures { λ r. ⌜ Pushed (now (hops .entry)) (now (marks .entry)) (Joining (now (hops .entry)) (s1 .0) (s2 .0))
         (now (flags .entry)) (now (flags .exit)) (now (queue .exit)) r ⌝ }
@@ -93,10 +90,7 @@ fn push_like(
     j: usize,
     m: usize,
 ) -> usize
-    requires ready { ⌜ Indexable (now hops) ⌝ }
-    requires table { ⌜ SuccessorIndex (now hops) (now starts) ⌝ }
-    requires capacity { ⌜ count (now hops) ≤ length (now marks) ⌝ }
-    requires queue { ⌜ Queue (now hops) (now flags) (now queue) n ⌝ }
+    requires given { ⌜ PushInput (now hops) (now starts) (now marks) (now flags) (now queue) n ⌝ }
     requires tried { ⌜ j < count (now hops) ⌝ }
     requires answer { ⌜ m < count (now hops) ⌝ }
     ensures { λ r. ⌜ Pushed (now (hops .entry)) (now (marks .entry)) (Like (now (hops .entry)) j m)
@@ -132,9 +126,8 @@ fn push_answers(
     j: usize,
     p: usize,
 ) -> usize
-    requires tables { ⌜ Tables (now hops) (now starts) (now begins) (now places) ⌝ }
-    requires capacity { ⌜ count (now hops) ≤ length (now marks) ⌝ }
-    requires queue { ⌜ Queue (now hops) (now flags) (now queue) n ⌝ }
+    requires given { ⌜ PushInput (now hops) (now starts) (now marks) (now flags) (now queue) n ⌝ }
+    requires tables { ⌜ Tables (now hops) (now begins) (now places) ⌝ }
     requires tried { ⌜ j < count (now hops) ⌝ }
     requires fallen { ⌜ p < count (now hops) ⌝ }
     ensures { λ r. ⌜ Pushed (now (hops .entry)) (now (marks .entry)) (AnsweredTo (now (hops .entry)) j p)
@@ -165,9 +158,8 @@ pub fn push_into(
     j: usize,
     p: usize,
 ) -> usize
-    requires tables { ⌜ Tables (now hops) (now starts) (now begins) (now places) ⌝ }
-    requires capacity { ⌜ count (now hops) ≤ length (now marks) ⌝ }
-    requires queue { ⌜ Queue (now hops) (now flags) (now queue) n ⌝ }
+    requires given { ⌜ PushInput (now hops) (now starts) (now marks) (now flags) (now queue) n ⌝ }
+    requires tables { ⌜ Tables (now hops) (now begins) (now places) ⌝ }
     requires tried { ⌜ j < count (now hops) ⌝ }
     requires fallen { ⌜ p < count (now hops) ⌝ }
     ensures { λ r. ⌜ Pushed (now (hops .entry)) (now (marks .entry)) (Trying (now (hops .entry)) j p)
@@ -213,10 +205,7 @@ fn push_answered(
     j: usize,
     p: usize,
 ) -> usize
-    requires ready { ⌜ Indexable (now hops) ⌝ }
-    requires table { ⌜ SuccessorIndex (now hops) (now starts) ⌝ }
-    requires capacity { ⌜ count (now hops) ≤ length (now marks) ⌝ }
-    requires queue { ⌜ Queue (now hops) (now flags) (now queue) n ⌝ }
+    requires given { ⌜ PushInput (now hops) (now starts) (now marks) (now flags) (now queue) n ⌝ }
     requires place { ⌜ i < count (now hops) ⌝ }
     requires silent { ⌜ label (now hops) i ≡ 0 ⌝ }
     requires tried { ⌜ j < count (now hops) ⌝ }
@@ -253,10 +242,7 @@ pub fn push_out(
     j: usize,
     p: usize,
 ) -> usize
-    requires ready { ⌜ Indexable (now hops) ⌝ }
-    requires table { ⌜ SuccessorIndex (now hops) (now starts) ⌝ }
-    requires capacity { ⌜ count (now hops) ≤ length (now marks) ⌝ }
-    requires queue { ⌜ Queue (now hops) (now flags) (now queue) n ⌝ }
+    requires given { ⌜ PushInput (now hops) (now starts) (now marks) (now flags) (now queue) n ⌝ }
     requires tried { ⌜ j < count (now hops) ⌝ }
     requires fallen { ⌜ p < count (now hops) ⌝ }
     ensures { λ r. ⌜ Pushed (now (hops .entry)) (now (marks .entry)) (Trying (now (hops .entry)) j p)

@@ -27,7 +27,7 @@ use Rattle.mark_worklist.specs.Tests.{fell, stillMarked, testedIn}
 use Rattle.mark_worklist.proofs.Tests.{survives-closes, survives-yes, still-marked-yes, still-marked-silent, still-marked-survives, still-marked-falls, tested-still-marked, untested-survives}
 use Rattle.mark_worklist_push.specs.Internal.Queue.{Among}
 use Rattle.mark_worklist_push.proofs.Pushing.{flag-yes, flag-no, flag-here, flag-there}
-use Rattle.mark_worklist_round.specs.Internal.Round.{Enumerates, DirtyStates, Tested, Unmarked, FallenIn}
+use Rattle.mark_worklist_round.specs.Internal.Round.{Enumerates, DirtyStates, TestInput, ListedUnless, Tested, Cleared, Unmarked, FallenIn}
 
 -- a list of places that grows by one
 module _ (xs : List ℕ) (n v : ℕ) where
@@ -96,52 +96,25 @@ dirty-more hs fl k {s} sh f e l j m = go (eq-or-not (from hs (getD fl j 0)) s) w
       flag-there sh s 1 (from hs (getD fl j 0)) d ∙ f j (⊎-elim (λ h. h) (λ h. absurd (d (let x : j ≡ k = omega arith in rw x (sym e)))) (lt-or-le j k))
 
 -- testing
-module _ (hs ms qs old : List ℕ) where
-  pub tested-none : {fl : List ℕ} → most-hops ≤ length fl → count hs ≤ length old → Tested hs ms qs 0 old old fl 0
-  tested-none l m = record {
-    most = omega arith;
-    capacity = l;
-    flags = m;
-    each = λ k h. absurd (not-suc-le-zero h);
-    all = λ i a e. absurd (among-none qs i a);
-    taken = λ i a. absurd (among-none qs i a);
-    kept = λ i e. e;
-  }
+module _ (hs ms qs : List ℕ) where
+  pub tested-none : {fl : List ℕ} → most-hops ≤ length fl → Tested hs ms qs 0 fl 0
+  tested-none l = record { most = omega arith; capacity = l; each = λ k h. absurd (not-suc-le-zero h); all = λ i a e. absurd (among-none qs i a) }
 
-  module _ {k r i : ℕ} {new fl : List ℕ} (t : Tested hs ms qs k old new fl r) (q : i ≡ getD qs k 0) (l : i < count hs) where
-    off-here : isMarked (set new i 0) i ≡ false
-    off-here = flag-no (set new i 0) i (λ e. absurd (omega (arith, getD-set-same new i 0 0 (omega (arith, t .flags)))))
-
-    cleared : (j : ℕ) → Among qs (k + 1) j → isMarked (set new i 0) j ≡ false
-    cleared j a = go (eq-or-not j i) (among-next qs k j q a) where
-      go : (j ≡ i) ⊎ (j ≡ i → ⊥) → Among qs k j ⊎ (j ≡ i) → isMarked (set new i 0) j ≡ false
-      go (inl d) b = rw d off-here
-      go (inr d) (inl b) = flag-there new i 0 j d ∙ t .taken j b
-      go (inr d) (inr b) = absurd (d b)
-
-    kept-on : (j : ℕ) → isMarked (set new i 0) j ≡ true → isMarked old j ≡ true
-    kept-on j e = ⊎-elim (λ d. clash (rw d at e) off-here) (λ d. t .kept j (sym (flag-there new i 0 j d) ∙ e)) (eq-or-not j i)
-
-    pub tested-closes : {v : Bool} → v ≡ closesAt hs (markSet hs ms) i → v ≡ true → Tested hs ms qs (k + 1) old (set new i 0) fl r
-    tested-closes e d = record {
+  module _ {k r i : ℕ} {fl : List ℕ} (t : Tested hs ms qs k fl r) (q : i ≡ getD qs k 0) where
+    tested-closes : closesAt hs (markSet hs ms) i ≡ true → Tested hs ms qs (k + 1) fl r
+    tested-closes e = record {
       most = omega (arith, t .most);
       capacity = t .capacity;
-      flags = simp length-set (t .flags);
       each = λ j m. let h = t .each j m in (among-wider qs k _ (h .0), h .1);
-      all = λ j a n. ⊎-elim (λ b. t .all j b n) (λ b. clash (sym e ∙ d) (rw b at n)) (among-next qs k j q a);
-      taken = cleared;
-      kept = kept-on;
+      all = λ j a n. ⊎-elim (λ b. t .all j b n) (λ b. clash e (rw b at n)) (among-next qs k j q a);
     }
 
-    pub tested-falls : r < most-hops → {v : Bool} → v ≡ closesAt hs (markSet hs ms) i → v ≡ false → Tested hs ms qs (k + 1) old (set new i 0) (set fl r i) (r + 1)
-    tested-falls w e d = record {
+    tested-falls : r < most-hops → closesAt hs (markSet hs ms) i ≡ false → Tested hs ms qs (k + 1) (set fl r i) (r + 1)
+    tested-falls w e = record {
       most = omega (arith, t .most);
       capacity = simp length-set (t .capacity);
-      flags = simp length-set (t .flags);
       each = each;
       all = λ j a n. ⊎-elim (λ b. among-more fl r i j fits (t .all j b n)) (λ b. rw b (among-last fl r i fits)) (among-next qs k j q a);
-      taken = cleared;
-      kept = kept-on;
     } where
       fits : r < length fl
       fits = omega (arith, t .capacity)
@@ -149,8 +122,37 @@ module _ (hs ms qs old : List ℕ) where
       each : (j : ℕ) → j < r + 1 → Among qs (k + 1) (getD (set fl r i) j 0) × (closesAt hs (markSet hs ms) (getD (set fl r i) j 0) ≡ false)
       each j m = go (eq-or-not j r) where
         go : (j ≡ r) ⊎ (j ≡ r → ⊥) → Among qs (k + 1) (getD (set fl r i) j 0) × (closesAt hs (markSet hs ms) (getD (set fl r i) j 0) ≡ false)
-        go (inl x) = rw (x, getD-set-same fl r i 0 fits) ((k, omega arith, sym q), sym e ∙ d)
+        go (inl x) = rw (x, getD-set-same fl r i 0 fits) ((k, omega arith, sym q), e)
         go (inr x) = let h = t .each j (omega arith) in rw (getD-set-other fl r j i 0 x) (among-wider qs k _ (h .0), h .1)
+
+    -- a hop of the queue is tested, and listed unless it closes
+    pub tested-next : r < most-hops → (v : Bool) {new : List ℕ} {n : ℕ} → v ≡ closesAt hs (markSet hs ms) i → ListedUnless i v fl r new n → Tested hs ms qs (k + 1) new n
+    tested-next w true e d = rw (d .list, d .many) (tested-closes (sym e))
+    tested-next w false e d = rw (d .list, d .many) (tested-falls w (sym e))
+
+-- clearing the flags of what is tested
+module _ (hs qs old : List ℕ) where
+  pub cleared-none : count hs ≤ length old → Cleared hs qs 0 old old
+  cleared-none l = record { flags = l; taken = λ i a. absurd (among-none qs i a); kept = λ i e. e }
+
+  pub cleared-more : {k i : ℕ} {new : List ℕ} → Cleared hs qs k old new → i ≡ getD qs k 0 → i < count hs → Cleared hs qs (k + 1) old (set new i 0)
+  cleared-more {k} {i} {new} t q l = record { flags = simp length-set (t .flags); taken = taken; kept = kept } where
+    off-here : isMarked (set new i 0) i ≡ false
+    off-here = flag-no (set new i 0) i (λ e. absurd (omega (arith, getD-set-same new i 0 0 (omega (arith, t .flags)))))
+
+    taken : (j : ℕ) → Among qs (k + 1) j → isMarked (set new i 0) j ≡ false
+    taken j a = go (eq-or-not j i) (among-next qs k j q a) where
+      go : (j ≡ i) ⊎ (j ≡ i → ⊥) → Among qs k j ⊎ (j ≡ i) → isMarked (set new i 0) j ≡ false
+      go (inl d) b = rw d off-here
+      go (inr d) (inl b) = flag-there new i 0 j d ∙ t .taken j b
+      go (inr d) (inr b) = absurd (d b)
+
+    kept : (j : ℕ) → isMarked (set new i 0) j ≡ true → isMarked old j ≡ true
+    kept j e = ⊎-elim (λ d. clash (rw d at e) off-here) (λ d. t .kept j (sym (flag-there new i 0 j d) ∙ e)) (eq-or-not j i)
+
+-- what stands in the queue is the place of a hop
+pub queued : {hs st ms qs fl : List ℕ} {n k i : ℕ} → TestInput hs st ms qs n fl → k < n → i ≡ getD qs k 0 → (i < count hs) × (i < most-hops)
+queued t l q = let h = rw (sym q) at (t .places _ l) in (h, omega (arith, t .given .ready .hops-most))
 
 -- taking marks
 module _ (ms fl : List ℕ) where
@@ -190,7 +192,7 @@ module _ (hs : List ℕ) where
     held-survives = mark-set-set hs (survives hs k) ms out e (survives-silent hs k)
 
     -- what is tested and does not close falls
-    module _ (qs : List ℕ) (n : ℕ) (d : Enumerates (count hs) (testedIn hs k) qs n) {old new fl : List ℕ} {r : ℕ} (t : Tested hs ms qs n old new fl r) where
+    module _ (qs : List ℕ) (n : ℕ) (d : Enumerates (count hs) (testedIn hs k) qs n) {fl : List ℕ} {r : ℕ} (t : Tested hs ms qs n fl r) where
       closes-is : (i : ℕ) → closesAt hs (markSet hs ms) i ≡ closes hs (survives hs k) (from hs i) (to hs i)
       closes-is i = rw held-survives
 

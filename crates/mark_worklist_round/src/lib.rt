@@ -9,24 +9,19 @@ use graph::MOST_STATES;
 use graph::hops::from_at;
 use graph::hops::hop_count;
 use graph::hops::label_at;
-use graph_predecessors::place_at;
+use graph::tables::place_at;
+use graph::tables::wide;
 use graph_successors::STARTS;
-use graph_successors::wide;
 use mark_diamond::closes_at;
 use mark_diamond_retest::closes_again;
-ghost use mathlib.Core.Path.{_≡_};
-ghost use mathlib.Core.Bool.{false};
 ghost use Prim.Native.Nat.{ℕ, _<_, _≤_};
 ghost use lib.ListN.{length, getD};
 ghost use Rattle.graph.specs.Hops.{count};
 ghost use Rattle.graph.specs.Answers.{most-hops};
-ghost use Rattle.mark_confluence.specs.Internal.Rounds.{closesAt};
-ghost use Rattle.mark_confluence.specs.Internal.MarkSet.{markSet};
-ghost use Rattle.graph_successors.specs.Internal.SuccessorIndex.{SuccessorIndex, Indexable};
-ghost use Rattle.mark_diamond_retest.specs.Internal.Retest.{CleanAnswered};
+ghost use Rattle.graph_successors.specs.Internal.SuccessorIndex.{Indexable};
 ghost use Rattle.mark_worklist.specs.Tests.{testedIn};
 ghost use Rattle.mark_worklist_push.specs.Internal.Queue.{PlacesBelow};
-ghost use Rattle.mark_worklist_round.specs.Internal.Round.{Enumerates, SkipsClean, DirtyStates, Tested, Unmarked};
+ghost use Rattle.mark_worklist_round.specs.Internal.Round.{Enumerates, DirtyStates, TestInput, SkipsClean, ListedUnless, Tested, Cleared, Unmarked};
 
 // Lists the silent hops: the first round tests them all. Returns how many there are. Each place is
 // written behind the list, and kept if its hop is silent, so that no write depends on a branch that
@@ -68,61 +63,68 @@ pub fn dirty_of(hops: &[u16], fallen: &[u16; MOST_HOPS], n: usize) -> [u8; MOST_
     dirty
 }
 
-// One test: in the first round every hop of the state is tried, later only those to dirty states.
-fn still_closes(
-    hops: &[u16],
-    starts: &[u16; STARTS],
-    marks: &[u8],
-    dirty: &[u8; MOST_STATES],
-    first: bool,
-    i: usize,
-) -> bool
-    requires ready { ⌜ Indexable (now hops) ⌝ }
-    requires table { ⌜ SuccessorIndex (now hops) (now starts) ⌝ }
-    requires capacity { ⌜ count (now hops) ≤ length (now marks) ⌝ }
-    requires place { ⌜ i < count (now hops) ⌝ }
-    requires others { ⌜ (first ≡ false → CleanAnswered (now hops) (now marks) (now dirty) i) ⌝ }
-    ensures { λ r. ⌜ r ≡ closesAt (now (hops .entry)) (markSet (now (hops .entry)) (now (marks .entry))) i ⌝ }
+// Lists the hop at place i behind the fallen ones unless it closes; returns how many there are.
+fn list_unless(fallen: &mut [u16; MOST_HOPS], lost: usize, i: usize, closes: bool) -> usize
+    requires place { ⌜ i < most-hops ⌝ }
+    requires capacity { ⌜ lost < most-hops ⌝ }
+    ensures { λ r. ⌜ ListedUnless i closes (now (fallen .entry)) lost (now (fallen .exit)) r ⌝ }
 {
-    if first {
-        return closes_at(hops, starts, marks, i);
+    if closes {
+        return lost;
     }
-    closes_again(hops, starts, marks, dirty, i)
+    fallen[lost] = i as u16;
+    lost + 1
 }
 
-// Tests the first n hops of the queue against the marks, which stay as they are, and clears their
-// flags; lists those that do not close, and returns how many.
-pub fn test_queue(
+// The first round: tests the first n hops of the queue against the marks, which stay as they are,
+// and tries every hop; lists those that do not close, and returns how many.
+pub fn test_first(
+    hops: &[u16],
+    starts: &[u16; STARTS],
+    marks: &[u8],
+    queue: &[u16; MOST_HOPS],
+    n: usize,
+    fallen: &mut [u16; MOST_HOPS],
+) -> usize
+    requires given { ⌜ TestInput (now hops) (now starts) (now marks) (now queue) n (now fallen) ⌝ }
+    ensures { λ r. ⌜ Tested (now (hops .entry)) (now (marks .entry)) (now (queue .entry)) n (now (fallen .exit)) r ⌝ }
+{
+    let mut lost = 0;
+    let mut k = 0;
+    while k < n {
+        let i = place_at(queue, k);
+        let closes = closes_at(hops, starts, marks, i);
+        lost = list_unless(fallen, lost, i, closes);
+        k += 1;
+    }
+    lost
+}
+
+// A later round: the same, with only the hops to dirty states tried, and the flags of the queue
+// cleared.
+pub fn test_again(
     hops: &[u16],
     starts: &[u16; STARTS],
     marks: &[u8],
     dirty: &[u8; MOST_STATES],
-    first: bool,
     queue: &[u16; MOST_HOPS],
     n: usize,
     flags: &mut [u8; MOST_HOPS],
     fallen: &mut [u16; MOST_HOPS],
 ) -> usize
-    requires ready { ⌜ Indexable (now hops) ⌝ }
-    requires table { ⌜ SuccessorIndex (now hops) (now starts) ⌝ }
-    requires marks { ⌜ count (now hops) ≤ length (now marks) ⌝ }
-    requires clean { ⌜ SkipsClean (now hops) (now marks) (now dirty) first (now queue) n ⌝ }
+    requires given { ⌜ TestInput (now hops) (now starts) (now marks) (now queue) n (now fallen) ⌝ }
+    requires clean { ⌜ SkipsClean (now hops) (now marks) (now dirty) (now queue) n ⌝ }
     requires flags { ⌜ count (now hops) ≤ length (now flags) ⌝ }
-    requires capacity { ⌜ most-hops ≤ length (now fallen) ⌝ }
-    requires most { ⌜ n ≤ most-hops ⌝ }
-    requires places { ⌜ PlacesBelow (now hops) (now queue) n ⌝ }
-    ensures { λ r. ⌜ Tested (now (hops .entry)) (now (marks .entry)) (now (queue .entry)) n
-        (now (flags .entry)) (now (flags .exit)) (now (fallen .exit)) r ⌝ }
+    ensures tested { λ r. ⌜ Tested (now (hops .entry)) (now (marks .entry)) (now (queue .entry)) n (now (fallen .exit)) r ⌝ }
+    ensures cleared { λ r. ⌜ Cleared (now (hops .entry)) (now (queue .entry)) n (now (flags .entry)) (now (flags .exit)) ⌝ }
 {
     let mut lost = 0;
     let mut k = 0;
     while k < n {
         let i = place_at(queue, k);
         flags[i] = 0;
-        if !still_closes(hops, starts, marks, dirty, first, i) {
-            fallen[lost] = i as u16;
-            lost += 1;
-        }
+        let closes = closes_again(hops, starts, marks, dirty, i);
+        lost = list_unless(fallen, lost, i, closes);
         k += 1;
     }
     lost

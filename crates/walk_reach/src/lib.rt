@@ -7,9 +7,9 @@
 use graph::OldState;
 use graph::Shape;
 use graph::hops::to_at;
+use graph::tables::wide;
 use graph_successors::STARTS;
 use graph_successors::start_of;
-use graph_successors::wide;
 ghost use mathlib.Core.Path.{_≡_};
 ghost use mathlib.Core.Bool.{false};
 ghost use mathlib.Core.List.{_++_};

@@ -39,7 +39,7 @@ use Rattle.graph_successors.proofs.find_row.Reads as find-row-reads
 use Rattle.graph_successors.proofs.labelled_from.Reads as labelled-from-reads
 use Rattle.graph_successors.proofs.labelled_past.Reads as labelled-past-reads
 use Rattle.graph_successors.proofs.start_of.Reads as start-of-reads
-use Rattle.graph_successors.proofs.wide.Reads as wide-reads
+use Rattle.graph.proofs.tables.wide.Reads as wide-reads
 use Rattle.mark_equations.proofs.+x+y+z.{statement}
 use Rattle.mark_equations.proofs.+x+y+z.Tie.{close}
 

@@ -5,8 +5,8 @@ use mathlib.Core.Path.{refl}
 use native.Mathlib.Omega.{arith}
 use lib.ListN.{getD}
 use Rattle.graph.specs.Hops.{count}
-use Rattle.mark_worklist_push.specs.Internal.Queue.{PlacesBelow, Pushed}
-use Rattle.mark_worklist_push.proofs.Walks.{Walked, walk-none, walk-more, Falls, falls-at, falls-all}
+use Rattle.mark_worklist_push.specs.Internal.Queue.{Pushed}
+use Rattle.mark_worklist_push.proofs.Walks.{Walked, walk-none, walk-more, Falls, falls-at, falls-all, next-onward}
 use Rattle.mark_worklist_next.proofs.next_queue.Statement.{statement}
 use Rattle.mark_worklist_next.proofs.next_queue.Tie as tie
 
@@ -20,20 +20,19 @@ abbrev μ-loop : tie.MeasureT-loop
 loop-holds : tie.Need-loop-holds Inv-loop μ-loop
 loop-holds c =
     let st = c .before .before in
-    (omega arith, walk-none _ _ _ refl (st .pre .1 .1 .1 .0))
+    (omega arith, walk-none _ _ _ refl (st .pre .0 .push .queue))
 
 place-at-requires : tie.Need-place-at-requires Inv-loop μ-loop
 place-at-requires c κs =
     let st = c .before .before .before .before in
-    omega (arith, st .pre .1 .1 .1 .1 .0)
+    omega (arith, st .pre .1 .0)
 
 push-fallen-requires : tie.Need-push-fallen-requires Inv-loop μ-loop
-unfolding PlacesBelow
 push-fallen-requires c κs =
     let st = c .before .before .before .before .before .before .before in
     let lp = c .before .before .before .before .loop in
-    let l : getD (st .args .fallen .now) (lp .q) 0 < count (st .args .hops .now) = st .pre .1 .1 .1 .1 .1 (lp .q) (omega arith) in
-    (st .pre .0, (st .pre .1 .0, (st .pre .1 .1 .0, (lp .inv .1 .queue, omega (arith, c .before .before .place-at .ensures)))))
+    let l : getD (st .args .fallen .now) (lp .q) 0 < count (st .args .hops .now) = st .pre .1 .1 (lp .q) (omega arith) in
+    (next-onward (st .pre .0) (lp .inv .1 .queue), omega (arith, c .before .before .place-at .ensures))
 
 add-q : tie.Need-add-q Inv-loop μ-loop
 add-q c = omega arith

@@ -30,41 +30,41 @@ wide-requires c κs = search needs
 add-start-of : tie.Need-add-start-of Inv-loop μ-loop
 add-start-of c =
     let st = c .before .before .before .before in
-    omega (arith, c .wide .ensures, c .before .to-at .ensures, st .pre .0 .ready .to-in (st .args .p) (st .pre .1 .1 .1 .1))
+    omega (arith, c .wide .ensures, c .before .to-at .ensures, st .pre .0 .given .ready .to-in (st .args .p) (st .pre .1 .1 .1))
 
 start-of-requires : tie.Need-start-of-requires Inv-loop μ-loop
 start-of-requires c κs =
     let st = c .before .before .before .before in
-    omega (arith, c .wide .ensures, c .before .to-at .ensures, st .pre .0 .ready .to-in (st .args .p) (st .pre .1 .1 .1 .1))
+    omega (arith, c .wide .ensures, c .before .to-at .ensures, st .pre .0 .given .ready .to-in (st .args .p) (st .pre .1 .1 .1))
 
 start-of-requires-2 : tie.Need-start-of-requires-2 Inv-loop μ-loop
 start-of-requires-2 c κs =
     let st = c .before .before .before .before .before in
-    omega (arith, c .before .wide .ensures, c .before .before .to-at .ensures, st .pre .0 .ready .to-in (st .args .p) (st .pre .1 .1 .1 .1))
+    omega (arith, c .before .wide .ensures, c .before .before .to-at .ensures, st .pre .0 .given .ready .to-in (st .args .p) (st .pre .1 .1 .1))
 
 loop-holds : tie.Need-loop-holds Inv-loop μ-loop
 loop-holds c =
     let st = c .before .before .before .before .before .before in
     let hs = st .args .hops .now in
     let t = to hs (st .args .p) in
-    let l : t < 1024 = st .pre .0 .ready .to-in (st .args .p) (st .pre .1 .1 .1 .1) in
+    let l : t < 1024 = st .pre .0 .given .ready .to-in (st .args .p) (st .pre .1 .1 .1) in
     let q : c .before .before .wide .result ≡ t = c .before .before .wide .ensures ∙ c .before .before .before .to-at .ensures in
-    let a = begin-is hs _ (st .pre .0 .begins) t q (omega arith) (c .start-of2 .ensures) in
-    let b = begin-is hs _ (st .pre .0 .begins) (t + 1) (rw q refl) (omega arith) (c .before .start-of .ensures) in
-    (a, b, omega arith, omega (arith, key-start-step (to hs) (count hs) t), walk-none _ _ _ refl (st .pre .1 .1 .0))
+    let a = begin-is hs _ (st .pre .1 .0 .begins) t q (omega arith) (c .start-of2 .ensures) in
+    let b = begin-is hs _ (st .pre .1 .0 .begins) (t + 1) (rw q refl) (omega arith) (c .before .start-of .ensures) in
+    (a, b, omega arith, omega (arith, key-start-step (to hs) (count hs) t), walk-none _ _ _ refl (st .pre .0 .queue))
 
 place-at-requires : tie.Need-place-at-requires Inv-loop μ-loop
 place-at-requires c κs =
     let st = c .before .before .before .before .before .before .before .before in
     let hs = st .args .hops .now in
-    omega (arith, c .before .loop .inv .1, key-start-within (to hs) (count hs) (to hs (st .args .p) + 1), st .pre .0 .ready .hops-most)
+    omega (arith, c .before .loop .inv .1, key-start-within (to hs) (count hs) (to hs (st .args .p) + 1), st .pre .0 .given .ready .hops-most)
 
 push-like-requires : tie.Need-push-like-requires Inv-loop μ-loop
 push-like-requires c κs =
     let st = c .before .before .before .before .before .before .before .before .before .before .before in
     let lp = c .before .before .before .before .loop in
-    let l = place-in (st .args .hops .now) (st .args .places .now) (st .pre .0 .filled) (to (st .args .hops .now) (st .args .p)) {k = lp .k} (omega (arith, lp .inv .0)) (omega (arith, lp .inv .1)) .0 in
-    (st .pre .0 .ready, (st .pre .0 .table, (st .pre .1 .0, (lp .inv .4 .queue, (st .pre .1 .1 .1 .0, omega (arith, c .before .before .place-at .ensures))))))
+    let l = place-in (st .args .hops .now) (st .args .places .now) (st .pre .1 .0 .filled) (to (st .args .hops .now) (st .args .p)) {k = lp .k} (omega (arith, lp .inv .0)) (omega (arith, lp .inv .1)) .0 in
+    (record { given = st .pre .0 .given; queue = lp .inv .4 .queue }, (st .pre .1 .1 .0, omega (arith, c .before .before .place-at .ensures)))
 
 add-k : tie.Need-add-k Inv-loop μ-loop
 add-k c = omega arith
@@ -82,7 +82,7 @@ returns : tie.Need-returns Inv-loop μ-loop
 returns c =
     let st = c .before .before .before .before .before .before .before .before in
     let v = c .before .loop .inv in
-    into-all _ _ _ _ _ (st .pre .0 .filled) (st .pre .1 .1 .1 .1) (v .0) (v .1) (omega arith) (v .3) (v .4)
+    into-all _ _ _ _ _ (st .pre .1 .0 .filled) (st .pre .1 .1 .1) (v .0) (v .1) (omega arith) (v .3) (v .4)
 
 pub push-answers-spec : {M : Type 1} → statement M
 push-answers-spec =

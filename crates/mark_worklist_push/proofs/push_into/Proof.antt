@@ -20,7 +20,7 @@ to-at-requires c κs = search needs
 push-pair-requires : tie.Need-push-pair-requires
 push-pair-requires c κs =
     let st = c .before .before .before .before .before .before .before .before .before .before .before .before in
-    (st .pre .0 .ready, (st .pre .0 .table, (st .pre .1 .0, (c .before .before .before .before .before .before .before .push-answers .ensures .queue, rw (c .before .before .before .from-at .ensures) (st .pre .0 .ready .from-in _ (st .pre .1 .1 .1 .0))))))
+    (record { given = st .pre .0 .given; queue = c .before .before .before .before .before .before .before .push-answers .ensures .queue }, rw (c .before .before .before .from-at .ensures) (st .pre .0 .given .ready .from-in _ (st .pre .1 .1 .0)))
 
 returns : tie.Need-returns
 returns c =

@@ -14,7 +14,7 @@ label-at-requires-2 c κs = search needs
 returns : tie.Need-returns
 returns c =
     let st = c .before .before .before .before .before .before .before in
-    like-no _ _ _ _ (c .before .before .before .before .label-at .ensures) (c .before .before .before .label-at2 .ensures) (c .if1 .taken) (st .pre .1 .1 .1 .0)
+    like-no _ _ _ _ (c .before .before .before .before .label-at .ensures) (c .before .before .before .label-at2 .ensures) (c .if1 .taken) (st .pre .0 .queue)
 
 from-at-requires : tie.Need-from-at-requires
 from-at-requires c κs = search needs
@@ -25,7 +25,7 @@ from-at-requires-2 c κs = search needs
 push-pair-requires : tie.Need-push-pair-requires
 push-pair-requires c κs =
     let st = c .before .before .before .before .before .before .before .before .before .before .before in
-    (st .pre .0, (st .pre .1 .0, (st .pre .1 .1 .0, (st .pre .1 .1 .1 .0, rw (c .before .from-at .ensures) (st .pre .0 .from-in _ (st .pre .1 .1 .1 .1 .0))))))
+    (st .pre .0, rw (c .before .from-at .ensures) (st .pre .0 .given .ready .from-in _ (st .pre .1 .0)))
 
 returns-2 : tie.Need-returns-2
 returns-2 c =

@@ -29,7 +29,7 @@ from-at-requires c κs = search needs
 labelled-past-requires : tie.Need-labelled-past-requires Inv-loop μ-loop
 labelled-past-requires c κs =
     let st = c .before .before .before in
-    (st .pre .0, (st .pre .1 .0, (rw (c .from-at .ensures) (st .pre .0 .from-in _ (st .pre .1 .1 .1 .1 .0)), omega arith)))
+    (st .pre .0 .given .ready, (st .pre .0 .given .table, (rw (c .from-at .ensures) (st .pre .0 .given .ready .from-in _ (st .pre .1 .0)), omega arith)))
 
 wide-requires : tie.Need-wide-requires Inv-loop μ-loop
 wide-requires c κs = search needs
@@ -37,7 +37,7 @@ wide-requires c κs = search needs
 start-of-requires : tie.Need-start-of-requires Inv-loop μ-loop
 start-of-requires c κs =
     let st = c .before .before .before .before .before in
-    omega (arith, c .wide .ensures, c .before .before .from-at .ensures, st .pre .0 .from-in (st .args .j) (st .pre .1 .1 .1 .1 .0))
+    omega (arith, c .wide .ensures, c .before .before .from-at .ensures, st .pre .0 .given .ready .from-in (st .args .j) (st .pre .1 .0))
 
 loop-holds : tie.Need-loop-holds Inv-loop μ-loop
 loop-holds c =
@@ -45,9 +45,9 @@ loop-holds c =
     let hs = st .args .hops .now in
     let s = from hs (st .args .j) in
     let q : c .before .wide .result ≡ s = c .before .wide .ensures ∙ c .before .before .before .from-at .ensures in
-    let a = start-is hs _ (st .pre .1 .0) _ q (omega (arith, st .pre .0 .from-in (st .args .j) (st .pre .1 .1 .1 .1 .0))) (c .start-of .ensures) in
+    let a = start-is hs _ (st .pre .0 .given .table) _ q (omega (arith, st .pre .0 .given .ready .from-in (st .args .j) (st .pre .1 .0))) (c .start-of .ensures) in
     let b : c .before .before .labelled-past .result ≡ labelledPast hs s 0 = rw (c .before .before .before .from-at .ensures) at (c .before .before .labelled-past .ensures) in
-    (a, b, omega arith, omega (arith, labelled-rising hs (st .pre .0 .ascending) s 0, silent-first hs s), walk-none _ _ _ refl (st .pre .1 .1 .1 .0))
+    (a, b, omega arith, omega (arith, labelled-rising hs (st .pre .0 .given .ready .ascending) s 0, silent-first hs s), walk-none _ _ _ refl (st .pre .0 .queue))
 
 push-answered-requires : tie.Need-push-answered-requires Inv-loop μ-loop
 push-answered-requires c κs =
@@ -55,8 +55,8 @@ push-answered-requires c κs =
     let hs = st .args .hops .now in
     let lp = c .before .before .before .loop in
     let s = from hs (st .args .j) in
-    let (l, m) = labelled-only hs (st .pre .0 .ascending) s 0 {i = lp .i} (omega (arith, lp .inv .0, silent-first hs s)) (omega (arith, lp .inv .1)) in
-    (st .pre .0, (st .pre .1 .0, (st .pre .1 .1 .0, (lp .inv .4 .queue, (l, (labelled-parts hs s 0 (lp .i) m .1, (st .pre .1 .1 .1 .1 .0, st .pre .1 .1 .1 .1 .1)))))))
+    let (l, m) = labelled-only hs (st .pre .0 .given .ready .ascending) s 0 {i = lp .i} (omega (arith, lp .inv .0, silent-first hs s)) (omega (arith, lp .inv .1)) in
+    (record { given = st .pre .0 .given; queue = lp .inv .4 .queue }, (l, (labelled-parts hs s 0 (lp .i) m .1, st .pre .1)))
 
 add-i : tie.Need-add-i Inv-loop μ-loop
 add-i c = omega arith
@@ -73,7 +73,7 @@ returns : tie.Need-returns Inv-loop μ-loop
 returns c =
     let st = c .before .before .before .before .before .before .before .before in
     let v = c .before .loop .inv in
-    out-all _ _ _ _ (st .pre .0 .ascending) (v .0) (v .1) (omega arith) (v .3) (v .4)
+    out-all _ _ _ _ (st .pre .0 .given .ready .ascending) (v .0) (v .1) (omega arith) (v .3) (v .4)
 
 pub push-out-spec : {M : Type 1} → statement M
 push-out-spec =

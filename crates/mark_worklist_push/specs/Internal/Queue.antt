@@ -8,7 +8,7 @@ use mathlib.Core.Logic.{_⊎_}
 use lib.ListN.{length, getD}
 use Rattle.base_bounded.specs.Quantifiers.{tally}
 use Rattle.graph.specs.Hops.{count, from, label, to, has}
-use Rattle.graph_successors.specs.Internal.SuccessorIndex.{SuccessorIndex, Indexable}
+use Rattle.graph_successors.specs.Internal.SuccessorIndex.{MarkInput}
 use Rattle.graph_predecessors.specs.Internal.PredecessorIndex.{PredecessorStarts, PredecessorPlaces}
 use Rattle.mark_confluence.specs.Rounds.{FirstPoint}
 use Rattle.mark_confluence.specs.Internal.MarkSet.{isMarked}
@@ -17,11 +17,9 @@ use Rattle.mark_confluence.specs.Internal.MarkSet.{isMarked}
 abbrev pub Among : List ℕ → ℕ → ℕ → Type 0
 Among xs n i = (k : ℕ) × (k < n) × (getD xs k 0 ≡ i)
 
--- a hop list with its tables: where the hops out of a state begin, where those into it do, and
--- their places
-pub record Tables (hs st bs ps : List ℕ) : Type 0 where
-  pub ready : Indexable hs
-  pub table : SuccessorIndex hs st
+-- the tables of a hop list by which the hops into a state are found: where they begin, and their
+-- places
+pub record Tables (hs bs ps : List ℕ) : Type 0 where
   pub begins : PredecessorStarts hs bs
   pub filled : PredecessorPlaces hs (count hs) ps
 
@@ -36,6 +34,17 @@ pub record Queue (hs fs qs : List ℕ) (n : ℕ) : Type 0 where
   pub counted : n ≡ tally (count hs) (isMarked fs)
   pub each : (k : ℕ) → k < n → (getD qs k 0 < count hs) × (isMarked fs (getD qs k 0) ≡ true)
   pub all : (i : ℕ) → i < count hs → isMarked fs i ≡ true → Among qs n i
+
+-- what pushing stands on: a hop list with its table and its marks, and the queue
+pub record PushInput (hs st ms fs qs : List ℕ) (n : ℕ) : Type 0 where
+  pub given : MarkInput hs st ms
+  pub queue : Queue hs fs qs n
+
+-- the same, with the tables that lead from a fallen hop to the hops to push
+pub record NextInput (hs st bs ps ls ms fs qs : List ℕ) (n : ℕ) : Type 0 where
+  pub push : PushInput hs st ms fs qs n
+  pub tables : Tables hs bs ps
+  pub leaving : Leaving hs ms ls
 
 -- the hop at place i is silent, marked, and one of W
 pub record Wanted (hs ms : List ℕ) (W : ℕ → Type 0) (i : ℕ) : Type 0 where
@@ -92,7 +101,7 @@ pub record DecidesPoint (hs : List ℕ) (s2 a s4 : ℕ) (r : Bool) : Type 0 wher
   pub no : r ≡ false → FirstPoint hs s2 a s4 → ⊥
 
 -- the first n of ps are places of hops
-unfoldable pub PlacesBelow : List ℕ → List ℕ → ℕ → Type 0
+abbrev pub PlacesBelow : List ℕ → List ℕ → ℕ → Type 0
 PlacesBelow hs ps n = (k : ℕ) → k < n → getD ps k 0 < count hs
 
 -- no flag is set

@@ -7,7 +7,6 @@ use borrow.Author.Needs.{needs}
 use lib.ListN.{length, getD, length-set, length-replicate}
 use Rattle.graph.specs.Hops.{count}
 use Rattle.graph.specs.Answers.{most-states}
-use Rattle.mark_worklist_push.specs.Internal.Queue.{PlacesBelow}
 use Rattle.mark_worklist_round.specs.Internal.Round.{DirtyStates}
 use Rattle.mark_worklist_round.proofs.Parts.{dirty-more}
 use Rattle.mark_worklist_round.proofs.dirty_of.Statement.{statement}
@@ -30,7 +29,6 @@ place-at-requires c κs =
     omega (arith, st .pre .1 .0)
 
 from-at-requires : tie.Need-from-at-requires Inv-loop μ-loop
-unfolding PlacesBelow
 from-at-requires c κs =
     let st = c .before .before .before .before in
     let l : getD (st .args .fallen .now) (c .before .before .loop .k) 0 < count (st .args .hops .now) = st .pre .1 .1 (c .before .before .loop .k) (omega arith) in
@@ -40,7 +38,6 @@ wide-requires : tie.Need-wide-requires Inv-loop μ-loop
 wide-requires c κs = search needs
 
 array-write-dirty : tie.Need-array-write-dirty Inv-loop μ-loop
-unfolding PlacesBelow
 array-write-dirty c =
     let st = c .before .before .before .before .before .before in
     let l : getD (st .args .fallen .now) (c .before .before .before .before .loop .k) 0 < count (st .args .hops .now) = st .pre .1 .1 (c .before .before .before .before .loop .k) (omega arith) in
@@ -53,7 +50,6 @@ loop-less : tie.Need-loop-less Inv-loop μ-loop
 loop-less c = omega arith
 
 loop-again : tie.Need-loop-again Inv-loop μ-loop
-unfolding PlacesBelow
 loop-again c =
     let st = c .before .before .before .before .before .before in
     let lp = c .before .before .before .before .loop in
