@@ -17,7 +17,7 @@ use Rattle.graph.specs.declared.Shape.{Shape}
 use Rattle.graph.specs.declared.Answer.{Answer}
 use Rattle.graph_check.specs.Check.{checkOf}
 use Rattle.base_bounded.proofs.Bools.{not-yes}
-use Rattle.base_bounded.proofs.Quantifiers.{least-is, least-before}
+use Rattle.base_bounded.proofs.Quantifiers.{least-no, least-before}
 use Rattle.graph_check.proofs.Checked.{check-admitted, admitted-check}
 use Rattle.audit_admitted.specs.Admitted.{AdmittedMap, firstHigh, mapFits, auditAnswer}
 use Rattle.audit_admitted.specs.Admitted.{Audited}
@@ -56,7 +56,7 @@ module _ (sh1 sh2 : Shape) (m : List ℕ) where
   pub admits-fits : AdmittedMap sh1 sh2 m → accepted ≡ mapFits sh1 sh2 m
   unfolding firstHigh
   admits-fits a =
-      fits-accepts (a .one-a-state) refl (rw (least-is high (length m) (length m) (le-refl (length m)) (λ s l. not-yes (lt-ltb _ _ (a .entries-in s (omega arith)))) (λ l. absurd (omega arith))) (le-refl (length m)))
+      fits-accepts (a .one-a-state) refl (rw (least-no high (length m) (λ s l. not-yes (lt-ltb _ _ (a .entries-in s (omega arith))))) (le-refl (length m)))
 
 module _ (sh1 sh2 : Shape) (h1 h2 m : List ℕ) where
   -- the ways out, in the order of the code

@@ -4,19 +4,17 @@ use Prim.Native.Nat.{ℕ, _+_, _<_, _≤_}
 use mathlib.Core.Path.{_≡_, sym, ap, _∙_}
 use mathlib.Core.Bool.{Bool, true, false, cond, _&&_}
 use mathlib.Core.List.{List}
-use mathlib.Core.Logic.{⊎-elim}
 use native.Mathlib.Nat.{le-refl}
 use native.Mathlib.Omega.{arith}
 use lib.ListN.{length, getD, set}
 use lib.Dec.{eqb}
-use Rattle.base_bounded.specs.Quantifiers.{any}
 use Rattle.graph.specs.Hops.{count, from}
 use Rattle.graph.specs.Order.{Ascending}
 use Rattle.graph.specs.Search.{firstOf, pastOf}
 use Rattle.graph_check.specs.Check.{InRange}
 use Rattle.graph.specs.declared.Shape.{Shape}
-use Rattle.base_bounded.proofs.Bools.{clash, lt-or-le, same-test, and-no-left}
-use Rattle.base_bounded.proofs.Quantifiers.{any-found, any-at}
+use Rattle.base_bounded.proofs.Bools.{and-no-left}
+use Rattle.base_bounded.proofs.Quantifiers.{any-rest}
 use Rattle.graph.proofs.Lookup.{first-within, range-only}
 use Rattle.graph_successors.proofs.Firsts.{first-is, first-next}
 use Rattle.graph_successors.specs.Internal.SuccessorIndex.{Indexable}
@@ -25,13 +23,6 @@ use Rattle.graph.specs.Map.{mapped}
 use Rattle.audit_faults.specs.Internal.Images.{Imaged}
 use Rattle.audit_matched.specs.Internal.Stamps.{seenInClass, stampsHop, StampedUpTo, StampedFrom}
 use Rattle.audit_matched.proofs.Stamping.{stamped-none, stamped-more}
-
--- a test that fails from lo on
-module _ (p : ℕ → Bool) {lo : ℕ} where
-  any-rest : (n : ℕ) → lo ≤ n → ((j : ℕ) → lo ≤ j → j < n → p j ≡ false) → any n p ≡ any lo p
-  any-rest n l f = same-test (any n p) (any lo p) there (λ e. let (i, k, d) = any-at p lo e in any-found p n (omega arith) d) where
-    there : any n p ≡ true → any lo p ≡ true
-    there e = let (i, k, d) = any-at p n e in ⊎-elim (λ h. any-found p lo h d) (λ h. clash d (f i h k)) (lt-or-le i lo)
 
 module _ (h1 h2 m seen : List ℕ) (r k : ℕ) where
   -- the first place of all, and the last

@@ -1,11 +1,10 @@
 -- Only hops of r are unstamped for r, so going over these finds the first and counts them all.
 -- Assumes nothing.
-use Prim.Native.Nat.{ℕ, zero, suc, _+_, _<_, _≤_}
+use Prim.Native.Nat.{ℕ, _+_, _<_, _≤_}
 use mathlib.Core.Path.{_≡_, sym, _∙_}
-use mathlib.Core.Bool.{Bool, false, cond}
+use mathlib.Core.Bool.{Bool, false}
 use mathlib.Core.List.{List}
 use mathlib.Core.Logic.{⊎-elim}
-use native.Mathlib.Nat.{eq-or-lt-of-le, le-refl}
 use native.Mathlib.Omega.{arith}
 use borrow.Author.Tests.{ne-eqb, ltb-false, le-ltb}
 use Rattle.base_bounded.specs.Quantifiers.{least, tally}
@@ -13,21 +12,11 @@ use Rattle.graph.specs.Hops.{count, from}
 use Rattle.graph.specs.Order.{Ascending}
 use Rattle.graph.specs.Search.{firstOf}
 use Rattle.base_bounded.proofs.Bools.{lt-or-le, and-no-left}
-use Rattle.base_bounded.proofs.Quantifiers.{least-before, least-is}
+use Rattle.base_bounded.proofs.Quantifiers.{least-before, least-no}
+use Rattle.base_bounded.proofs.Tallies.{tally-rest}
 use Rattle.graph.proofs.Lookup.{first-law}
 use Rattle.graph_successors.proofs.Firsts.{first-below}
 use Rattle.audit_unmatched.specs.Internal.States.{unstamped}
-
--- how many pass a test that fails from lo on
-module _ (p : ℕ → Bool) {lo : ℕ} where
-  tally-rest : (n : ℕ) → lo ≤ n → ((j : ℕ) → lo ≤ j → j < n → p j ≡ false) → tally n p ≡ tally lo p
-  unfolding tally
-  tally-rest zero l f = let q : lo ≡ 0 = omega arith in rw q
-  tally-rest (suc n) l f =
-      ⊎-elim (λ q. rw q) (λ m. further (f n (omega arith) (le-refl (suc n))) (tally-rest n (omega arith) (λ j a b. f j a (omega arith))))
-      (eq-or-lt-of-le l) where
-        further : p n ≡ false → tally n p ≡ tally lo p → cond (p n) 1 0 + tally n p ≡ tally lo p
-        further e h = rw e (omega arith)
 
 module _ (h2 stamps : List ℕ) (up : Ascending h2) (r k : ℕ) where
   abbrev test : ℕ → Bool
@@ -47,10 +36,10 @@ module _ (h2 stamps : List ℕ) (up : Ascending h2) (r k : ℕ) where
 
   -- the search for the first: where it begins, and where it ends without one
   pub first-begins : least (firstOf h2 r) test ≡ firstOf h2 r
-  first-begins = least-is test (firstOf h2 r) (firstOf h2 r) (le-refl (firstOf h2 r)) (λ j l. none-before l) (λ l. absurd (omega arith))
+  first-begins = least-no test (firstOf h2 r) (λ j l. none-before l)
 
   pub first-ends : {j : ℕ} → firstOf h2 (r + 1) ≤ j → least j test ≡ j → count h2 ≡ least (count h2) test
-  first-ends {j} past e = sym (least-is test (count h2) (count h2) (le-refl (count h2)) none (λ l. absurd (omega arith))) where
+  first-ends {j} past e = sym (least-no test (count h2) none) where
     none : (i : ℕ) → i < count h2 → test i ≡ false
     none i l = ⊎-elim (λ h. least-before test j (omega arith)) (λ h. none-after (omega arith) l) (lt-or-le i j)
 

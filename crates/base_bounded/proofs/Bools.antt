@@ -1,8 +1,8 @@
--- Laws of Bool tests: what a joined test says of its parts, and the other way round. Assumes
--- nothing.
+-- Laws of Bool tests: what a joined test says of its parts, and the other way round; and the choice
+-- by a test. Assumes nothing.
 use Prim.Native.Nat.{ℕ, _<_, _≤_}
 use mathlib.Core.Path.{_≡_, refl, sym, _∙_}
-use mathlib.Core.Bool.{Bool, true, false, not, _&&_, _||_}
+use mathlib.Core.Bool.{Bool, true, false, cond, not, _&&_, _||_}
 use mathlib.Core.Logic.{_⊎_, inl, inr}
 use native.Mathlib.Omega.{arith}
 use borrow.Author.Tests.{ltb-true, ltb-false, eqb-true, eqb-false}
@@ -79,3 +79,11 @@ same-test false false f g = refl
 pub no-test : (a : Bool) → (a ≡ true → ⊥) → a ≡ false
 no-test true f = absurd (f refl)
 no-test false f = refl
+
+-- a choice by a test that the code made: the value of either way out is the chosen one
+module _ {A : Type 0} {f t : Bool} (e : f ≡ t) {r : A} where
+  pub chosen : f ≡ true → (x y : A) → r ≡ x → r ≡ cond t x y
+  chosen d x y h = rw (sym e ∙ d) h
+
+  pub other : f ≡ false → (x y : A) → r ≡ y → r ≡ cond t x y
+  other d x y h = rw (sym e ∙ d) h

@@ -12,7 +12,7 @@ use borrow.Author.Tests.{ltb-true, lt-ltb, le-ltb}
 use lib.Dec.{ltb}
 use Rattle.base_bounded.specs.Quantifiers.{any, least, tally}
 use Rattle.base_bounded.proofs.Bools.{clash, lt-or-le, or-right}
-use Rattle.base_bounded.proofs.Quantifiers.{any-at, any-never, least-within, least-passes, least-before, least-is, tally-zero}
+use Rattle.base_bounded.proofs.Quantifiers.{any-at, any-never, least-within, least-passes, least-before, least-no, least-is, tally-zero}
 
 module _ (p : ℕ → Bool) (n : ℕ) where
   -- nothing that comes before it counts
@@ -56,7 +56,7 @@ module _ (b : ℕ) (p : ℕ → ℕ → Bool) where
   -- where the search begins
   pub first-none : leastFirst 0 ≡ b
   unfolding any
-  first-none = least-is (λ (j : ℕ). any 0 (p j)) b b (le-refl b) (λ j l. refl) (λ l. absurd (omega arith))
+  first-none = least-no (λ (j : ℕ). any 0 (p j)) b (λ j l. refl)
 
   pub second-none : leastSecond 0 ≡ 0
   second-none = rw (first-none, le-ltb b b (le-refl b))

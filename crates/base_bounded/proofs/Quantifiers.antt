@@ -14,7 +14,7 @@ use lib.Dec.{ltb}
 use lib.ListN.{length, getD, length-append, List·getD-append}
 use lib.Seq.{getD-at}
 use Rattle.base_bounded.specs.Quantifiers.{all, any, least, tally, tabulate, total}
-use Rattle.base_bounded.proofs.Bools.{clash, and-left, and-right, and-no-right, or-right, or-yes}
+use Rattle.base_bounded.proofs.Bools.{clash, lt-or-le, and-left, and-right, and-no-right, or-right, or-yes, same-test}
 
 module _ (p : ℕ → Bool) where
   pub all-none : all 0 p ≡ true
@@ -96,6 +96,12 @@ module _ (p : ℕ → Bool) where
     go true d = clash (any-found n l d) e
     go false d = d
 
+  -- none passes from lo on
+  pub any-rest : (n : ℕ) {lo : ℕ} → lo ≤ n → ((j : ℕ) → lo ≤ j → j < n → p j ≡ false) → any n p ≡ any lo p
+  any-rest n {lo} l f = same-test (any n p) (any lo p) there (λ e. let (i, k, d) = any-at lo e in any-found n (omega arith) d) where
+    there : any n p ≡ true → any lo p ≡ true
+    there e = let (i, k, d) = any-at n e in ⊎-elim (λ h. any-found lo h d) (λ h. clash d (f i h k)) (lt-or-le i lo)
+
   pub least-none : least 0 p ≡ 0
   unfolding least
   least-none = refl
@@ -146,13 +152,13 @@ module _ (p : ℕ → Bool) where
     go ih w false d false e l =
         ⊎-elim (λ q. ap p q ∙ e) (λ m. ih (omega (arith, ltb-false (least n p) n d))) (eq-or-lt-of-le (le-of-suc-le-suc l))
 
-  clear : (r : ℕ) → ((j : ℕ) → j < r → p j ≡ false) → least r p ≡ r
-  clear zero f = least-none
-  clear (suc r) f = rw add-one at (least-more r (clear r (λ j h. f j (omega arith))) (f r (omega arith)))
+  pub least-no : (n : ℕ) → ((j : ℕ) → j < n → p j ≡ false) → least n p ≡ n
+  least-no zero f = least-none
+  least-no (suc n) f = rw add-one at (least-more n (least-no n (λ j h. f j (omega arith))) (f n (omega arith)))
 
   pub least-is : (n r : ℕ) → r ≤ n → ((j : ℕ) → j < r → p j ≡ false) → (r < n → p r ≡ true) → least n p ≡ r
   least-is n r h f g =
-      ⊎-elim (λ q. rw (← q) (clear r f)) (λ l. least-found n l (clear r f) (g l)) (eq-or-lt-of-le h)
+      ⊎-elim (λ q. rw (← q) (least-no r f)) (λ l. least-found n l (least-no r f) (g l)) (eq-or-lt-of-le h)
 
   pub tally-within : (n : ℕ) → tally n p ≤ n
   unfolding tally
@@ -164,6 +170,11 @@ module _ (p : ℕ → Bool) where
 
 -- two tests that agree below the bound
 module _ (p q : ℕ → Bool) where
+  pub all-same : (n : ℕ) → ((j : ℕ) → j < n → p j ≡ q j) → all n p ≡ all n q
+  unfolding all
+  all-same zero f = refl
+  all-same (suc n) f = rw (f n (omega arith), all-same n (λ j h. f j (omega arith)))
+
   pub any-same : (n : ℕ) → ((j : ℕ) → j < n → p j ≡ q j) → any n p ≡ any n q
   unfolding any
   any-same zero f = refl

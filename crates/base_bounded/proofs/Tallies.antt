@@ -1,7 +1,7 @@
 -- How many numbers pass below a bound that grows: one more behind each that passes, so each number
 -- below the count is reached; and how many pass one of two tests. Assumes nothing.
 use Prim.Native.Nat.{ℕ, zero, suc, _+_, _<_, _≤_}
-use mathlib.Core.Path.{_≡_, refl}
+use mathlib.Core.Path.{_≡_, refl, _∙_}
 use mathlib.Core.Bool.{Bool, true, false, cond}
 use mathlib.Core.Logic.{_⊎_, inl, inr, ⊎-elim}
 use native.Mathlib.Nat.{eq-or-lt-of-le, le-of-suc-le-suc, not-suc-le-zero, le-refl}
@@ -26,6 +26,16 @@ module _ (p : ℕ → Bool) where
   tally-full zero f = refl
   tally-full (suc n) f = let h : tally n p ≡ n = tally-full n (λ j l. f j (omega arith)) in rw (f n (omega arith)) (omega arith)
 
+  -- none passes from lo on
+  pub tally-rest : (n : ℕ) {lo : ℕ} → lo ≤ n → ((j : ℕ) → lo ≤ j → j < n → p j ≡ false) → tally n p ≡ tally lo p
+  unfolding tally
+  tally-rest zero {lo} l f = let q : lo ≡ 0 = omega arith in rw q
+  tally-rest (suc n) {lo} l f =
+      ⊎-elim (λ q. rw q) (λ m. further (f n (omega arith) (le-refl (suc n))) (tally-rest n (omega arith) (λ j a b. f j a (omega arith))))
+      (eq-or-lt-of-le l) where
+        further : p n ≡ false → tally n p ≡ tally lo p → cond (p n) 1 0 + tally n p ≡ tally lo p
+        further e h = rw e (omega arith)
+
   -- behind a number that passes there is one more
   pub tally-past : (n : ℕ) {i : ℕ} → i < n → p i ≡ true → tally i p < tally n p
   tally-past n {i} l e = omega (arith, tally-more p i refl e, tally-up n {i = i + 1} (omega arith))
@@ -42,6 +52,11 @@ module _ (p : ℕ → Bool) where
         (j : ℕ) × (j < suc n) × (p j ≡ true) × (tally j p ≡ m)
     go true d ih l = ⊎-elim (λ h. deeper (ih h)) (λ h. (n, le-refl (suc n), d, omega arith)) (lt-or-le m (tally n p))
     go false d ih l = deeper (ih (omega arith))
+
+-- of the numbers below n, m come before m
+pub tally-below : (n : ℕ) {m : ℕ} → m ≤ n → tally n (λ (j : ℕ). ltb j m) ≡ m
+tally-below n {m} l =
+    tally-rest (λ (j : ℕ). ltb j m) n l (λ j a b. le-ltb j m a) ∙ tally-full (λ (j : ℕ). ltb j m) m (λ j h. lt-ltb j m h)
 
 -- up to s are those below s and s itself
 pub tally-upto : (f : ℕ → ℕ) (s n : ℕ) →

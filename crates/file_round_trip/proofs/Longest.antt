@@ -19,7 +19,7 @@ use Rattle.graph.specs.declared.Hop.{Hop}
 use Rattle.graph_check.specs.Check.{Admitted}
 use Rattle.graph.specs.declared.Shape.{Shape}
 use Rattle.base_bounded.proofs.Bools.{not-no, and-right, or-right, lt-or-le, no-test}
-use Rattle.base_bounded.proofs.Quantifiers.{length-tabulate, getD-tabulate, all-at, any-no, any-found, least-is}
+use Rattle.base_bounded.proofs.Quantifiers.{length-tabulate, getD-tabulate, all-at, any-no, any-found, least-no}
 use Rattle.file_lines.specs.LineField.{anyLine}
 use Rattle.file_lines.proofs.Laws.{lined}
 use Rattle.file_hops.specs.Field.{hopsBy}
@@ -148,7 +148,7 @@ names-clean k l =
 
 no-bad : firstBad fullNames most-names ≡ most-names
 unfolding firstBad
-no-bad = least-is (bad fullNames) most-names most-names (le-refl most-names) names-clean (λ l. absurd (omega arith))
+no-bad = least-no (bad fullNames) most-names names-clean
 
 names-accepted : blockAnswer fullNames most-names ≡ accepted
 names-accepted =

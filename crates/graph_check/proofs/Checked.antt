@@ -21,7 +21,7 @@ use Rattle.graph.specs.declared.Hop.{Hop}
 use Rattle.graph.specs.declared.Shape.{Shape}
 use Rattle.graph.specs.declared.Answer.{Answer}
 use Rattle.base_bounded.proofs.Bools.{not-yes, and-left, and-right, or-yes, or-right}
-use Rattle.base_bounded.proofs.Quantifiers.{least-is, least-passes, least-before}
+use Rattle.base_bounded.proofs.Quantifiers.{least-no, least-passes, least-before}
 
 -- row 3 of the hop that stands at a place
 pub inside-hop : (sh : Shape) (hs : List ℕ) (i : ℕ) {h : Hop} → h ≡ hopAt hs i →
@@ -67,7 +67,7 @@ none-failing : (n : ℕ) (p : ℕ → Bool) → n ≤ least n (λ (i : ℕ). not
 none-failing n p l j k = not-false (p j) (least-before (λ (i : ℕ). not (p i)) n (omega arith))
 
 all-passing : (n : ℕ) (p : ℕ → Bool) → ((j : ℕ) → j < n → p j ≡ true) → least n (λ (i : ℕ). not (p i)) ≡ n
-all-passing n p f = least-is (λ (i : ℕ). not (p i)) n n (le-refl n) (λ j l. not-yes (f j l)) (λ l. absurd (omega arith))
+all-passing n p f = least-no (λ (i : ℕ). not (p i)) n (λ j l. not-yes (f j l))
 
 module _ (sh : Shape) (hs : List ℕ) where
   -- row 3 passed by each hop is "in range"

@@ -1,1 +1,1 @@
-pub mod PredecessorIndex  -- what stands in the table among the hops into a state
+pub mod PredecessorIndex  -- a sort by the targets makes the table; what stands in it

@@ -1,76 +1,38 @@
 // The predecessor index of a graph: for each state the places of the hops (transitions) that end in
 // it.
-// It is built once by a counting sort on the target state: how many hops end in each state says
-// where those into a state begin, and then each place goes into its slot, in list order. The
-// worklist marking asks it for the hops into the two ends of a hop that fell (lost its mark).
-// Uses `graph` for hops and `graph_successors` for what is required of a hop list.
+// It is built once by a counting sort of the places on the target state, which is read in the hop
+// list itself: a copy of the targets would take more stack than `mark` has left. The worklist
+// marking asks it for the hops into the two ends of a hop that fell (lost its mark).
+// Uses `graph` for hops, `graph_counting_sort` for the sort, and `graph_successors` for what is
+// required of a hop list.
 use graph::MOST_HOPS;
+use graph::NUMBERS_A_HOP;
 use graph::hops::hop_count;
-use graph::hops::to_at;
-use graph::tables::wide;
+use graph_counting_sort::fill;
+use graph_counting_sort::key_starts;
 use graph_successors::STARTS;
 ghost use Rattle.graph.specs.Hops.{count};
 ghost use Rattle.graph_successors.specs.Internal.SuccessorIndex.{Indexable};
-ghost use Rattle.graph_predecessors.specs.Internal.PredecessorIndex.{InDegrees, PredecessorStarts, PredecessorPlaces};
+ghost use Rattle.graph_predecessors.specs.Internal.PredecessorIndex.{PredecessorStarts, PredecessorPlaces};
 
-// How many hops end in each state.
-fn ends_of(hops: &[u16]) -> [u16; STARTS]
-    requires { ⌜ Indexable (now hops) ⌝ }
-    ensures { λ r. ⌜ InDegrees (now (hops .entry)) (count (now (hops .entry))) r ⌝ }
-{
-    let n = hop_count(hops);
-    let mut ends = [0u16; STARTS];
-    let mut j = 0;
-    while j < n {
-        let s = wide(to_at(hops, j).0);
-        ends[s] += 1;
-        j += 1;
-    }
-    ends
-}
+// Where the to stands among the numbers of a hop: the sort reads the list by this column.
+const TO: usize = 2;
 
-// Where the hops into each state begin: counted, and added up.
+// Where the hops into each state begin.
 pub fn predecessor_starts(hops: &[u16]) -> [u16; STARTS]
     requires { ⌜ Indexable (now hops) ⌝ }
     ensures { λ r. ⌜ PredecessorStarts (now (hops .entry)) r ⌝ }
 {
-    let mut begins = ends_of(hops);
-    let mut at = 0;
-    let mut s = 0;
-    while s < STARTS {
-        let ending = begins[s];
-        begins[s] = at;
-        at += ending;
-        s += 1;
-    }
-    begins
-}
-
-// Each place in its slot, `next` being where the next hop into each state goes: at first, where
-// they begin. `next` comes by value, and is advanced here.
-fn fill(hops: &[u16], mut next: [u16; STARTS]) -> [u16; MOST_HOPS]
-    requires ready { ⌜ Indexable (now hops) ⌝ }
-    requires begins { ⌜ PredecessorStarts (now hops) next ⌝ }
-    ensures { λ r. ⌜ PredecessorPlaces (now (hops .entry)) (count (now (hops .entry))) r ⌝ }
-{
     let n = hop_count(hops);
-    let mut places = [0u16; MOST_HOPS];
-    let mut j = 0;
-    while j < n {
-        let s = wide(to_at(hops, j).0);
-        let k = wide(next[s]);
-        places[k] = j as u16;
-        next[s] += 1;
-        j += 1;
-    }
-    places
+    key_starts(hops, NUMBERS_A_HOP, TO, n)
 }
 
-// Each place in its slot.
+// Each place in its slot: with an empty order the sort puts the places themselves.
 pub fn places_of(hops: &[u16], begins: &[u16; STARTS]) -> [u16; MOST_HOPS]
     requires ready { ⌜ Indexable (now hops) ⌝ }
     requires begins { ⌜ PredecessorStarts (now hops) (now begins) ⌝ }
     ensures { λ r. ⌜ PredecessorPlaces (now (hops .entry)) (count (now (hops .entry))) r ⌝ }
 {
-    fill(hops, *begins)
+    let n = hop_count(hops);
+    fill(hops, NUMBERS_A_HOP, TO, n, &hops[..0], *begins)
 }

@@ -3,7 +3,7 @@
 use mathlib.Core.Path.{refl}
 use native.Mathlib.Omega.{arith}
 use Rattle.file_fields.specs.Format.{blockLength}
-use Rattle.file_fields.proofs.Choice.{chosen, other}
+use Rattle.base_bounded.proofs.Bools.{chosen, other}
 use Rattle.file_fields.proofs.Laws.{names-before-lines}
 use borrow.Author.Needs.{needs}
 use Rattle.file_fields.proofs.block_length.Statement.{statement}

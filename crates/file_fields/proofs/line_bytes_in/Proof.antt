@@ -2,7 +2,7 @@
 -- Assumes nothing.
 use mathlib.Core.Path.{refl}
 use Rattle.file_fields.specs.Format.{lineBytesIn}
-use Rattle.file_fields.proofs.Choice.{chosen, other}
+use Rattle.base_bounded.proofs.Bools.{chosen, other}
 use borrow.Author.Needs.{needs}
 use Rattle.file_fields.proofs.line_bytes_in.Statement.{statement}
 use Rattle.file_fields.proofs.line_bytes_in.Tie as tie

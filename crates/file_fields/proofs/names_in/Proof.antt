@@ -3,7 +3,7 @@
 use mathlib.Core.Path.{refl}
 use native.Mathlib.Omega.{arith}
 use Rattle.file_fields.specs.Format.{namesIn}
-use Rattle.file_fields.proofs.Choice.{chosen, other}
+use Rattle.base_bounded.proofs.Bools.{chosen, other}
 use borrow.Author.Needs.{needs}
 use Rattle.file_fields.proofs.names_in.Statement.{statement}
 use Rattle.file_fields.proofs.names_in.Tie as tie

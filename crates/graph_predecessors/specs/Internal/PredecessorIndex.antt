@@ -4,13 +4,9 @@ use Prim.Native.Nat.{ℕ, _<_, _≤_}
 use mathlib.Core.Path.{_≡_}
 use mathlib.Core.List.{List}
 use lib.ListN.{getD}
-use Rattle.base_bounded.specs.Internal.Slots.{keyCount, keyStart, slot}
+use Rattle.base_bounded.specs.Internal.Slots.{keyStart, slot}
 use Rattle.graph.specs.Hops.{count, to}
 use Rattle.graph.specs.Answers.{most-states}
-
--- a table of how many of the first n hops end in each state
-unfoldable pub InDegrees : List ℕ → ℕ → List ℕ → Type 0
-InDegrees hs n es = (s : ℕ) → s ≤ most-states → getD es s 0 ≡ keyCount (to hs) n s
 
 -- where the hops into s begin in the table: behind all that end in a lower state
 abbrev pub predecessorStart : List ℕ → ℕ → ℕ
