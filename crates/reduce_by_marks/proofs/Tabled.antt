@@ -4,7 +4,7 @@ use Prim.Native.Nat.{ℕ, _<_, _≤_}
 use mathlib.Core.Path.{_≡_, ap, _∙_}
 use mathlib.Core.List.{List, _++_}
 use native.Mathlib.Omega.{arith}
-use lib.ListN.{length, getD, drop, List·getD-append}
+use lib.ListN.{length, getD, drop}
 use Rattle.base_bounded.specs.Quantifiers.{tabulate}
 use Rattle.base_outputs.specs.Output.{onFront}
 use Rattle.graph.specs.Hops.{count, from, to, flat}
@@ -13,7 +13,7 @@ use Rattle.graph.specs.Map.{mapped}
 use Rattle.graph.specs.Answers.{most-states}
 use Rattle.graph.specs.declared.Hop.{Hop}
 use Rattle.graph.specs.declared.Shape.{Shape}
-use Rattle.base_bounded.proofs.Quantifiers.{tally-within, length-tabulate, getD-tabulate}
+use Rattle.base_bounded.proofs.Quantifiers.{tally-within}
 use Rattle.graph_check.specs.Check.{Admitted}
 use Rattle.base_fixpoint.specs.Pairs.{Pairs}
 use Rattle.reduce_representatives.specs.Internal.Representative.{Terminating}
@@ -26,6 +26,7 @@ use Rattle.reduce_short_graph.specs.Internal.Tables.{allShort, AllImaged}
 use Rattle.reduce_short_graph.proofs.Tabled.{tabled-list, tabled-short}
 use Rattle.reduce_by_marks.specs.Internal.ByMarks.{shortGraph, shapeBy}
 use Rattle.reduce_by_marks.specs.declared.ShortGraph.{ShortGraph}
+use Rattle.reduce_by_marks.proofs.Along.{map-at}
 
 -- the table of next states, the new numbers, the map from old to new and the short hops are at hand
 module _ {sh : Shape} {hs : List ℕ} {u : Pairs} (adm : Admitted sh hs) (sett : Terminating sh hs u) (next : List ℕ) (on : NextTable hs u next) (news : List ℕ)
@@ -35,10 +36,7 @@ module _ {sh : Shape} {hs : List ℕ} {u : Pairs} (adm : Admitted sh hs) (sett :
     reduced-map = e ∙ ap (λ (m : List ℕ). onFront m old) (tabled-list adm sett next on news fill)
 
     map-holds : (s : ℕ) → s < sh .states → getD map s 0 ≡ mapOf sh hs u s
-    unfolding mapList
-    map-holds s l =
-        rw reduced-map
-        (List·getD-append (tabulate (sh .states) (mapOf sh hs u)) (drop (length (tabulate (sh .states) (mapOf sh hs u))) old) 0 s (rw (length-tabulate (mapOf sh hs u) (sh .states)) l) ∙ getD-tabulate (mapOf sh hs u) (sh .states) l)
+    map-holds = map-at sh hs u old reduced-map
 
     -- the map's numbers and the labels are numbers of states and labels that can be
     map-small : (s : ℕ) → s < sh .states → mapped map s < most-states

@@ -6,11 +6,9 @@ use mathlib.Core.Bool.{Bool, true, false, cond}
 use mathlib.Core.List.{List, []}
 use native.Mathlib.Omega.{arith}
 use borrow.Author.Tests.{eq-eqb, ne-eqb, eqb-true, le-leb, lt-leb, lt-ltb, le-ltb}
-use lib.ListN.{length, getD, drop, length-append, List·getD-append}
+use lib.ListN.{length, drop, length-append}
 use lib.Seq.{take-at}
 use lib.Dec.{eqb}
-use Rattle.base_bounded.specs.Quantifiers.{tabulate}
-use Rattle.base_bounded.proofs.Quantifiers.{length-tabulate, getD-tabulate}
 use Rattle.base_outputs.specs.Output.{onFront}
 use Rattle.graph.specs.Hops.{numberPlace, count, flat, between}
 use Rattle.graph.specs.Answers.{most-hops, most-numbers, andThen, capacityAnswer, refused}
@@ -21,26 +19,23 @@ use Rattle.graph.proofs.Fronts.{flat-front}
 use Rattle.graph_check.specs.Check.{checkOf, Admitted}
 use Rattle.graph_check.proofs.Checked.{check-admitted, admitted-check}
 use Rattle.walk_silent.specs.Silent.{ringAnswer}
-use Rattle.base_fixpoint.specs.Pairs.{In, Subset}
-use Rattle.mark_confluence.specs.Rounds.{silentHops, marked}
-use Rattle.mark_confluence.specs.Internal.MarkSet.{markSet}
-use Rattle.mark_confluence.specs.Marks.{markOf, marksOf}
-use Rattle.mark_confluence.proofs.Marked.{marked-confluent}
+use Rattle.mark_confluence.specs.Rounds.{marked}
+use Rattle.mark_confluence.specs.Marks.{marksOf}
 use Rattle.mark_confluence.proofs.Marks.{marks-at}
-use Rattle.reduce_representatives.specs.Representative.{mapOf}
 use Rattle.reduce_representatives.specs.Reducible.{Reducible}
-use Rattle.reduce_short_graph.specs.Short.{shortHops, shortShape, mapList}
+use Rattle.reduce_short_graph.specs.Short.{shortHops, mapList}
 use Rattle.reduce_short_graph.proofs.Images.{short-within}
-use Rattle.reduce_by_marks.specs.Internal.ByMarks.{shortGraph, mapAfter, shortAfter}
+use Rattle.reduce_by_marks.specs.Internal.ByMarks.{shortGraph}
 use Rattle.reduce_by_marks.specs.declared.ShortGraph.{ShortGraph}
-use Rattle.reduce_entry.proofs.Marked.{after-map, after-short, after-shape, after-hops}
+use Rattle.reduce_by_marks.proofs.Along.{map-at}
 use Rattle.file_fields.specs.Format.{hopsIn, shapeIn, hopListIn}
 use Rattle.file_fields.proofs.Laws.{length-hop-list, count-hop-list}
 use Rattle.file_format.specs.Rows.{formatAnswer}
 use Rattle.file_read.specs.Read.{readAnswer, readOf, readHops, contentsOf, refusedContents}
 use Rattle.file_read.specs.declared.Contents.{Contents}
 use Rattle.report_text.specs.Internal.Text.{TextFits, TextPut}
-use Rattle.report_rows.specs.Rows.{linesOf, refusalOf}
+use Rattle.report_rows.specs.Rows.{refusalOf}
+use Rattle.report_rows.specs.Internal.Rows.{lentLines}
 use Rattle.report_rows.proofs.Parts.{report-same}
 use Rattle.report_entry.specs.Report.{reportOf, unlessRefused, printedGraph, printedFile, most-input, printedOf, most-text, printedIn}
 
@@ -89,40 +84,21 @@ module _ {sh : Shape} {hs : List ℕ} (adm : Admitted sh hs) {a : Answer} (e : a
     pub graph-accepted : reportOf sh hs ≡ printedGraph sh hs
     graph-accepted = sym (accepted-text (ringAnswer sh hs) (reportOf sh hs) (rw e at z)) ∙ past-check
 
--- what marking, and reducing along the marks, leave
-module _ {sh : Shape} {hs : List ℕ} (red : Reducible sh hs) where
-  silent : Subset (In (marked hs)) (In (silentHops hs))
-  silent = marked-confluent hs .silent
+-- what the reduction returns, and leaves in the marks, the map and the short hops
+module _ {sh : Shape} {hs : List ℕ} (red : Reducible sh hs) {made : ShortGraph} (d : made ≡ shortGraph sh hs (marked hs)) where
+  hops-are : made .hops ≡ length (shortHops sh hs (marked hs))
+  hops-are = ap (λ (x : ShortGraph). x .hops) d
 
-  module _ (ms0 : List ℕ) {ms : List ℕ} (e : ms ≡ onFront (marksOf hs (marked hs)) ms0) where
-    pub reduced-marks : (i : ℕ) → i < count hs → getD ms i 0 ≡ markOf hs (marked hs) i
-    reduced-marks i l = marks-at hs (marked hs) ms ms0 e l
+  pub reduced-most : made .hops ≤ most-hops
+  reduced-most = omega (arith, hops-are, short-within sh hs (marked hs), red .admitted .hops-most)
 
-    pub reduced-map : (m0 : List ℕ) {m : List ℕ} → m ≡ mapAfter sh hs ms m0 → (s : ℕ) → s < sh .states → getD m s 0 ≡ mapOf sh hs (marked hs) s
-    unfolding mapList
-    reduced-map m0 f s l =
-        rw (after-map sh hs (marked hs) ms ms0 e silent m0 f)
-        (List·getD-append (tabulate (sh .states) (mapOf sh hs (marked hs))) _ 0 s (rw (length-tabulate (mapOf sh hs (marked hs)) (sh .states)) l) ∙
-        getD-tabulate (mapOf sh hs (marked hs)) (sh .states) l)
-
-    module _ {r : ShortGraph} (d : r ≡ shortGraph sh hs (markSet hs ms)) where
-      pub reduced-shape : r .shape ≡ shortShape sh hs (marked hs)
-      reduced-shape = after-shape sh hs (marked hs) ms ms0 e silent d
-
-      reduced-hops : r .hops ≡ length (shortHops sh hs (marked hs))
-      reduced-hops = after-hops sh hs (marked hs) ms ms0 e silent d
-
-      pub reduced-most : r .hops ≤ most-hops
-      reduced-most = omega (arith, reduced-hops, short-within sh hs (marked hs), red .admitted .hops-most)
-
-      pub reduced-short : (s0 : List ℕ) {s part : List ℕ} → s ≡ shortAfter sh hs ms s0 → part ≡ between s 0 (r .hops) → part ≡ flat (shortHops sh hs (marked hs))
-      reduced-short s0 g p = p ∙ rw (after-short sh hs (marked hs) ms ms0 e silent s0 g) (flat-front (shortHops sh hs (marked hs)) _ reduced-hops)
-
-  pub reduced-lines : {mark map : ℕ → ℕ} {new : Shape} {short : List ℕ} → ((i : ℕ) → i < count hs → mark i ≡ markOf hs (marked hs) i) →
-      ((s : ℕ) → s < sh .states → map s ≡ mapOf sh hs (marked hs) s) → new ≡ shortShape sh hs (marked hs) → short ≡ flat (shortHops sh hs (marked hs)) →
-      linesOf sh hs mark map new short ≡ reportOf sh hs
+  pub reduced-lines : (ms0 m0 s0 : List ℕ) {ms m s short : List ℕ} →
+      ms ≡ onFront (marksOf hs (marked hs)) ms0 → m ≡ onFront (mapList sh hs (marked hs)) m0 → s ≡ onFront (flat (shortHops sh hs (marked hs))) s0 →
+      short ≡ between s 0 (made .hops) → lentLines sh hs ms m (made .shape) short ≡ reportOf sh hs
   unfolding reportOf
-  reduced-lines f g d e = report-same sh hs f g d e
+  reduced-lines ms0 m0 s0 {ms} e f g p =
+      report-same sh hs (λ i l. marks-at hs (marked hs) ms ms0 e l) (map-at sh hs (marked hs) m0 f) (ap (λ (x : ShortGraph). x .shape) d)
+      (p ∙ rw g (flat-front (shortHops sh hs (marked hs)) _ hops-are))
 
 -- reading into an output that holds the hops of any graph
 module _ (b : List ℕ) where

@@ -8,8 +8,7 @@ use graph::answers::refuse;
 use graph::hops::part;
 use graph_successors::STARTS;
 use graph_successors::starts_of;
-use mark_worklist_loop::mark_rounds;
-use reduce_by_marks::reduce_marked;
+use reduce_strong::reduce_strong;
 use report_rows::put_refusal;
 use report_rows::put_report;
 use walk_rings::ring_answer;
@@ -30,7 +29,7 @@ pub const MOST_INPUT: usize = 65536;
 // short hop: 116,768 for the largest graph.
 pub const MOST_TEXT: usize = 13 + 14 * MOST_STATES + 19 + 25 * MOST_HOPS;
 
-// The report of a graph that every row lets pass: it is marked once, and reduced along the marks.
+// The report of a graph that every row lets pass.
 fn print_reduced(shape: Shape, hops: &[u16], starts: &[u16; STARTS], out: &mut [u8]) -> usize
     requires reducible { ⌜ Reducible shape (now hops) ⌝ }
     requires table { ⌜ SuccessorIndex (now hops) (now starts) ⌝ }
@@ -40,8 +39,7 @@ fn print_reduced(shape: Shape, hops: &[u16], starts: &[u16; STARTS], out: &mut [
     let mut marks = [0u8; MOST_HOPS];
     let mut map = [0u16; MOST_STATES];
     let mut short = [0u16; MOST_NUMBERS];
-    mark_rounds(hops, starts, &mut marks);
-    let made = reduce_marked(shape, hops, &marks, &mut map, &mut short);
+    let made = reduce_strong(shape, hops, starts, &mut marks, &mut map, &mut short);
     let new = made.shape;
     let n = made.hops;
     put_report(shape, hops, &marks, &map, new, part(&short, 0, n), out)

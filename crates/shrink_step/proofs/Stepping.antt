@@ -13,18 +13,17 @@ use Rattle.base_outputs.specs.Output.{onFront}
 use Rattle.graph.specs.Hops.{count, flat, between}
 use Rattle.graph.proofs.Fronts.{flat-front, between-count}
 use Rattle.graph.proofs.Places.{length-flat}
-use Rattle.base_fixpoint.specs.Pairs.{Pairs, In, Subset}
-use Rattle.mark_confluence.specs.Rounds.{silentHops}
 use Rattle.mark_confluence.specs.Marks.{marksOf}
 use Rattle.mark_confluence.specs.Internal.MarkSet.{markSet}
+use Rattle.mark_confluence.proofs.Marks.{mark-set-set}
 use Rattle.mark_senses.specs.Senses.{senseOf, markedBy}
 use Rattle.mark_senses.proofs.Marked.{in-silent}
 use Rattle.reduce_short_graph.specs.Short.{mapList}
 use Rattle.reduce_by_marks.specs.Internal.ByMarks.{shortGraph, mapAfter, shortAfter}
 use Rattle.reduce_by_marks.specs.declared.ShortGraph.{ShortGraph}
 use Rattle.reduce_entry.specs.Internal.Reduce.{reducedState}
-use Rattle.reduce_entry.specs.Reduce.{reducedMap, reducedHops, reducedShape}
-use Rattle.reduce_entry.proofs.Marked.{marked-within, after-shape, after-hops, after-map, after-short}
+use Rattle.reduce_entry.specs.Reduce.{reducedMap, reducedHops}
+use Rattle.reduce_entry.proofs.Marked.{marked-within}
 use Rattle.shrink_compose.specs.Composed.{composed}
 use Rattle.shrink_iterate.specs.Iterate.{Stage, nextStage}
 use Rattle.shrink_step.specs.Internal.Progress.{stageOf}
@@ -39,17 +38,15 @@ module _
     abbrev g : Stage
     g = stageOf at hops map
 
-    abbrev u : Pairs
-    u = markedBy k (at .shape) seen
+    -- the set that the marks hold
+    same : markSet seen ms ≡ markedBy k (at .shape) seen
+    same = mark-set-set seen (markedBy k (at .shape) seen) ms out e (in-silent (senseOf k) (at .shape) seen)
 
-    silent : Subset (In u) (In (silentHops seen))
-    silent = in-silent (senseOf k) (at .shape) seen
-
-    shape-is : made .shape ≡ reducedShape (g .shape) (g .hops) k
-    shape-is = rw p at (after-shape (at .shape) seen u ms out e silent made-is)
+    reduced-is : made ≡ shortGraph (g .shape) (g .hops) (markedBy k (g .shape) (g .hops))
+    reduced-is = rw (same, p) at made-is
 
     hops-are : made .hops ≡ length (reducedHops (g .shape) (g .hops) k)
-    hops-are = rw p at (after-hops (at .shape) seen u ms out e silent made-is)
+    hops-are = ap (λ (x : ShortGraph). x .hops) reduced-is
 
     -- the short hops are no more than the hops
     pub hops-within : made .hops ≤ count (g .hops)
@@ -61,7 +58,7 @@ module _
     module _ (old : List ℕ) {short : List ℕ} (s : short ≡ shortAfter (at .shape) seen ms old) where
       short-hops : between short 0 (made .hops) ≡ flat (reducedHops (g .shape) (g .hops) k)
       short-hops =
-          ap (λ (x : List ℕ). between x 0 (made .hops)) (rw p at (after-short (at .shape) seen u ms out e silent old s)) ∙
+          ap (λ (x : List ℕ). between x 0 (made .hops)) (rw (same, p) at s) ∙
           flat-front (reducedHops (g .shape) (g .hops) k) _ hops-are
 
       -- they fit where the hops were
@@ -72,7 +69,7 @@ module _
           after ≡ onFront part hops → then ≡ composed map (take (at .shape .states) next) →
           stageOf (record { shape = made .shape; hops = made .hops; reductions = at .reductions + 1; more = true }) after then ≡ nextStage k g
       unfolding mapList
-      stepped was {then = then} {after = after} f q r t = λ d. record { shape = shape-is d; hops = last d; map = on d; reductions = add-one (at .reductions) d } where
+      stepped was {then = then} {after = after} f q r t = λ d. record { shape = reduced-is d .shape; hops = last d; map = on d; reductions = add-one (at .reductions) d } where
         last : between after 0 (made .hops) ≡ flat (reducedHops (g .shape) (g .hops) k)
         last =
             ap (λ (x : List ℕ). between x 0 (made .hops)) (r ∙ ap (λ (x : List ℕ). onFront x hops) (q ∙ short-hops)) ∙
@@ -80,5 +77,5 @@ module _
 
         on : then ≡ composed map (reducedMap (g .shape) (g .hops) k)
         on =
-            t ∙ ap (composed map) (ap (take (at .shape .states)) (rw p at (after-map (at .shape) seen u ms out e silent was f)) ∙
+            t ∙ ap (composed map) (ap (take (at .shape .states)) (rw (same, p) at f) ∙
             take-at (reducedMap (g .shape) (g .hops) k) _ (at .shape .states) (length-tabulate (reducedState (g .shape) (g .hops) k) (at .shape .states)))

@@ -1,10 +1,11 @@
 -- `reduce_entry::entry::accepted_reduction` meets its contract: the marks are those of the sense's
 -- marked set. Assumes nothing.
 use native.Mathlib.Omega.{arith}
+use Rattle.mark_confluence.proofs.Marks.{mark-set-set}
 use Rattle.mark_senses.specs.Senses.{senseOf, markedBy}
 use Rattle.mark_senses.proofs.Marked.{in-silent}
 use Rattle.reduce_representatives.proofs.Marked.{mark-set-terminating}
-use Rattle.reduce_entry.proofs.Marked.{after-marks, after-made, after-map, after-short}
+use Rattle.reduce_by_marks.proofs.Along.{after-marks}
 use borrow.Author.Needs.{needs}
 use Rattle.reduce_entry.proofs.entry.accepted_reduction.Statement.{statement}
 use Rattle.reduce_entry.proofs.entry.accepted_reduction.Tie as tie
@@ -25,7 +26,7 @@ reduce-marked-requires : tie.Need-reduce-marked-requires
 reduce-marked-requires c κs =
     let st = c .before .before .before .before .before .before .before .before .before in
     let red = st .pre .0 in
-    (red .admitted, (mark-set-terminating red _, (after-marks (st .args .shape) _ _ _ _ (c .before .before .before .before .mark-in .ensures) (omega (arith, red .admitted .hops-most)), (st .pre .1 .1 .0, st .pre .1 .1 .1))))
+    (red .admitted, (mark-set-terminating red _, (after-marks _ _ _ _ (c .before .before .before .before .mark-in .ensures) (omega (arith, red .admitted .hops-most)), (st .pre .1 .1 .0, st .pre .1 .1 .1))))
 
 accept-requires : tie.Need-accept-requires
 accept-requires c κs = search needs
@@ -42,11 +43,9 @@ returns c =
     let sh = st .shape in
     let hs = st .hops .now in
     let k = st .sense in
-    let marked = c .before .before .before .before .before .before .before .before .before .before .before .mark-in .ensures in
-    let made = c .before .before .before .before .before .before .reduce-marked .ensures in
-    let u = markedBy k sh hs in
-    let silent = in-silent (senseOf k) sh hs in
-    (after-made sh hs k _ _ marked (c .accept .ensures) (made .0), (after-map sh hs u _ _ marked silent _ (made .1 .0), after-short sh hs u _ _ marked silent _ (made .1 .1)))
+    let e = c .before .before .before .before .before .before .before .before .before .before .before .mark-in .ensures in
+    let made = rw (mark-set-set hs (markedBy k sh hs) _ _ e (in-silent (senseOf k) sh hs)) at (c .before .before .before .before .before .before .reduce-marked .ensures) in
+    (λ d. record { answer = c .accept .ensures d; shape = made .0 d .shape; hops = made .0 d .hops }, made .1)
 
 pub accepted-reduction-spec : {M : Type 1} → statement M
 accepted-reduction-spec =
