@@ -1,6 +1,6 @@
 -- What is returned where the answer slice is too short or long enough. Assumes nothing.
 use Prim.Native.Nat.{ℕ, _<_, _≤_}
-use mathlib.Core.Path.{_≡_, refl, ap, _∙_}
+use mathlib.Core.Path.{_≡_, refl, _∙_}
 use mathlib.Core.Bool.{Bool, true, false, cond}
 use borrow.Author.Tests.{le-leb, lt-leb, eq-eqb, ne-eqb, eqb-true}
 use lib.Dec.{eqb, leb}
@@ -23,10 +23,6 @@ module _ (a : Answer) (n capacity : ℕ) where
     go : (x : Bool) → eqb (a .number) 0 ≡ x → a .number ≡ cond x (cond (leb n capacity) 0 6) (a .number)
     go true e = eqb-true _ _ e ∙ rw (le-leb n capacity l)
     go false e = refl
-
--- what is returned for an answer is returned for an equal one
-pub returned-of : (n capacity : ℕ) {a b : Answer} {r : ℕ} → a ≡ b → r ≡ returned a n capacity → r ≡ returned b n capacity
-returned-of n capacity e h = h ∙ ap (λ (x : Answer). returned x n capacity) e
 
 -- the answer that stands in one of two results, of which the first is taken by a test
 pub either-answer : {A : Type 0} (answer : A → Answer) (x : Bool) (r q : A) {a : Answer} → (x ≡ true → answer r ≡ a) → answer q ≡ a →

@@ -19,18 +19,14 @@ fn put_audit(out: &mut [u64], audited: Audit) -> u32
     ensures returns { λ r. ⌜ r ≡ returned (audited .answer) 7 (length (now (out .entry))) ⌝ }
     ensures figures { λ r. ⌜ now (out .exit) ≡ answerAfter 7 (auditNumbers audited) (now (out .entry)) ⌝ }
 {
-    let a = audited.answer;
     let first = audited.first;
     let figures = [
-        a.number as u64,
-        a.table as u64,
-        a.place as u64,
         audited.faults as u64,
         first.kind as u64,
         first.place as u64,
         first.state as u64,
     ];
-    put_answer(out, &figures, a)
+    put_answer(out, audited.answer, &figures)
 }
 
 pub fn audit_into(

@@ -25,12 +25,8 @@ fn put_contents(out: &mut [u64], contents: Contents) -> u32
     ensures returns { λ r. ⌜ r ≡ returned (contents .answer) 9 (length (now (out .entry))) ⌝ }
     ensures figures { λ r. ⌜ now (out .exit) ≡ answerAfter 9 (contentsNumbers contents) (now (out .entry)) ⌝ }
 {
-    let a = contents.answer;
     let shape = contents.shape;
     let figures = [
-        a.number as u64,
-        a.table as u64,
-        a.place as u64,
         shape.states as u64,
         shape.labels as u64,
         shape.initial as u64,
@@ -38,7 +34,7 @@ fn put_contents(out: &mut [u64], contents: Contents) -> u32
         contents.names_place as u64,
         contents.names_len as u64,
     ];
-    put_answer(out, &figures, a)
+    put_answer(out, contents.answer, &figures)
 }
 
 // Where the answer slice is too short, only the answer is found, and no hops are written.

@@ -18,15 +18,8 @@ fn put_finding(out: &mut [u64], finding: Finding) -> u32
     ensures returns { λ r. ⌜ r ≡ returned (finding .answer) 5 (length (now (out .entry))) ⌝ }
     ensures figures { λ r. ⌜ now (out .exit) ≡ answerAfter 5 (findingNumbers finding) (now (out .entry)) ⌝ }
 {
-    let a = finding.answer;
-    let figures = [
-        a.number as u64,
-        a.table as u64,
-        a.place as u64,
-        finding.found as u64,
-        finding.place as u64,
-    ];
-    put_answer(out, &figures, a)
+    let figures = [finding.found as u64, finding.place as u64];
+    put_answer(out, finding.answer, &figures)
 }
 
 pub fn find_into(

@@ -20,18 +20,14 @@ fn put_reduction(out: &mut [u64], reduction: Reduction) -> u32
     ensures returns { λ r. ⌜ r ≡ returned (reduction .answer) 7 (length (now (out .entry))) ⌝ }
     ensures figures { λ r. ⌜ now (out .exit) ≡ answerAfter 7 (reductionNumbers reduction) (now (out .entry)) ⌝ }
 {
-    let a = reduction.answer;
     let shape = reduction.shape;
     let figures = [
-        a.number as u64,
-        a.table as u64,
-        a.place as u64,
         shape.states as u64,
         shape.labels as u64,
         reduction.hops as u64,
         shape.initial as u64,
     ];
-    put_answer(out, &figures, a)
+    put_answer(out, reduction.answer, &figures)
 }
 
 // Where the answer slice is too short, only the answer is found, and nothing is reduced.

@@ -22,19 +22,15 @@ fn put_shrinking(out: &mut [u64], shrinking: Shrinking) -> u32
     ensures returns { λ r. ⌜ r ≡ returned (shrinking .answer) 8 (length (now (out .entry))) ⌝ }
     ensures figures { λ r. ⌜ now (out .exit) ≡ answerAfter 8 (shrinkingNumbers shrinking) (now (out .entry)) ⌝ }
 {
-    let a = shrinking.answer;
     let shape = shrinking.shape;
     let figures = [
-        a.number as u64,
-        a.table as u64,
-        a.place as u64,
         shape.states as u64,
         shape.labels as u64,
         shrinking.hops as u64,
         shape.initial as u64,
         shrinking.reductions as u64,
     ];
-    put_answer(out, &figures, a)
+    put_answer(out, shrinking.answer, &figures)
 }
 
 // Where the answer slice is too short, only the answer is found, and nothing is reduced.

@@ -1,29 +1,32 @@
--- `c_answer::put_figures` meets its contract: after i steps the first i figures stand at the front.
--- Assumes nothing.
-use Prim.Native.Nat.{_-_, _≤_}
+-- `c_answer::put_figures` meets its contract: after i steps the first i figures stand in their
+-- place. Assumes nothing.
+use Prim.Native.Nat.{_+_, _-_, _≤_}
 use mathlib.Core.Path.{_≡_, refl}
 use native.Mathlib.Omega.{arith}
 use borrow.Author.Needs.{needs}
 use lib.ListN.{length, take, length-set}
-use Rattle.base_outputs.specs.Output.{onFront}
-use Rattle.base_outputs.proofs.Front.{numbers-more, numbers-done}
+use Rattle.base_outputs.specs.Internal.Output.{overAt}
+use Rattle.base_outputs.proofs.Front.{bytes-none, bytes-more, bytes-done}
 use Rattle.c_answer.proofs.put_figures.Statement.{statement}
 use Rattle.c_answer.proofs.put_figures.Tie as tie
 
 abbrev Inv-loop : tie.InvT-loop
-Inv-loop out₀ figures i₀ out i = (out ≡ onFront (take i figures) out₀) × (length out ≡ length out₀) × (i ≤ length figures) × (length figures ≤ length out₀)
+Inv-loop out₀ at figures i₀ out i = (out ≡ overAt at (take i figures) out₀) × (length out ≡ length out₀) × (i ≤ length figures) × (at + length figures ≤ length out₀)
 
 abbrev μ-loop : tie.MeasureT-loop
-μ-loop out₀ figures i₀ out i = length figures - i
+μ-loop out₀ at figures i₀ out i = length figures - i
 
 loop-holds : tie.Need-loop-holds Inv-loop μ-loop
-loop-holds c = (refl, refl, omega arith, c .pre)
+loop-holds c = (bytes-none (c .args .at) (c .args .out .now) (c .args .figures .now), refl, omega arith, c .pre)
 
 mul-out : tie.Need-mul-out Inv-loop μ-loop
 mul-out c = search needs
 
 shared-slice-read-out : tie.Need-shared-slice-read-out Inv-loop μ-loop
 shared-slice-read-out c = omega arith
+
+add-out : tie.Need-add-out Inv-loop μ-loop
+add-out c = search needs
 
 mul-out-2 : tie.Need-mul-out-2 Inv-loop μ-loop
 mul-out-2 c = search needs
@@ -40,7 +43,7 @@ loop-less c = omega arith
 loop-again : tie.Need-loop-again Inv-loop μ-loop
 loop-again c =
     let s = c .before .before .before .args in (
-      numbers-more (s .out .now) (s .figures .now) (c .before .before .loop .inv .0) (omega arith) (c .before .before .loop .inv .3),
+      bytes-more (s .at) (s .out .now) (s .figures .now) (c .before .before .loop .inv .0) (omega arith) (c .before .before .loop .inv .3),
       simp length-set (omega arith),
       omega arith,
       omega arith,
@@ -50,7 +53,9 @@ same-length : tie.Need-same-length Inv-loop μ-loop
 same-length c = omega arith
 
 returns : tie.Need-returns Inv-loop μ-loop
-returns c = numbers-done (c .before .before .args .out .now) (c .before .before .args .figures .now) {i = c .before .loop .i} (c .before .loop .inv .0) (omega arith)
+returns c =
+    let s = c .before .before .args in
+    bytes-done (s .at) (s .out .now) (s .figures .now) {i = c .before .loop .i} (c .before .loop .inv .0) (omega arith) (omega arith)
 
 pub put-figures-spec : {M : Type 1} → statement M
 put-figures-spec =
@@ -61,6 +66,7 @@ put-figures-spec =
     loop-holds
     mul-out
     shared-slice-read-out
+    add-out
     mul-out-2
     slice-write-out
     add-i

@@ -1,11 +1,7 @@
 -- `c_file::read_into` meets its contract: where the answer slice is too short, only the answer is
 -- found. Assumes nothing.
 use borrow.Author.Needs.{needs}
-use mathlib.Core.Path.{ap, _∙_}
-use Rattle.file_read.specs.declared.Contents.{Contents}
-use Rattle.c_file.specs.Numbers.{contentsNumbers}
-use Rattle.c_answer.proofs.Answers.{returned-of}
-use Rattle.c_answer.proofs.AnswerAfter.{answer-after-of, short-answer-after, short-kept, left-long}
+use Rattle.c_answer.proofs.AnswerAfter.{short-answer-after, short-kept, long-left}
 use Rattle.c_file.proofs.Results.{found-answer}
 use Rattle.c_file.proofs.read_into.Statement.{statement}
 use Rattle.c_file.proofs.read_into.Tie as tie
@@ -19,7 +15,7 @@ short-number-requires c κs = search needs
 returns : tie.Need-returns
 returns c =
     let l = c .before .before .if1 .taken in
-    (returned-of 9 _ (c .before .read-answer .ensures) (c .short-number .ensures), (short-kept 9 _ _ _ l, short-answer-after 9 _ _ l))
+    (rw (c .before .read-answer .ensures) at (c .short-number .ensures), (short-kept 9 _ _ _ l, short-answer-after 9 _ _ l))
 
 read-requires : tie.Need-read-requires
 read-requires c κs = search needs
@@ -37,10 +33,8 @@ returns-2 : tie.Need-returns-2
 returns-2 c =
     let w = c .before .before .before .before .before .before .read .ensures in
     let l = c .before .before .before .before .before .before .before .before .if1 .left in
-    let t = c .before .before .put-contents .ensures in (
-      returned-of 9 _ (ap (λ (r : Contents). r .answer) (w .0) ∙ found-answer _ _) (t .0),
-      (left-long 9 _ _ _ l (w .1), answer-after-of contentsNumbers 9 _ (w .0) (t .1)),
-    )
+    let t = rw (w .0) at (c .before .before .put-contents .ensures) in
+    rw long-left (rw found-answer at (t .0), (w .1, t .1))
 
 pub read-into-spec : {M : Type 1} → statement M
 read-into-spec =

@@ -1,49 +1,37 @@
 -- `c_hops_of::hops_of_into` meets its contract: the start and the length that are written are those
 -- of the state's hops. Assumes nothing.
+use mathlib.Core.Path.{refl}
 use borrow.Author.Needs.{needs}
+use Rattle.graph.specs.Answers.{accepted}
 use Rattle.c_hops_of.specs.Numbers.{spanNumbers}
-use lib.ListN.{length}
-use Rattle.graph_hops_of.specs.HopsOf.{chosen, spanOf}
-use Rattle.c_answer.specs.Numbers.{shapeOf}
-use Rattle.c_answer.proofs.Answers.{returned-of}
-use Rattle.c_answer.proofs.AnswerAfter.{answer-after-of}
+use Rattle.c_answer.proofs.Answers.{short-six, long-returns}
+use Rattle.c_answer.proofs.AnswerAfter.{short-answer-after, long-answer-after}
 use Rattle.c_hops_of.proofs.hops_of_into.Statement.{statement}
 use Rattle.c_hops_of.proofs.hops_of_into.Tie as tie
+
+returns : tie.Need-returns
+returns c = (short-six accepted 2 _ (c .if1 .taken) refl, short-answer-after 2 _ _ (c .if1 .taken))
 
 span-of-requires : tie.Need-span-of-requires
 span-of-requires c κs = search needs
 
-slice-aggregate-put-answer : tie.Need-slice-aggregate-put-answer
-slice-aggregate-put-answer c = search needs
+slice-aggregate-put-figures : tie.Need-slice-aggregate-put-figures
+slice-aggregate-put-figures c = search needs
 
-accept-requires : tie.Need-accept-requires
-accept-requires c κs = search needs
-
-put-answer-requires : tie.Need-put-answer-requires
-put-answer-requires c κs = search needs
+put-figures-requires : tie.Need-put-figures-requires
+put-figures-requires c κs = search needs
 
 same-length : tie.Need-same-length
 same-length c = search needs
 
-returns : tie.Need-returns
-returns c =
-    let t = c .before .before .put-answer .ensures in
-    let s = c .before .before .before .before .before .before .before .before .before .before .args in
-    let shape1 = shapeOf (s .states1) (s .labels1) (s .initial1) in
-    let shape2 = shapeOf (s .states2) (s .labels2) (s .initial2) in
-    let side = chosen (s .side) (s .state) shape1 (s .hops1 .now) shape2 (s .hops2 .now) in
-    let part = spanOf side (s .state) (s .hops1 .now) (s .hops2 .now) in (
-      returned-of 2 (length (s .answer .now)) (c .before .before .before .accept .ensures) (t .0),
-      answer-after-of spanNumbers 2 (s .answer .now) {y = part} (c .before .before .before .before .before .before .span-of .ensures) (t .1),
-    )
+returns-2 : tie.Need-returns-2
+returns-2 c =
+    let w = c .before .before in
+    let part = w .before .before .before .span-of in
+    let l = w .before .before .before .before .if1 .left in
+    let old = w .before .before .before .before .before .before .before .before .args .answer .now in
+    (long-returns accepted 2 _ l, rw (part .ensures) at (long-answer-after 2 (spanNumbers (part .result)) old refl l (w .put-figures .ensures)))
 
 pub hops-of-into-spec : {M : Type 1} → statement M
 hops-of-into-spec =
-    tie.close
-    (tie.spec
-    span-of-requires
-    slice-aggregate-put-answer
-    accept-requires
-    put-answer-requires
-    same-length
-    returns)
+    tie.close (tie.spec returns span-of-requires slice-aggregate-put-figures put-figures-requires same-length returns-2)

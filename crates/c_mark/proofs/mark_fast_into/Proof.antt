@@ -1,11 +1,7 @@
 -- `c_mark::mark_fast_into` meets its contract: where the answer slice is too short, only the answer
 -- is found. Assumes nothing.
-use mathlib.Core.Path.{ap}
-use Rattle.mark_entry_fast.specs.declared.Counted.{Counted}
 use Rattle.mark_entry_fast.specs.Fast.{markFastOf}
-use Rattle.c_mark.specs.Numbers.{countedNumbers}
-use Rattle.c_answer.proofs.Answers.{returned-of}
-use Rattle.c_answer.proofs.AnswerAfter.{answer-after-of, short-answer-after, short-kept, left-long}
+use Rattle.c_answer.proofs.AnswerAfter.{short-answer-after, short-kept, long-left}
 use borrow.Author.Needs.{needs}
 use Rattle.c_mark.proofs.mark_fast_into.Statement.{statement}
 use Rattle.c_mark.proofs.mark_fast_into.Tie as tie
@@ -22,7 +18,7 @@ same-length c = search needs
 returns : tie.Need-returns
 returns c =
     let l = c .before .before .before .if1 .taken in
-    (returned-of 4 _ (c .before .mark-answer .ensures) (c .short-number .ensures), (short-kept 4 _ _ _ l, short-answer-after 4 _ _ l))
+    (rw (c .before .mark-answer .ensures) at (c .short-number .ensures), (short-kept 4 _ _ _ l, short-answer-after 4 _ _ l))
 
 mark-fast-requires : tie.Need-mark-fast-requires
 mark-fast-requires c κs = search needs
@@ -41,8 +37,8 @@ unfolding markFastOf
 returns-2 c =
     let m = c .before .before .before .before .before .before .mark-fast .ensures in
     let l = c .before .before .before .before .before .before .before .before .if1 .left in
-    let t = c .before .before .put-figure-answer .ensures in
-    (returned-of 4 _ (ap (λ (q : Counted). q .answer) (m .0)) (t .0), (left-long 4 _ _ _ l (m .1), answer-after-of countedNumbers 4 _ (m .0) (t .1)))
+    let t = rw (m .0) at (c .before .before .put-figure-answer .ensures) in
+    rw long-left (t .0, (m .1, t .1))
 
 pub mark-fast-into-spec : {M : Type 1} → statement M
 mark-fast-into-spec =

@@ -1,13 +1,7 @@
 -- `c_mark::mark_into` meets its contract: where the answer slice is too short, only the answer is
 -- found. Assumes nothing.
 use borrow.Author.Needs.{needs}
-use lib.ListN.{length}
-use mathlib.Core.List.{[]}
-use Rattle.graph.specs.declared.Answer.{Answer}
-use Rattle.mark_entry.specs.Mark.{markAnswer, markOutput}
-use Rattle.c_answer.specs.Numbers.{shapeOf, numbersOf}
-use Rattle.c_answer.proofs.Answers.{returned-of}
-use Rattle.c_answer.proofs.AnswerAfter.{answer-after-of, short-answer-after, short-kept, left-long}
+use Rattle.c_answer.proofs.AnswerAfter.{short-answer-after, short-kept, long-left}
 use Rattle.c_mark.proofs.mark_into.Statement.{statement}
 use Rattle.c_mark.proofs.mark_into.Tie as tie
 
@@ -23,9 +17,7 @@ same-length c = search needs
 returns : tie.Need-returns
 returns c =
     let l = c .before .before .before .if1 .taken in
-    let s = c .before .before .before .before .before .before .before .args in
-    let r = markAnswer (shapeOf (s .states) (s .labels) (s .initial)) (s .hops .now) (s .sense) (s .marks .now) in
-    (returned-of 3 _ {b = r} (c .before .mark-answer .ensures) (c .short-number .ensures), (short-kept 3 _ _ _ l, short-answer-after 3 _ _ l))
+    (rw (c .before .mark-answer .ensures) at (c .short-number .ensures), (short-kept 3 _ _ _ l, short-answer-after 3 _ _ l))
 
 mark-requires : tie.Need-mark-requires
 mark-requires c κs = search needs
@@ -43,17 +35,8 @@ returns-2 : tie.Need-returns-2
 returns-2 c =
     let m = c .before .before .before .before .before .before .mark .ensures in
     let l = c .before .before .before .before .before .before .before .before .if1 .left in
-    let t = c .before .before .put-plain-answer .ensures in
-    let s = c .before .before .before .before .before .before .before .before .before .before .before .before .args in
-    let sh = shapeOf (s .states) (s .labels) (s .initial) in
-    let r = markAnswer sh (s .hops .now) (s .sense) (s .marks .now) in
-    let old = s .answer .now in (
-      returned-of 3 (length old) {b = r} (m .0) (t .0),
-      (
-        left-long 3 old (markOutput sh (s .hops .now) (s .sense) (s .marks .now)) (s .marks .now) l (m .1),
-        answer-after-of (λ (a : Answer). numbersOf a []) 3 old {y = r} (m .0) (t .1),
-      ),
-    )
+    let t = rw (m .0) at (c .before .before .put-plain-answer .ensures) in
+    rw long-left (t .0, (m .1, t .1))
 
 pub mark-into-spec : {M : Type 1} → statement M
 mark-into-spec =

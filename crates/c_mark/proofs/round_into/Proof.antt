@@ -1,12 +1,7 @@
 -- `c_mark::round_into` meets its contract: what is written and returned is that of the round
 -- question's result. Assumes nothing.
 use borrow.Author.Needs.{needs}
-use mathlib.Core.Path.{ap}
-use Rattle.mark_entry_round.specs.declared.RoundAnswer.{RoundAnswer}
 use Rattle.mark_entry_round.specs.Question.{questionOf}
-use Rattle.c_mark.specs.Numbers.{roundNumbers}
-use Rattle.c_answer.proofs.Answers.{returned-of}
-use Rattle.c_answer.proofs.AnswerAfter.{answer-after-of}
 use Rattle.c_mark.proofs.round_into.Statement.{statement}
 use Rattle.c_mark.proofs.round_into.Tie as tie
 
@@ -24,10 +19,7 @@ same-length c = search needs
 
 returns : tie.Need-returns
 unfolding questionOf
-returns c =
-    let e = c .before .before .before .before .before .round-question .ensures in
-    let t = c .before .before .put-figure-answer .ensures in
-    (returned-of 4 _ (ap (λ (q : RoundAnswer). q .answer) e) (t .0), answer-after-of roundNumbers 4 _ e (t .1))
+returns c = rw (c .before .before .before .before .before .round-question .ensures) at (c .before .before .put-figure-answer .ensures)
 
 pub round-into-spec : {M : Type 1} → statement M
 round-into-spec =
