@@ -15,10 +15,10 @@ use mark_batch_filter::filter;
 use mark_batch_spread::gather;
 use mark_batch_spread::pass_on;
 use mark_batch_spread::pass_once;
+use mark_batch_tables::Key;
+use mark_batch_tables::clear;
 use mark_batch_tables::put_answers;
-use mark_batch_tables::put_ends;
-use mark_batch_tables::put_froms;
-use mark_batch_tables::put_labels;
+use mark_batch_tables::put_keys;
 ghost use Prim.Native.Nat.{_+_, _<_, _≤_};
 ghost use lib.ListN.{length};
 ghost use Rattle.graph.specs.Hops.{count};
@@ -142,14 +142,15 @@ pub fn try_batch(
     let mut ends = [0u64; MOST_STATES];
     let mut labels = [0u64; MOST_LABELS];
     let mut answers = [0u64; MOST_STATES];
-    put_ends(hops, base, m, &mut ends);
+    put_keys(shape, hops, Key::To, base, m, &mut ends);
     closing_table(hops, marks, sorted, n, sense, &mut ends);
     after_table(hops, marks, sorted, n, sense, &mut ends);
-    put_labels(shape, hops, base, m, &mut labels);
+    put_keys(shape, hops, Key::Label, base, m, &mut labels);
     put_answers(shape, hops, &labels, &ends, &mut answers);
     before_table(hops, marks, sorted, n, sense, &mut answers);
     record_touched(&ends, &answers, bit, touched);
-    put_froms(hops, base, m, &mut ends);
+    clear(&mut ends);
+    put_keys(shape, hops, Key::From, base, m, &mut ends);
     filter(hops, marks, &ends, &answers)
 }
 

@@ -304,9 +304,10 @@ fn one_less(plain: usize) -> usize {
     0
 }
 
-// Sweeps until one takes no mark. After a sweep that takes some, the batches run that are pending
-// by it: where marks fall one after the other, sweeps alone would run all batches for each of them.
-// The first sweeps record nothing, so that no batch is pending after them.
+// Sweeps until one takes no mark; where no hop is silent there is none to take, and no sweep. After
+// a sweep that takes some, the batches run that are pending by it: where marks fall one after the
+// other, sweeps alone would run all batches for each of them. The first sweeps record nothing, so
+// that no batch is pending after them.
 fn sweep_to_fixpoint(
     shape: Shape,
     hops: &[u16],
@@ -323,7 +324,7 @@ fn sweep_to_fixpoint(
     let mut touched = [0u64; MOST_STATES];
     let mut was = [ALL_BATCHES; WORD_BITS];
     let mut plain = PLAIN_SWEEPS;
-    let mut fell = 1;
+    let mut fell = n;
     while fell > 0 {
         let recorded = recorded_after(plain);
         fell = sweep(shape, hops, sorted, n, sense, recorded, marks, &mut touched);

@@ -11,9 +11,15 @@ use lib.Bits.{bitOr}
 use lib.Dec.{eqb, ltb}
 use lib.ListN.{length, getD, set, replicate, length-set}
 use Rattle.base_bounded.proofs.Bools.{lt-or-le, eq-or-not}
+use Rattle.graph.specs.Hops.{count}
+use Rattle.graph.specs.Answers.{most-states}
+use Rattle.graph.specs.declared.Shape.{Shape}
+use Rattle.graph_check.specs.Check.{Admitted}
 use Rattle.base_bitset.specs.Internal.Bits.{bitIn}
 use Rattle.base_bitset.proofs.Laws.{bit-one, table-none, table-or, or-nothing}
-use Rattle.mark_batch_tables.specs.Internal.BatchTables.{KeyTable}
+use Rattle.mark_batch_tables.specs.Internal.BatchTables.{keyOf, KeyTable}
+use Rattle.mark_batch_tables.specs.declared.Key.{Key}
+use Rattle.mark_batch_tables.specs.declared.Key.the-variants.{From, Label, To}
 
 eqb-swap : (a b : ℕ) → eqb a b ≡ eqb b a
 eqb-swap a b = go (eq-or-not a b) where
@@ -28,6 +34,12 @@ and-false false = refl
 and-true : (x : Bool) → (x && true) ≡ x
 and-true true = refl
 and-true false = refl
+
+-- a key is a place of a table
+pub key-in : {sh : Shape} {hs : List ℕ} → Admitted sh hs → (key : Key) {i : ℕ} → i < count hs → keyOf key hs i < most-states
+key-in a From {i} l = omega (arith, a .range .from-in i l, a .states-most)
+key-in a Label {i} l = omega (arith, a .range .label-in i l, a .labels-most)
+key-in a To {i} l = omega (arith, a .range .to-in i l, a .states-most)
 
 -- a bit put leaves the table as long as it was
 pub put-length : (ws : List ℕ) (at b : ℕ) {new : List ℕ} → new ≡ set ws at (bitOr (getD ws at 0) (2 ^ b)) → length new ≡ length ws

@@ -1,9 +1,10 @@
 // Bitset tables of up to 64 hops (transitions) tried together: at which states they begin and end,
 // which labels they have, and which states answer them.
 // For the weaker senses. Bit b of a word stands for the hop at place base + b, so that one
-// operation serves 64 hops tried. The tables have one word a state or a label: `put_froms`,
-// `put_ends` and `put_labels`, and `put_answers` for the states that answer. How bits are
-// propagated along marked hops in between, and which marks are then taken, does not matter here.
+// operation serves 64 hops tried. The tables have one word a state or a label: `put_keys` for where
+// the hops tried begin or end or for their labels, `put_answers` for the states that answer. How
+// bits are propagated along marked hops in between, and which marks are then taken, does not matter
+// here.
 // Uses `base_bitset` for words as sets and `graph` for hops.
 use base_bitset::bit_of;
 use base_bitset::sized;
@@ -20,12 +21,11 @@ ghost use mathlib.Core.Path.{_≡_};
 ghost use Prim.Native.Nat.{_+_, _<_, _≤_, _^_};
 ghost use lib.Bits.{bitOr};
 ghost use lib.ListN.{getD, set, replicate};
-ghost use Rattle.graph.specs.Hops.{count, from, label, to};
+ghost use Rattle.graph.specs.Hops.{count};
 ghost use Rattle.graph.specs.Answers.{most-states};
 ghost use Rattle.graph_check.specs.Check.{Admitted};
-ghost use Rattle.graph_successors.specs.Internal.SuccessorIndex.{Indexable};
 ghost use Rattle.base_bitset.specs.Internal.Bits.{word-bits};
-ghost use Rattle.mark_batch_tables.specs.Internal.BatchTables.{KeyTable, StayTable, AnswerTable};
+ghost use Rattle.mark_batch_tables.specs.Internal.BatchTables.{keyOf, KeyTable, StayTable, AnswerTable};
 
 // No bit anywhere.
 pub fn clear(words: &mut [u64; MOST_STATES])
@@ -43,47 +43,45 @@ fn put_bit(words: &mut [u64; MOST_STATES], s: u16, b: usize)
     words[wide(s)] |= bit_of(b);
 }
 
-// Bit b where the hop at place base + b ends, for each b below m.
-pub fn put_ends(hops: &[u16], base: usize, m: usize, words: &mut [u64; MOST_STATES])
-    requires ready { ⌜ Indexable (now hops) ⌝ }
-    requires batch { ⌜ m ≤ word-bits ⌝ }
-    requires within { ⌜ base + m ≤ count (now hops) ⌝ }
-    ensures { λ r. ⌜ KeyTable (to (now (hops .entry))) base m (now (words .exit)) ⌝ }
+// Which number of a hop is its key in a table.
+pub enum Key {
+    From,
+    Label,
+    To,
+}
+
+// The key of the hop at place i.
+fn key_at(hops: &[u16], key: Key, i: usize) -> u16
+    requires { ⌜ i < count (now hops) ⌝ }
+    ensures { λ r. ⌜ r ≡ keyOf key (now (hops .entry)) i ⌝ }
 {
-    clear(words);
-    let mut b = 0;
-    while b < m {
-        put_bit(words, to_at(hops, base + b).0, b);
-        b += 1;
+    match key {
+        Key::From => from_at(hops, i).0,
+        Key::Label => label_at(hops, i).0,
+        Key::To => to_at(hops, i).0,
     }
 }
 
-// Bit b where the hop at place base + b begins.
-pub fn put_froms(hops: &[u16], base: usize, m: usize, words: &mut [u64; MOST_STATES])
-    requires ready { ⌜ Indexable (now hops) ⌝ }
-    requires batch { ⌜ m ≤ word-bits ⌝ }
-    requires within { ⌜ base + m ≤ count (now hops) ⌝ }
-    ensures { λ r. ⌜ KeyTable (from (now (hops .entry))) base m (now (words .exit)) ⌝ }
-{
-    clear(words);
-    let mut b = 0;
-    while b < m {
-        put_bit(words, from_at(hops, base + b).0, b);
-        b += 1;
-    }
-}
-
-// Bit b at the label of the hop at place base + b. There are as many labels at most as states.
-pub fn put_labels(shape: Shape, hops: &[u16], base: usize, m: usize, words: &mut [u64; MOST_LABELS])
+// Bit b at the key of the hop at place base + b, for each b below m, in a table that has no bit yet:
+// who has just made it need not clear it. A label is a key as a state is: there are as many labels
+// at most as states.
+pub fn put_keys(
+    shape: Shape,
+    hops: &[u16],
+    key: Key,
+    base: usize,
+    m: usize,
+    words: &mut [u64; MOST_STATES],
+)
     requires admitted { ⌜ Admitted shape (now hops) ⌝ }
     requires batch { ⌜ m ≤ word-bits ⌝ }
     requires within { ⌜ base + m ≤ count (now hops) ⌝ }
-    ensures { λ r. ⌜ KeyTable (label (now (hops .entry))) base m (now (words .exit)) ⌝ }
+    requires empty { ⌜ now words ≡ replicate most-states 0 ⌝ }
+    ensures { λ r. ⌜ KeyTable (keyOf key (now (hops .entry))) base m (now (words .exit)) ⌝ }
 {
-    clear(words);
     let mut b = 0;
     while b < m {
-        put_bit(words, label_at(hops, base + b).0, b);
+        put_bit(words, key_at(hops, key, base + b), b);
         b += 1;
     }
 }

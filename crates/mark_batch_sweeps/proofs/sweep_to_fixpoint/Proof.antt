@@ -1,5 +1,6 @@
 -- `mark_batch_sweeps::sweep_to_fixpoint` meets its contract: the marks hold the marked set, and a
--- sweep that takes no mark leaves a set of the sense. Assumes nothing.
+-- sweep that takes no mark leaves a set of the sense, as do the first marks where no hop is silent.
+-- Assumes nothing.
 use Prim.Native.Nat.{_+_}
 use mathlib.Core.Path.{_≡_, refl, _∙_}
 use native.Mathlib.Omega.{arith}
@@ -23,7 +24,9 @@ abbrev μ-loop : tie.MeasureT-loop
 μ-loop shape hops sorted n sense marks₀ touched₀ was₀ plain₀ lost₀ marks touched was plain lost = markCount hops marks + lost
 
 loop-holds : tie.Need-loop-holds Inv-loop μ-loop
-loop-holds c = (refl, c .before .before .pre .1, refl, λ q. absurd (omega arith))
+loop-holds c =
+    let p = c .before .before .pre in
+    (refl, p .1, refl, λ q i j l o lo hi e. let (k, m, w) = p .0 .ordered .every i l (p .1 .silent i l o) in absurd (omega arith))
 
 recorded-after-requires : tie.Need-recorded-after-requires Inv-loop μ-loop
 recorded-after-requires c κs = search needs

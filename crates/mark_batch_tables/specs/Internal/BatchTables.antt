@@ -6,11 +6,19 @@ use mathlib.Core.Bool.{true, _&&_}
 use mathlib.Core.List.{List}
 use mathlib.Core.Logic.{_⊎_, _↔_}
 use lib.Dec.{eqb, ltb}
+use Rattle.graph.specs.Hops.{from, label, to}
 use Rattle.walk_silent.specs.Silent.{HopOf}
 use Rattle.base_bitset.specs.Internal.Bits.{bitIn}
+use Rattle.mark_batch_tables.specs.declared.Key.{Key}
+use Rattle.mark_batch_tables.specs.declared.Key.the-variants.{From, Label, To}
 
--- the table has bit b where the number `key` of the hop at place base + b says, and nowhere else;
--- `key` is from, label or to
+-- the number of the hop at a place that is its key
+abbrev pub keyOf : Key → List ℕ → ℕ → ℕ
+keyOf From = from
+keyOf Label = label
+keyOf To = to
+
+-- the table has bit b where the key of the hop at place base + b says, and nowhere else
 abbrev pub KeyTable : (ℕ → ℕ) → ℕ → ℕ → List ℕ → Type 0
 KeyTable key base m table = (s b : ℕ) → bitIn table s b ≡ (ltb b m && eqb (key (base + b)) s)
 
