@@ -1,16 +1,14 @@
 -- Laws of the fields of a file. Assumes nothing.
-use Prim.Native.Nat.{ℕ, _+_, _-_, _*_, _≤_}
+use Prim.Native.Nat.{ℕ, _+_, _-_, _≤_}
 use mathlib.Core.Path.{_≡_, ap, _∙_}
 use mathlib.Core.Bool.{Bool, true, false, cond}
 use mathlib.Core.List.{List}
 use native.Mathlib.Nat.{le-refl}
 use native.Mathlib.Omega.{arith}
 use lib.ListN.{length, take, drop, length-drop}
-use lib.Seq.{take-all, getD-drop}
+use lib.Seq.{take-all}
 use Rattle.file_numbers.specs.Internal.Numbers.{most-number}
 use Rattle.file_numbers.specs.Numbers.{numberAt, Bytes}
-use Rattle.file_names.specs.Block.{nameAt}
-use Rattle.file_names.proofs.Blocks.{name-most}
 use Rattle.file_lines.specs.LineField.{linesLength}
 use Rattle.file_lines.specs.Internal.LineField.{LinesLie}
 use Rattle.file_lines.specs.declared.Lines.{Lines}
@@ -85,7 +83,7 @@ module _ (b : List ℕ) where
     go false = omega arith
 
   -- where there is a list of lines, it lies before the file's end
-  pub lines-lie : neededLength b ≤ length b → {ls : Lines} {n : ℕ} → ls ≡ linesIn b → n ≡ hopsIn b → LinesLie b ls n
+  pub lines-lie : neededLength b ≡ length b → {ls : Lines} {n : ℕ} → ls ≡ linesIn b → n ≡ hopsIn b → LinesLie b ls n
   unfolding neededLength linesIn
   lines-lie l {ls} {n} e d = rw (e, d) (λ t. omega (arith, lines-on t))
 
@@ -123,15 +121,3 @@ module _ (b : List ℕ) where
 pub rest-part : (b : List ℕ) {p : ℕ} → p ≡ namesPlace b → take (length b - p) (drop p b) ≡ restOf b
 unfolding restOf
 rest-part b {p} e = take-all (length b - p) (drop p b) (rw length-drop (le-refl _)) ∙ ap (λ (n : ℕ). drop n b) e
-
--- where the walk over the names ends
-module _ (b : List ℕ) {p n : ℕ} (e : p ≡ namesPlace b) (d : n ≡ namesIn b) {r : ℕ} (h : r ≡ nameAt (take (length b - p) (drop p b)) n) where
-  pub walk-ends : p + r ≡ linesPlace b
-  unfolding linesPlace
-  walk-ends = rw (h, rest-part b e, d) (ap (λ (k : ℕ). k + nameAt (restOf b) (namesIn b)) e)
-
-  pub walk-most : Bytes b → r ≤ 256 * n
-  unfolding restOf
-  walk-most small = rw h (name-most (take (length b - p) (drop p b)) (rw (rest-part b e) rest-small) n) where
-    rest-small : Bytes (restOf b)
-    rest-small i = rw (getD-drop (namesPlace b) b i 0) (small (namesPlace b + i))

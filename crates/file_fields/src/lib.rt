@@ -2,19 +2,18 @@
 // The fields are byte 0 with its bits, the state and label counts, the initial state, the hop
 // field, the name block (label table) and the list of lines. `file_format` asks whether a file
 // holds what its numbers say, `file_read` returns what they hold. A missing byte reads 0, so all of
-// this but what lies behind the hops can be asked of any bytes.
-// Uses `file_numbers`, `file_lines`, `file_hops` and `file_names` for the single fields.
+// this but what lies behind the hops can be asked of any bytes. Where the names end is found from
+// the file's end, so it is asked only of a file that has the length that its numbers say.
+// Uses `file_numbers`, `file_lines` and `file_hops` for the single fields.
 use file_hops::hops::field_length;
 use file_lines::Lines;
 use file_lines::are_zero;
 use file_lines::lines_length;
-use file_names::end_of;
 use file_numbers::byte_at;
 use file_numbers::number_at;
 use graph::Shape;
 ghost use mathlib.Core.Path.{_≡_};
 ghost use mathlib.Core.Bool.{_&&_};
-ghost use Prim.Native.Nat.{_≤_};
 ghost use lib.ListN.{length};
 ghost use Rattle.file_lines.specs.LineField.{zeroLines};
 ghost use Rattle.file_fields.specs.Format.{hasInitial, hasHops, hasNames, hasLines, initialIn, hopsPlace, hopsIn, namesPlace, namesIn};
@@ -102,15 +101,6 @@ pub fn names_in(file: &[u8]) -> u16
     0
 }
 
-// Where the lines begin, if there are any: where the names end.
-pub fn lines_place(file: &[u8]) -> usize
-    requires { ⌜ namesPlace (now file) ≤ length (now file) ⌝ }
-    ensures { λ r. ⌜ r ≡ linesPlace (now (file .entry)) ⌝ }
-{
-    let place = names_place(file);
-    place + end_of(&file[place..], names_in(file) as usize)
-}
-
 // How many bytes the lines take.
 pub fn line_bytes_in(file: &[u8]) -> usize
     ensures { λ r. ⌜ r ≡ lineBytesIn (now (file .entry)) ⌝ }
@@ -121,8 +111,17 @@ pub fn line_bytes_in(file: &[u8]) -> usize
     0
 }
 
+// Where the lines begin, if there are any: where the names end. The lines are the last field, so no
+// length of a name is read again.
+fn lines_place(file: &[u8]) -> usize
+    requires { ⌜ neededLength (now file) ≡ length (now file) ⌝ }
+    ensures { λ r. ⌜ r ≡ linesPlace (now (file .entry)) ⌝ }
+{
+    file.len() - line_bytes_in(file)
+}
+
 pub fn lines_in(file: &[u8]) -> Lines
-    requires { ⌜ namesPlace (now file) ≤ length (now file) ⌝ }
+    requires { ⌜ neededLength (now file) ≡ length (now file) ⌝ }
     ensures { λ r. ⌜ r ≡ linesIn (now (file .entry)) ⌝ }
 {
     let stand = has_lines(file);
@@ -155,7 +154,7 @@ pub fn block_place(file: &[u8]) -> usize
 
 // It ends where the lines begin.
 pub fn block_length(file: &[u8]) -> usize
-    requires { ⌜ namesPlace (now file) ≤ length (now file) ⌝ }
+    requires { ⌜ neededLength (now file) ≡ length (now file) ⌝ }
     ensures { λ r. ⌜ r ≡ blockLength (now (file .entry)) ⌝ }
 {
     if has_names(file) {
@@ -164,22 +163,20 @@ pub fn block_length(file: &[u8]) -> usize
     0
 }
 
-// Whether bit 3 stands over lines that are all 0, where the lines begin at `lines`.
-fn redundant_lines(file: &[u8], lines: usize) -> bool
-    requires place { ⌜ lines ≡ linesPlace (now file) ⌝ }
-    requires within { ⌜ neededLength (now file) ≤ length (now file) ⌝ }
-    ensures { λ r. ⌜ r ≡ (hasLines (now (file .entry)) && zeroLines (now (file .entry)) lines (hopsIn (now (file .entry)))) ⌝ }
+// Whether bit 3 stands over lines that are all 0.
+fn redundant_lines(file: &[u8]) -> bool
+    requires { ⌜ neededLength (now file) ≡ length (now file) ⌝ }
+    ensures { λ r. ⌜ r ≡ (hasLines (now (file .entry)) && zeroLines (now (file .entry)) (linesPlace (now (file .entry))) (hopsIn (now (file .entry)))) ⌝ }
 {
     if has_lines(file) {
-        return are_zero(file, lines, hops_in(file) as usize);
+        return are_zero(file, lines_place(file), hops_in(file) as usize);
     }
     false
 }
 
-// Row 12: a bit over a field that holds what absence means. The lines begin at `lines`.
-pub fn redundant_bit(file: &[u8], lines: usize) -> bool
-    requires place { ⌜ lines ≡ linesPlace (now file) ⌝ }
-    requires within { ⌜ neededLength (now file) ≤ length (now file) ⌝ }
+// Row 12: a bit over a field that holds what absence means.
+pub fn redundant_bit(file: &[u8]) -> bool
+    requires { ⌜ neededLength (now file) ≡ length (now file) ⌝ }
     ensures { λ r. ⌜ r ≡ redundantBit (now (file .entry)) ⌝ }
 {
     let initial = initial_in(file);
@@ -188,7 +185,7 @@ pub fn redundant_bit(file: &[u8], lines: usize) -> bool
     let initial_bit = has_initial(file);
     let hops_bit = has_hops(file);
     let names_bit = has_names(file);
-    let lines_idle = redundant_lines(file, lines);
+    let lines_idle = redundant_lines(file);
     (initial_bit & (initial == 0))
         | ((hops_bit & (hops == 0)) | ((names_bit & (labels <= 1)) | lines_idle))
 }

@@ -50,7 +50,7 @@ fn rest_answer(file: &[u8], rest: &[u8], place: usize) -> Answer
     if end < rest.len() {
         return refuse(13, place + end);
     }
-    if redundant_bit(file, place + names_end) {
+    if redundant_bit(file) {
         return refuse(12, 0);
     }
     let mut places = [0u16; PLACES];

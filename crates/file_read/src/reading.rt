@@ -17,15 +17,14 @@ use graph::answers::refuse;
 use graph::hops::number_place;
 use graph_check::check;
 ghost use mathlib.Core.Path.{_≡_};
-ghost use Prim.Native.Nat.{_≤_};
 ghost use lib.ListN.{length};
 ghost use Rattle.graph_check.specs.Check.{checkOf};
-ghost use Rattle.file_fields.specs.Format.{namesPlace, neededLength, shapeIn, hopListIn};
+ghost use Rattle.file_fields.specs.Format.{neededLength, shapeIn, hopListIn};
 ghost use Rattle.file_read.specs.Read.{readAnswer, readOf, readHops, refusedContents, contentsOf};
 
 // 1 to 4, asked of a copy of the hops: a refusal must not have written any.
 fn hops_answer(file: &[u8]) -> Answer
-    requires { ⌜ neededLength (now file) ≤ length (now file) ⌝ }
+    requires { ⌜ neededLength (now file) ≡ length (now file) ⌝ }
     ensures { λ r. ⌜ r ≡ checkOf (shapeIn (now (file .entry))) (hopListIn (now (file .entry))) ⌝ }
 {
     let count = hops_in(file) as usize;
@@ -74,7 +73,7 @@ pub fn refusal(answer: Answer) -> Contents
 }
 
 fn contents(file: &[u8]) -> Contents
-    requires { ⌜ namesPlace (now file) ≤ length (now file) ⌝ }
+    requires { ⌜ neededLength (now file) ≡ length (now file) ⌝ }
     ensures { λ r. ⌜ r ≡ contentsOf (now (file .entry)) ⌝ }
 {
     let answer = accept();

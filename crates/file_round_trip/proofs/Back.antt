@@ -260,7 +260,7 @@ module _ (sh : Shape) (hs ns : List ℕ) (whole : length hs % numbers-a-hop ≡ 
 
       format-back : formatAnswer file ≡ accepted
       format-back =
-          sym (names-good file short-back (bits-back .4) (omega (arith, need-back)) (omega (arith, need-back)) refl busy-back clean-back)
+          sym (names-good file short-back (bits-back .4) need-back refl busy-back clean-back)
 
       shape-back : shapeIn file ≡ sh
       unfolding shapeIn

@@ -1,50 +1,21 @@
--- `file_fields::lines_place` meets its contract: the code is the definition, and a name takes 256
--- bytes at most. Assumes nothing.
+-- `file_fields::lines_place` meets its contract: the lines are the last field of a file that has
+-- the length that its numbers say. Assumes nothing.
 use native.Mathlib.Omega.{arith}
-use Rattle.file_fields.proofs.Laws.{walk-ends, walk-most}
+use Rattle.file_fields.specs.Format.{neededLength}
 use borrow.Author.Needs.{needs}
 use Rattle.file_fields.proofs.lines_place.Statement.{statement}
 use Rattle.file_fields.proofs.lines_place.Tie as tie
 
-names-place-requires : tie.Need-names-place-requires
-names-place-requires c κs = search needs
+line-bytes-in-requires : tie.Need-line-bytes-in-requires
+line-bytes-in-requires c κs = search needs
 
-sub-end-of : tie.Need-sub-end-of
-sub-end-of c = search needs
-
-part-end-of-start : tie.Need-part-end-of-start
-part-end-of-start c = search needs
-
-part-end-of-end : tie.Need-part-end-of-end
-part-end-of-end c = search needs
-
-names-in-requires : tie.Need-names-in-requires
-names-in-requires c κs = search needs
-
-cast-end-of : tie.Need-cast-end-of
-cast-end-of c = search needs
-
-end-of-requires : tie.Need-end-of-requires
-end-of-requires c κs = search needs
-
-add-result : tie.Need-add-result
-add-result c =
-    let s = c .before .before .before .before in
-    omega (arith, walk-most (s .before .args .file .now) (c .before .before .before .names-place .ensures) (c .before .names-in .ensures) (c .end-of .ensures) (λ i. omega (arith, s .shared-slice-known .given i)))
+sub-result : tie.Need-sub-result
+unfolding neededLength
+sub-result c = omega arith
 
 returns : tie.Need-returns
-returns c = walk-ends (c .before .before .before .before .before .args .file .now) (c .before .before .before .names-place .ensures) (c .before .names-in .ensures) (c .end-of .ensures)
+unfolding neededLength
+returns c = omega arith
 
 pub lines-place-spec : {M : Type 1} → statement M
-lines-place-spec =
-    tie.close
-    (tie.spec
-    names-place-requires
-    sub-end-of
-    part-end-of-start
-    part-end-of-end
-    names-in-requires
-    cast-end-of
-    end-of-requires
-    add-result
-    returns)
+lines-place-spec = tie.close (tie.spec line-bytes-in-requires sub-result returns)

@@ -11,6 +11,9 @@ use Rattle.file_fields.proofs.redundant_lines.Tie as tie
 has-lines-requires : tie.Need-has-lines-requires
 has-lines-requires c κs = search needs
 
+lines-place-requires : tie.Need-lines-place-requires
+lines-place-requires c κs = search needs
+
 hops-in-requires : tie.Need-hops-in-requires
 hops-in-requires c κs = search needs
 
@@ -19,10 +22,10 @@ cast-are-zero c = search needs
 
 are-zero-requires : tie.Need-are-zero-requires
 unfolding neededLength
-are-zero-requires c κs = omega (arith, lines-on (c .before .before .before .before .args .file .now) (sym (c .before .before .has-lines .ensures) ∙ c .before .if1 .taken))
+are-zero-requires c κs = omega (arith, lines-on (c .before .before .before .before .before .args .file .now) (sym (c .before .before .before .has-lines .ensures) ∙ c .before .before .if1 .taken))
 
 returns : tie.Need-returns
-returns c = rw (sym (c .before .before .before .has-lines .ensures) ∙ c .before .before .if1 .taken) (cc)
+returns c = rw (sym (c .before .before .before .before .has-lines .ensures) ∙ c .before .before .before .if1 .taken) (cc)
 
 returns-2 : tie.Need-returns-2
 returns-2 c = rw (sym (c .before .has-lines .ensures) ∙ c .if1 .left)
@@ -32,6 +35,7 @@ redundant-lines-spec =
     tie.close
     (tie.spec
     has-lines-requires
+    lines-place-requires
     hops-in-requires
     cast-are-zero
     are-zero-requires

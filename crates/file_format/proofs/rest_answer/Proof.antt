@@ -4,7 +4,7 @@ use mathlib.Core.Path.{_∙_}
 use native.Mathlib.Omega.{arith}
 use Rattle.file_names.proofs.Blocks.{name-most}
 use Rattle.file_fields.proofs.Laws.{line-bytes-most}
-use Rattle.file_format.proofs.Answers.{end-is, rest-within, rest-early, rest-left, rest-searchable, rest-redundant, rest-bad, rest-good}
+use Rattle.file_format.proofs.Answers.{rest-exact, rest-early, rest-left, rest-searchable, rest-redundant, rest-bad, rest-good}
 use borrow.Author.Needs.{needs}
 use Rattle.file_format.proofs.rest_answer.Statement.{statement}
 use Rattle.file_format.proofs.rest_answer.Tie as tie
@@ -49,13 +49,10 @@ returns-2 c =
     let l = c .before .before .before in
     c .refuse2 .ensures ∙ rest-left (l .before .before .before .before .before .pre) (l .before .before .names-in .ensures) (l .before .end-of .ensures) (l .line-bytes-in .ensures) (c .before .if2 .taken)
 
-add-redundant-bit : tie.Need-add-redundant-bit
-add-redundant-bit c = search needs
-
 redundant-bit-requires : tie.Need-redundant-bit-requires
 redundant-bit-requires c κs =
     let l = c .before .before in
-    (end-is (l .before .before .before .before .before .pre) (l .before .before .names-in .ensures) (l .before .end-of .ensures) (l .line-bytes-in .ensures), rest-within (l .before .before .before .before .before .pre) (l .before .before .names-in .ensures) (l .before .end-of .ensures) (l .line-bytes-in .ensures) (omega arith))
+    rest-exact (l .before .before .before .before .before .pre) (l .before .before .names-in .ensures) (l .before .end-of .ensures) (l .line-bytes-in .ensures) (omega arith)
 
 refuse-requires-3 : tie.Need-refuse-requires-3
 refuse-requires-3 c κs = search needs
@@ -63,7 +60,7 @@ refuse-requires-3 c κs = search needs
 returns-3 : tie.Need-returns-3
 returns-3 c =
     let l = c .before .before .before .before .before in
-    c .refuse3 .ensures ∙ rest-redundant (l .before .before .before .before .before .pre) (l .before .before .names-in .ensures) (l .before .end-of .ensures) (l .line-bytes-in .ensures) (omega arith) (omega arith) (c .before .before .redundant-bit .ensures) (c .before .if3 .taken)
+    c .refuse3 .ensures ∙ rest-redundant (l .before .before .before .before .before .pre) (l .before .before .names-in .ensures) (l .before .end-of .ensures) (l .line-bytes-in .ensures) (omega arith) (c .before .before .redundant-bit .ensures) (c .before .if3 .taken)
 
 slice-aggregate-first-bad : tie.Need-slice-aggregate-first-bad
 slice-aggregate-first-bad c = search needs
@@ -82,7 +79,7 @@ refuse-requires-4 c κs = search needs
 returns-4 : tie.Need-returns-4
 returns-4 c =
     let l = c .before .before .before .before .before .before .before .before .before in
-    c .refuse4 .ensures ∙ rest-bad (l .before .before .before .before .before .pre) (l .before .before .names-in .ensures) (l .before .end-of .ensures) (l .line-bytes-in .ensures) (omega arith) (omega arith) (c .before .before .before .before .before .before .redundant-bit .ensures) (c .before .before .before .before .before .if3 .left) (c .before .before .before .first-bad .ensures) (c .before .if4 .taken)
+    c .refuse4 .ensures ∙ rest-bad (l .before .before .before .before .before .pre) (l .before .before .names-in .ensures) (l .before .end-of .ensures) (l .line-bytes-in .ensures) (omega arith) (c .before .before .before .before .before .before .redundant-bit .ensures) (c .before .before .before .before .before .if3 .left) (c .before .before .before .first-bad .ensures) (c .before .if4 .taken)
 
 accept-requires : tie.Need-accept-requires
 accept-requires c κs = search needs
@@ -90,7 +87,7 @@ accept-requires c κs = search needs
 returns-5 : tie.Need-returns-5
 returns-5 c =
     let l = c .before .before .before .before .before .before .before .before .before in
-    c .accept .ensures ∙ rest-good (l .before .before .before .before .before .pre) (l .before .before .names-in .ensures) (l .before .end-of .ensures) (l .line-bytes-in .ensures) (omega arith) (omega arith) (c .before .before .before .before .before .before .redundant-bit .ensures) (c .before .before .before .before .before .if3 .left) (c .before .before .before .first-bad .ensures) (c .before .if4 .left)
+    c .accept .ensures ∙ rest-good (l .before .before .before .before .before .pre) (l .before .before .names-in .ensures) (l .before .end-of .ensures) (l .line-bytes-in .ensures) (omega arith) (c .before .before .before .before .before .before .redundant-bit .ensures) (c .before .before .before .before .before .if3 .left) (c .before .before .before .first-bad .ensures) (c .before .if4 .left)
 
 pub rest-answer-spec : {M : Type 1} → statement M
 rest-answer-spec =
@@ -106,7 +103,6 @@ rest-answer-spec =
     add-refuse
     refuse-requires-2
     returns-2
-    add-redundant-bit
     redundant-bit-requires
     refuse-requires-3
     returns-3

@@ -24,7 +24,7 @@ hops-place-requires : tie.Need-hops-place-requires
 hops-place-requires c κs = search needs
 
 lines-in-requires : tie.Need-lines-in-requires
-lines-in-requires c κs = omega (arith, names-before-end (c .before .before .before .before .args .file .now))
+lines-in-requires c κs = search needs
 
 slice-aggregate-take-hops : tie.Need-slice-aggregate-take-hops
 slice-aggregate-take-hops c = search needs

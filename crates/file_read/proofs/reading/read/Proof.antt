@@ -30,17 +30,17 @@ hops-place-requires : tie.Need-hops-place-requires
 hops-place-requires c κs = search needs
 
 lines-in-requires : tie.Need-lines-in-requires
-lines-in-requires c κs = names-within _ (accepted-sound _ _ (rw (c .before .before .before .before .read-answer .ensures) at (c .before .before .if1 .left)))
+lines-in-requires c κs = accepted-sound _ _ (rw (c .before .before .before .before .read-answer .ensures) at (c .before .before .if1 .left)) .exact
 
 take-hops-requires : tie.Need-take-hops-requires
 take-hops-requires c κs =
     let z = rw (c .before .before .before .before .before .before .read-answer .ensures) at (c .before .before .before .before .if1 .left) in
     let s = accepted-sound _ _ z in
     let n = c .before .before .before .hops-in .ensures in
-    (hops-lie _ (names-within _ s) (c .before .before .hops-place .ensures) n, (lines-lie _ (omega (arith, s .exact)) (c .before .lines-in .ensures) n, omega (arith, read-accepts _ _ z .1, n)))
+    (hops-lie _ (names-within _ s) (c .before .before .hops-place .ensures) n, (lines-lie _ (s .exact) (c .before .lines-in .ensures) n, omega (arith, read-accepts _ _ z .1, n)))
 
 contents-requires : tie.Need-contents-requires
-contents-requires c κs = names-within _ (accepted-sound _ _ (rw (c .before .before .before .before .before .before .before .before .before .read-answer .ensures) at (c .before .before .before .before .before .before .before .if1 .left)))
+contents-requires c κs = accepted-sound _ _ (rw (c .before .before .before .before .before .before .before .before .before .read-answer .ensures) at (c .before .before .before .before .before .before .before .if1 .left)) .exact
 
 same-length : tie.Need-same-length
 same-length c = search needs

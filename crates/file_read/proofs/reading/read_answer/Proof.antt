@@ -17,9 +17,7 @@ returns : tie.Need-returns
 returns c = format-speaks _ _ (c .before .before .format-answer .ensures) (c .if1 .taken)
 
 hops-answer-requires : tie.Need-hops-answer-requires
-hops-answer-requires c κs =
-    let s = format-sound _ (ap (λ (x : Answer). x .number) (sym (c .before .before .format-answer .ensures)) ∙ c .if1 .left) in
-    omega (arith, s .exact)
+hops-answer-requires c κs = format-sound _ (ap (λ (x : Answer). x .number) (sym (c .before .before .format-answer .ensures)) ∙ c .if1 .left) .exact
 
 returns-2 : tie.Need-returns-2
 returns-2 c = graph-speaks _ _ (c .before .before .before .before .before .format-answer .ensures) (c .before .before .before .if1 .left) (c .before .before .hops-answer .ensures) (c .if2 .taken)
