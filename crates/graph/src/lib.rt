@@ -24,6 +24,9 @@ pub const NUMBERS_A_HOP: usize = 4;
 
 pub const MOST_NUMBERS: usize = NUMBERS_A_HOP * MOST_HOPS;
 
+// Where the to stands among a hop's numbers, for a sort that reads the list by one of its columns.
+pub const TO_COLUMN: usize = 2;
+
 // A hop: from one state, by a label, to another. Label 0 is silent. Its source line, 0 for none, is
 // carried along: order, search and meaning do not look at it.
 // In the field: a transition of a labelled transition system; label 0 is tau.

@@ -7,6 +7,7 @@
 // required of a hop list.
 use graph::MOST_HOPS;
 use graph::NUMBERS_A_HOP;
+use graph::TO_COLUMN;
 use graph::hops::hop_count;
 use graph_counting_sort::fill;
 use graph_counting_sort::key_starts;
@@ -15,16 +16,13 @@ ghost use Rattle.graph.specs.Hops.{count};
 ghost use Rattle.graph_successors.specs.Internal.SuccessorIndex.{Indexable};
 ghost use Rattle.graph_predecessors.specs.Internal.PredecessorIndex.{PredecessorStarts, PredecessorPlaces};
 
-// Where the to stands among the numbers of a hop: the sort reads the list by this column.
-const TO: usize = 2;
-
 // Where the hops into each state begin.
 pub fn predecessor_starts(hops: &[u16]) -> [u16; STARTS]
     requires { ⌜ Indexable (now hops) ⌝ }
     ensures { λ r. ⌜ PredecessorStarts (now (hops .entry)) r ⌝ }
 {
     let n = hop_count(hops);
-    key_starts(hops, NUMBERS_A_HOP, TO, n)
+    key_starts(hops, NUMBERS_A_HOP, TO_COLUMN, n)
 }
 
 // Each place in its slot: with an empty order the sort puts the places themselves.
@@ -34,5 +32,5 @@ pub fn places_of(hops: &[u16], begins: &[u16; STARTS]) -> [u16; MOST_HOPS]
     ensures { λ r. ⌜ PredecessorPlaces (now (hops .entry)) (count (now (hops .entry))) r ⌝ }
 {
     let n = hop_count(hops);
-    fill(hops, NUMBERS_A_HOP, TO, n, &hops[..0], *begins)
+    fill(hops, NUMBERS_A_HOP, TO_COLUMN, n, &hops[..0], *begins)
 }
