@@ -416,7 +416,7 @@ ended() {
 busy() {
     afresh
     cat "$work/emit" - >"$work/meanwhile" <<'END'
-sleep 300 &
+sleep 60 &
 echo "$$ $! ." >"$work/pid"
 emit 01 01
 wait
@@ -461,7 +461,7 @@ for signal in HUP:129 INT:130 TERM:143; do
 done
 busy
 cat "$work/emit" - >"$work/meanwhile" <<'END'
-sleep 300 &
+sleep 60 &
 echo "$$ $! ." >"$work/pid"
 for more in $(seq 100); do
     emit 01 10
