@@ -17,7 +17,7 @@ use Rattle.graph.specs.declared.Shape.{Shape}
 use Rattle.graph_check.specs.Check.{Admitted}
 use Rattle.base_bitset.specs.Internal.Bits.{bitIn}
 use Rattle.base_bitset.proofs.Laws.{bit-one, table-none, table-or, or-nothing}
-use Rattle.mark_batch_tables.specs.Internal.BatchTables.{keyOf, KeyTable}
+use Rattle.mark_batch_tables.specs.Internal.BatchTables.{numberBy, KeyTable}
 use Rattle.mark_batch_tables.specs.declared.Key.{Key}
 use Rattle.mark_batch_tables.specs.declared.Key.the-variants.{From, Label, To}
 
@@ -36,7 +36,7 @@ and-true true = refl
 and-true false = refl
 
 -- a key is a place of a table
-pub key-in : {sh : Shape} {hs : List ℕ} → Admitted sh hs → (key : Key) {i : ℕ} → i < count hs → keyOf key hs i < most-states
+pub key-in : {sh : Shape} {hs : List ℕ} → Admitted sh hs → (key : Key) {i : ℕ} → i < count hs → numberBy key hs i < most-states
 key-in a From {i} l = omega (arith, a .range .from-in i l, a .states-most)
 key-in a Label {i} l = omega (arith, a .range .label-in i l, a .labels-most)
 key-in a To {i} l = omega (arith, a .range .to-in i l, a .states-most)

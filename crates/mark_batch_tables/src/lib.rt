@@ -25,7 +25,7 @@ ghost use Rattle.graph.specs.Hops.{count};
 ghost use Rattle.graph.specs.Answers.{most-states};
 ghost use Rattle.graph_check.specs.Check.{Admitted};
 ghost use Rattle.base_bitset.specs.Internal.Bits.{word-bits};
-ghost use Rattle.mark_batch_tables.specs.Internal.BatchTables.{keyOf, KeyTable, StayTable, AnswerTable};
+ghost use Rattle.mark_batch_tables.specs.Internal.BatchTables.{numberBy, KeyTable, StayTable, AnswerTable};
 
 // No bit anywhere.
 pub fn clear(words: &mut [u64; MOST_STATES])
@@ -53,7 +53,7 @@ pub enum Key {
 // The key of the hop at place i.
 fn key_at(hops: &[u16], key: Key, i: usize) -> u16
     requires { ⌜ i < count (now hops) ⌝ }
-    ensures { λ r. ⌜ r ≡ keyOf key (now (hops .entry)) i ⌝ }
+    ensures { λ r. ⌜ r ≡ numberBy key (now (hops .entry)) i ⌝ }
 {
     match key {
         Key::From => from_at(hops, i).0,
@@ -62,9 +62,9 @@ fn key_at(hops: &[u16], key: Key, i: usize) -> u16
     }
 }
 
-// Bit b at the key of the hop at place base + b, for each b below m, in a table that has no bit yet:
-// who has just made it need not clear it. A label is a key as a state is: there are as many labels
-// at most as states.
+// Bit b at the key of the hop at place base + b, for each b below m, in a table that has no bit
+// yet: who has just made it need not clear it. A label is a key as a state is: there are as many
+// labels at most as states.
 pub fn put_keys(
     shape: Shape,
     hops: &[u16],
@@ -77,7 +77,7 @@ pub fn put_keys(
     requires batch { ⌜ m ≤ word-bits ⌝ }
     requires within { ⌜ base + m ≤ count (now hops) ⌝ }
     requires empty { ⌜ now words ≡ replicate most-states 0 ⌝ }
-    ensures { λ r. ⌜ KeyTable (keyOf key (now (hops .entry))) base m (now (words .exit)) ⌝ }
+    ensures { λ r. ⌜ KeyTable (numberBy key (now (hops .entry))) base m (now (words .exit)) ⌝ }
 {
     let mut b = 0;
     while b < m {

@@ -5,13 +5,13 @@ use native.Mathlib.Omega.{arith}
 use borrow.Author.Needs.{needs}
 use lib.ListN.{length, length-replicate}
 use Rattle.graph.specs.Answers.{most-states}
-use Rattle.mark_batch_tables.specs.Internal.BatchTables.{keyOf, KeyTable}
+use Rattle.mark_batch_tables.specs.Internal.BatchTables.{numberBy, KeyTable}
 use Rattle.mark_batch_tables.proofs.Keys.{key-in, key-table-none, put-length, key-table-more}
 use Rattle.mark_batch_tables.proofs.put_keys.Statement.{statement}
 use Rattle.mark_batch_tables.proofs.put_keys.Tie as tie
 
 abbrev Inv-loop : tie.InvT-loop
-Inv-loop hops key base m words₀ b₀ words b = (b ≤ m) × (length words ≡ most-states) × KeyTable (keyOf key hops) base b words
+Inv-loop hops key base m words₀ b₀ words b = (b ≤ m) × (length words ≡ most-states) × KeyTable (numberBy key hops) base b words
 
 abbrev μ-loop : tie.MeasureT-loop
 μ-loop hops key base m words₀ b₀ words b = m - b
@@ -22,7 +22,7 @@ loop-holds c =
     let e = st .pre .1 .1 .1 in (
       omega arith,
       ap length e ∙ length-replicate {A = ℕ} most-states 0,
-      key-table-none (keyOf (st .args .key) (st .args .hops .now)) (st .args .base) most-states (st .args .words .now) e,
+      key-table-none (numberBy (st .args .key) (st .args .hops .now)) (st .args .base) most-states (st .args .words .now) e,
     )
 
 add-key-at : tie.Need-add-key-at Inv-loop μ-loop
@@ -51,7 +51,7 @@ loop-again c =
     omega (arith, c .before .key-at .ensures, v .inv .1, key-in (st .pre .0) (st .args .key) {i = st .args .base + v .b} (omega arith)) in (
       omega arith,
       put-length (v .words) (c .before .key-at .result) (v .b) (c .put-bit .ensures) ∙ v .inv .1,
-      key-table-more (keyOf (st .args .key) (st .args .hops .now)) (st .args .base) (v .b) (v .words) (c .put-bit .last .0) (c .before .key-at .result) (v .inv .2)
+      key-table-more (numberBy (st .args .key) (st .args .hops .now)) (st .args .base) (v .b) (v .words) (c .put-bit .last .0) (c .before .key-at .result) (v .inv .2)
           (c .before .key-at .ensures) l (c .put-bit .ensures),
     )
 

@@ -13,10 +13,10 @@ use Rattle.mark_batch_tables.specs.declared.Key.{Key}
 use Rattle.mark_batch_tables.specs.declared.Key.the-variants.{From, Label, To}
 
 -- the number of the hop at a place that is its key
-abbrev pub keyOf : Key → List ℕ → ℕ → ℕ
-keyOf From = from
-keyOf Label = label
-keyOf To = to
+abbrev pub numberBy : Key → List ℕ → ℕ → ℕ
+numberBy From = from
+numberBy Label = label
+numberBy To = to
 
 -- the table has bit b where the key of the hop at place base + b says, and nowhere else
 abbrev pub KeyTable : (ℕ → ℕ) → ℕ → ℕ → List ℕ → Type 0
