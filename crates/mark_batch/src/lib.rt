@@ -4,7 +4,7 @@
 // and which lead to these. Of the marking by batches only this crate looks at the sense. A mark
 // that goes is not of the marked set, since its hop fails even with a larger set. It also records
 // which states the batch touched, as a hint of which nothing is proved.
-// Uses `mark_senses` for what is marked, `mark_sweeps` for what marks keep under removal, for any
+// Uses `mark_senses` for what is marked, `mark_removal` for what marks keep under removal, for any
 // condition, and `mark_batch_spread`, `mark_batch_tables` and `mark_batch_filter` for the steps.
 use base_bitset::WORD_BITS;
 use graph::MOST_HOPS;

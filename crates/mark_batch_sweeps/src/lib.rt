@@ -5,7 +5,7 @@
 // its mark can have touched; this is a heuristic that no proof rests on, since the last sweep runs
 // all. When it takes nothing the marks are those of the marked set, in whatever order the others
 // went.
-// Uses `mark_senses` for what is marked, `mark_sweeps` for what marks keep under removal, for any
+// Uses `mark_senses` for what is marked, `mark_removal` for what marks keep under removal, for any
 // condition, `mark_batch` for one batch, and `walk_topological_order` for the order of silent hops.
 use base_bitset::WORD_BITS;
 use base_bitset::bit_of;
