@@ -118,17 +118,20 @@ fn accepted_reduction(
     }
 }
 
-// A refusal: "with any number but 0 every other figure in the answer is 0".
+// The shape in a refusal: "with any number but 0 every other figure in the answer is 0".
+pub const NO_SHAPE: Shape = Shape {
+    states: 0,
+    labels: 0,
+    initial: 0,
+};
+
+// What is returned with a refusal.
 fn refused_reduction(answer: Answer) -> Reduction
     ensures { λ r. ⌜ r ≡ refusedReduction answer ⌝ }
 {
     Reduction {
         answer,
-        shape: Shape {
-            states: 0,
-            labels: 0,
-            initial: 0,
-        },
+        shape: NO_SHAPE,
         hops: 0,
     }
 }

@@ -10,6 +10,7 @@ use graph::Shape;
 use graph::answers::accept;
 use graph::hops::hop_count;
 use graph::hops::part;
+use reduce_entry::entry::NO_SHAPE;
 use reduce_entry::entry::reduce_answer;
 use shrink_compose::put_identity;
 use shrink_step::Progress;
@@ -87,17 +88,13 @@ fn accepted_shrinking(
     }
 }
 
-// A refusal: "with any number but 0 every other figure in the answer is 0".
+// What is returned with a refusal.
 fn refused_shrinking(answer: Answer) -> Shrinking
     ensures { λ r. ⌜ r ≡ refusedShrinking answer ⌝ }
 {
     Shrinking {
         answer,
-        shape: Shape {
-            states: 0,
-            labels: 0,
-            initial: 0,
-        },
+        shape: NO_SHAPE,
         hops: 0,
         reductions: 0,
     }
