@@ -24,10 +24,10 @@ pub record More (D E : ℕ → ℕ → Type 0) (g t : ℕ) : Type 0 where
   pub only : (x y : ℕ) → E x y → D x y ⊎ ((x ≡ g) × (y ≡ t))
 
 -- what E brings is what D brings, and to t what D brings to g
-record Further (D E : ℕ → ℕ → Type 0) (r : Reach) (g t : ℕ) : Type 0 where
-  kept : {s z : ℕ} → Via D r s z → Via E r s z
-  new : {s : ℕ} → Via D r s g → Via E r s t
-  only : {s z : ℕ} → Via E r s z → Via D r s z ⊎ (Via D r s g × (z ≡ t))
+pub record Further (D E : ℕ → ℕ → Type 0) (r : Reach) (g t : ℕ) : Type 0 where
+  pub kept : {s z : ℕ} → Via D r s z → Via E r s z
+  pub new : {s : ℕ} → Via D r s g → Via E r s t
+  pub only : {s z : ℕ} → Via E r s z → Via D r s z ⊎ (Via D r s g × (z ≡ t))
 
 -- the table `next` is `now` with the bits of g added to t
 abbrev pub SpreadStep : ℕ → ℕ → List ℕ → List ℕ → Type 0
@@ -80,7 +80,7 @@ module _ {D E : ℕ → ℕ → Type 0} {g t : ℕ} (m : More D E g t) where
           last a w stay = inr (rw a stay, w)
           last a w (go {m = y} e p) = absurd (ends y (rw w at e))
 
-    walks-further : Further D E walks g t
+    pub walks-further : Further D E walks g t
     walks-further = record {
       kept = via-mono (m .kept);
       new = λ v. walk (join (star-mono (m .kept) (via-walk v)) (one (m .new)));
@@ -97,11 +97,11 @@ module _ {D E : ℕ → ℕ → Type 0} {g t : ℕ} (m : More D E g t) where
     only-hop here = inl here
     only-hop (hop {s} {t = z} e) = ⊎-elim (λ d. inl (hop d)) (λ (a, w). inr (rw a here, w)) (m .only s z e)
 
-    single-further : Further D E single g t
+    pub single-further : Further D E single g t
     single-further = record { kept = via-mono (m .kept); new = new-hop; only = only-hop }
 
 module _ {D E : ℕ → ℕ → Type 0} {r : Reach} {g t : ℕ} (f : Further D E r g t) (old now next : List ℕ) (gave : SpreadStep g t now next) where
-  forth-more : SpreadForth D r old now → SpreadForth E r old next
+  pub forth-more : SpreadForth D r old now → SpreadForth E r old next
   forth-more h z b = (into, back) where
     into : bitIn next z b ≡ true → (s : ℕ) × Via E r s z × (bitIn old s b ≡ true)
     into e =
@@ -116,10 +116,3 @@ module _ {D E : ℕ → ℕ → Type 0} {r : Reach} {g t : ℕ} (f : Further D E
         gave z b ∙
         ⊎-elim (λ w. or-left (eqb z t && bitIn now g b) (h z b .1 (s, w, o)))
         (λ (w, e). or-right (bitIn now z b) (and-yes (eq-eqb z t e) (h g b .1 (s, w, o)))) (f .only v)
-
-module _ {D E : ℕ → ℕ → Type 0} {g t : ℕ} (m : More D E g t) (old now next : List ℕ) (gave : SpreadStep g t now next) where
-  pub walks-more : ((y : ℕ) → E t y → ⊥) → SpreadForth D walks old now → SpreadForth E walks old next
-  walks-more ends = forth-more (walks-further m ends) old now next gave
-
-  pub single-more : ((x : ℕ) → D x g → ⊥) → SpreadForth D single old now → SpreadForth E single old next
-  single-more begins = forth-more (single-further m begins) old now next gave

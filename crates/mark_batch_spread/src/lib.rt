@@ -12,6 +12,7 @@ use graph::MOST_HOPS;
 use graph::MOST_STATES;
 use graph::hops::from_at;
 use graph::hops::to_at;
+use graph::tables::place_at;
 use graph::tables::wide;
 ghost use mathlib.Core.Path.{_≡_};
 ghost use Prim.Native.Nat.{_<_, _≤_};
@@ -24,7 +25,7 @@ ghost use Rattle.lts.specs.Closes.{single, walks};
 ghost use Rattle.mark_confluence.specs.Internal.MarkSet.{isMarked, markSet};
 ghost use Rattle.walk_topological_order.specs.Internal.TopologicalOrder.{TopologicalOrder};
 ghost use Rattle.mark_batch_spread.specs.Internal.Spread.{SpreadBack, SpreadForth};
-ghost use Rattle.mark_batch_spread.specs.Internal.Step.{spreadTo};
+ghost use Rattle.mark_batch_spread.specs.Internal.Step.{visitAt, endAt, spreadTo, stepAt, spreadOver};
 
 // The array of the order behind a reference is as long as its type says: see `base_bitset::sized`.
 fn sized_order(sorted: &[u16; MOST_HOPS])
@@ -41,6 +42,28 @@ fn marked_at(marks: &[u8], i: usize) -> bool
     marks[i] == 1
 }
 
+// The place in the order that a pass over n hops visits after k others: backwards if `down`.
+fn visit_at(n: usize, down: bool, k: usize) -> usize
+    requires { ⌜ k < n ⌝ }
+    ensures { λ r. ⌜ r ≡ visitAt n down k ⌝ }
+{
+    if down {
+        return n - (k + 1);
+    }
+    k
+}
+
+// The end of the hop at place i that bits come from: its to if they spread back, its from if not.
+fn end_at(hops: &[u16], back: bool, i: usize) -> usize
+    requires { ⌜ i < count (now hops) ⌝ }
+    ensures { λ r. ⌜ r ≡ endAt (now (hops .entry)) back i ⌝ }
+{
+    if back {
+        return wide(to_at(hops, i).0);
+    }
+    wide(from_at(hops, i).0)
+}
+
 // State t gets the bits of s, too.
 fn spread_to(words: &mut [u64; MOST_STATES], s: usize, t: usize)
     requires origin { ⌜ s < most-states ⌝ }
@@ -48,6 +71,50 @@ fn spread_to(words: &mut [u64; MOST_STATES], s: usize, t: usize)
     ensures { λ r. ⌜ now (words .exit) ≡ spreadTo (now (words .entry)) s t ⌝ }
 {
     words[t] |= words[s];
+}
+
+// The hop at place i spreads the bits of one end to the other, if it is marked.
+fn step_at(hops: &[u16], marks: &[u8], back: bool, i: usize, words: &mut [u64; MOST_STATES])
+    requires ready { ⌜ Indexable (now hops) ⌝ }
+    requires capacity { ⌜ count (now hops) ≤ length (now marks) ⌝ }
+    requires within { ⌜ i < count (now hops) ⌝ }
+    ensures { λ r. ⌜ now (words .exit) ≡ stepAt (now (hops .entry)) (now (marks .entry)) back i (now (words .entry)) ⌝ }
+{
+    if marked_at(marks, i) {
+        spread_to(words, end_at(hops, back, i), end_at(hops, !back, i));
+    }
+}
+
+// One pass over the order, forwards or backwards, in which each hop makes its step.
+// The flags are constants of its callers, so that one loop with one proof serves the three.
+fn spread_over(
+    hops: &[u16],
+    marks: &[u8],
+    sorted: &[u16; MOST_HOPS],
+    n: usize,
+    down: bool,
+    back: bool,
+    words: &mut [u64; MOST_STATES],
+)
+    requires ready { ⌜ Indexable (now hops) ⌝ }
+    requires sorted { ⌜ TopologicalOrder (now hops) (now sorted) n ⌝ }
+    requires capacity { ⌜ count (now hops) ≤ length (now marks) ⌝ }
+    ensures { λ r. ⌜ length (now (words .entry)) ≡ most-states ⌝ }
+    ensures { λ r. ⌜ now (words .exit) ≡ spreadOver (now (hops .entry)) (now (marks .entry)) (now (sorted .entry)) n down back (now (words .entry)) ⌝ }
+{
+    sized(words);
+    sized_order(sorted);
+    let mut k = 0;
+    while k < n {
+        step_at(
+            hops,
+            marks,
+            back,
+            place_at(sorted, visit_at(n, down, k)),
+            words,
+        );
+        k += 1;
+    }
 }
 
 // Each state gets the bits of the states that it leads to by walks of marked hops: one pass
@@ -64,16 +131,7 @@ pub fn gather(
     requires capacity { ⌜ count (now hops) ≤ length (now marks) ⌝ }
     ensures { λ r. ⌜ SpreadBack (In (markSet (now (hops .entry)) (now (marks .entry)))) walks (now (words .entry)) (now (words .exit)) ⌝ }
 {
-    sized(words);
-    sized_order(sorted);
-    let mut k = 0;
-    while k < n {
-        let i = wide(sorted[k]);
-        if marked_at(marks, i) {
-            spread_to(words, wide(to_at(hops, i).0), wide(from_at(hops, i).0));
-        }
-        k += 1;
-    }
+    spread_over(hops, marks, sorted, n, false, true, words);
 }
 
 // Each state passes its bits to those that one marked hop leads to: one pass forwards, since in the
@@ -90,16 +148,7 @@ pub fn pass_once(
     requires capacity { ⌜ count (now hops) ≤ length (now marks) ⌝ }
     ensures { λ r. ⌜ SpreadForth (In (markSet (now (hops .entry)) (now (marks .entry)))) single (now (words .entry)) (now (words .exit)) ⌝ }
 {
-    sized(words);
-    sized_order(sorted);
-    let mut k = 0;
-    while k < n {
-        let i = wide(sorted[k]);
-        if marked_at(marks, i) {
-            spread_to(words, wide(from_at(hops, i).0), wide(to_at(hops, i).0));
-        }
-        k += 1;
-    }
+    spread_over(hops, marks, sorted, n, false, false, words);
 }
 
 // Each state passes its bits to all that it leads to by walks of marked hops: one pass backwards.
@@ -115,14 +164,5 @@ pub fn pass_on(
     requires capacity { ⌜ count (now hops) ≤ length (now marks) ⌝ }
     ensures { λ r. ⌜ SpreadForth (In (markSet (now (hops .entry)) (now (marks .entry)))) walks (now (words .entry)) (now (words .exit)) ⌝ }
 {
-    sized(words);
-    sized_order(sorted);
-    let mut k = n;
-    while k > 0 {
-        k -= 1;
-        let i = wide(sorted[k]);
-        if marked_at(marks, i) {
-            spread_to(words, wide(from_at(hops, i).0), wide(to_at(hops, i).0));
-        }
-    }
+    spread_over(hops, marks, sorted, n, true, false, words);
 }
