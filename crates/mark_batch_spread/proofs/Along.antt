@@ -1,6 +1,6 @@
--- The passes along the order. After the steps made so far a table is what the marked hops visited
--- bring, if each step adds to what hops bring; that the order is topological says that it does; and
--- the marked hops that a pass visits are the set that the marks are. Assumes nothing.
+-- The passes over the order. After k steps a table is what the marked hops visited bring, if each
+-- step adds to what those before it bring; that it does is what a topological order is for; and the
+-- marked hops that a pass visits are the set that the marks are. Assumes nothing.
 use Prim.Native.Nat.{ℕ, zero, suc, _+_, _<_, _≤_}
 use mathlib.Core.Path.{_≡_, refl, sym, ap, _∙_}
 use mathlib.Core.Bool.{Bool, true, false, cond, not, _&&_, _||_}
@@ -50,7 +50,7 @@ module _ (hs ms : List ℕ) (back : Bool) (place : ℕ → ℕ) where
   abbrev Done : ℕ → ℕ → ℕ → Type 0
   Done k x y = (j : ℕ) × (j < k) × (on j ≡ true) × (origin j ≡ x) × (receiver j ≡ y)
 
-  -- each of n steps adds to what hops bring
+  -- each of n steps adds to what those before it bring
   abbrev AllFurther : ℕ → Reach → Type 0
   AllFurther n r = (k : ℕ) → k < n → on k ≡ true → Further (Done k) (Done (suc k)) r (origin k) (receiver k)
 
@@ -72,6 +72,7 @@ module _ (hs ms : List ℕ) (back : Bool) (place : ℕ → ℕ) where
     abbrev after : ℕ → List ℕ
     after k = spreadAlong hs ms back place k ws
 
+    -- one step more, as the code counts
     pub along-more : (k : ℕ) {i : ℕ} {now next : List ℕ} → i ≡ place k → now ≡ after k → next ≡ stepAt hs ms back i now →
         next ≡ after (k + 1)
     unfolding spreadAlong
@@ -125,6 +126,7 @@ module _ {hs sorted : List ℕ} {n : ℕ} (l : TopologicalOrder hs sorted n) (ms
         (visitAt n down k, visit-below down h, ap (isMarked ms) w ∙ o, ap (from hs) w ∙ is-from hs x 0 y i p, ap (to hs) w ∙ is-to hs x 0 y i p)
 
     module _ (ready : Indexable hs) (ws : List ℕ) (s : length ws ≡ most-states) {r : Reach} where
+      -- so a pass leaves what that set brings, along its hops or against them
       forth-visited : (back : Bool) → AllFurther hs ms back place n r → SpreadForth (Done hs ms back place n) r ws (spreadOver hs ms sorted n down back ws)
       forth-visited back further = forth-after hs ms back place ws fits further n (omega arith) where
         fits : (k : ℕ) → k < n → endAt hs (not back) (place k) < length ws
