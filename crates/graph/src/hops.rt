@@ -1,7 +1,7 @@
 // The accessors of the flat hop list: the hop at a place, its numbers, and where these begin in the
 // list.
-// Other code reads and writes hops through these, but for the counting sort, which reads a column of
-// the list (`TO_COLUMN`).
+// Other code reads and writes hops through these, but for the counting sort, which reads a column
+// of the list (`TO_COLUMN`).
 use super::Hop;
 use super::Label;
 use super::NUMBERS_A_HOP;
