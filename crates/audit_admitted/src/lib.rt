@@ -4,6 +4,8 @@
 // graph 1, then for graph 2, then rows 7 and 8. That what is accepted is what document 01 admits is
 // proved here.
 // Uses `graph_check` for the two graphs.
+#![tactic(auto)]
+
 ghost use Rattle.std.specs.Prelude.{◌≡◌};
 ghost use Rattle.audit_admitted.specs.Admitted.{first_high, map_fits, audit_answer};
 

@@ -6,6 +6,8 @@
 // (`audit_matched` and `audit_unmatched`).
 // Uses `graph_successors` for the search among a state's hops, `walk_silent` for "s leads by zero
 // or more silent hops".
+#![tactic(auto)]
+
 pub mod images; // images.rt: where the hops of graph 1 stand in graph 2
 pub mod first; // first.rt: which of two faults is named
 pub mod lost; // lost.rt: the first two sums, by the hops of graph 1
@@ -13,7 +15,7 @@ pub mod lost; // lost.rt: the first two sums, by the hops of graph 1
 // A fault: its kind, 1, 2 or 3 in document 01's order; the place of its hop, in graph 1 for kind 2
 // and in graph 2 for kind 3; the state of graph 1, for kind 3. What a kind lacks is 0, and so are
 // all three where there is no fault.
-#[derive(Drop)]
+#[derive(Clone, Copy)]
 pub struct Fault {
     pub kind: u32,
     pub place: usize,
@@ -21,7 +23,7 @@ pub struct Fault {
 }
 
 // What a sum returns: how many faults there are, of one kind or of all, and the first of them.
-#[derive(Drop)]
+#[derive(Clone, Copy)]
 pub struct Share {
     pub faults: u32,
     pub first: Fault,

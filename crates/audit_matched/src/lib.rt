@@ -5,6 +5,8 @@
 // ever cleared. `audit_unmatched` counts the hops without it.
 // Uses `audit_faults` for where each mapped hop stands in graph 2, `graph_successors` for the hops
 // of a state.
+#![tactic(auto)]
+
 ghost use Rattle.std.specs.Prelude.{◌≡◌, ◌+◌, ◌<◌, ◌≤◌, length, get_or, set};
 ghost use Rattle.graph.specs.Hops.{count};
 ghost use Rattle.graph.specs.Search.{first_of};

@@ -3,6 +3,8 @@
 // The contract of one function that reduces and audits says so, in words that the audit alone
 // defines. It is there for its contract; nobody need call it.
 // Uses `reduce_entry` and `audit_entry`.
+#![tactic(auto)]
+
 ghost use Rattle.std.specs.Prelude.{◌≡◌, ◌≤◌, length};
 ghost use Rattle.graph.specs.Hops.{count};
 ghost use Rattle.reduce_entry.specs.Reduce.{reduce_of, map_output, short_output};
@@ -18,7 +20,7 @@ use reduce_entry::Reduction;
 use reduce_entry::entry::reduce;
 
 // What reducing and then auditing returns: the results of both.
-#[derive(Drop)]
+#[derive(Clone, Copy)]
 pub struct AuditedReduction {
     pub reduction: Reduction,
     pub audit: Audit,

@@ -7,6 +7,8 @@
 // Uses `audit_faults` for what the sum and the first fault are, `audit_matched` for the stamps,
 // `graph_successors` for the hops of a state, and `walk_reach` along the silent hops of
 // `walk_silent`.
+#![tactic(auto)]
+
 ghost use Rattle.std.specs.Prelude.{◌≡◌, cond, ◌+◌, ◌<◌, ◌≤◌, length, ltb};
 ghost use Rattle.base_bounded.specs.Quantifiers.{least, tally};
 ghost use Rattle.graph.specs.Hops.{count};
@@ -30,7 +32,7 @@ use walk_silent::chosen::silent_bytes;
 
 // What is unmatched for one state: how many hops of graph 2, and the place of the first, or the hop
 // count.
-#[derive(Drop)]
+#[derive(Clone, Copy)]
 pub struct OfState {
     pub faults: u32,
     pub place: usize,

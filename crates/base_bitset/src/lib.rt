@@ -1,6 +1,8 @@
 // Bitsets in 64-bit words: which bits a word has, and that `|` is union and `&` intersection.
 // For tables with one word a state or a label, so that one operation serves 64 questions.
 // Uses `base_bounded` for statements over the bits of a word.
+#![tactic(auto)]
+
 ghost use Rattle.std.specs.Prelude.{◌≡◌, not, ◌||◌, ◌<◌, ◌^◌, length};
 ghost use Rattle.base_bounded.specs.Quantifiers.{all};
 ghost use Rattle.base_bitset.specs.Internal.Bits.{bit_at, word_bits, table_words};

@@ -5,3 +5,4 @@
 // show that repetitions end. The laws of slots say where each number stands after a counting sort
 // by key. Definitions (specs/) and laws (proofs/), no code.
 // Uses no other crate.
+#![tactic(auto)]

@@ -5,3 +5,4 @@
 // to that of each sense. Definitions (specs/) and theorems (proofs/), no code; it knows nothing of
 // hops.
 // Uses `base_bounded` for chains of sets.
+#![tactic(auto)]

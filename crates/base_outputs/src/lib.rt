@@ -5,6 +5,8 @@
 // refusal all the old ones. The laws (proofs/Front) extend such an output element by element. Two
 // functions copy bytes and 16-bit numbers into an output.
 // Uses `base_bounded` for lists of values below a bound.
+#![tactic(auto)]
+
 ghost use Rattle.std.specs.Prelude.{◌≡◌, ◌+◌, ◌≤◌, length};
 ghost use Rattle.base_outputs.specs.Output.{on_front};
 ghost use Rattle.base_outputs.specs.Internal.Output.{over_at};

@@ -4,6 +4,8 @@
 // small array, and end with `put_answer`, which puts the answer's three numbers before them. Where
 // nothing else may be written either, they compute the answer alone and end with `short_number`.
 // Uses `graph` for answers and `base_outputs` for what a slice holds afterwards.
+#![tactic(auto)]
+
 ghost use Rattle.std.specs.Prelude.{◌≡◌, [], ◌∷◌, ◌+◌, ◌<◌, ◌≤◌, length};
 ghost use Rattle.base_outputs.specs.Internal.Output.{over_at};
 ghost use Rattle.c_answer.specs.Numbers.{numbers_of, returned, answer_after};

@@ -3,6 +3,8 @@
 // `capi` exports the function unchanged.
 // Uses `audit_entry` for `audit`, `audit_faults` for a fault, and `c_answer` for what is written
 // and returned.
+#![tactic(auto)]
+
 ghost use Rattle.std.specs.Prelude.{◌≡◌, length};
 ghost use Rattle.audit_admitted.specs.Admitted.{audit_answer};
 ghost use Rattle.audit_entry.specs.Audit.{audit_of};

@@ -4,6 +4,8 @@
 // computed, and the other output is left as it was.
 // Uses `file_read` for `read`, `file_write` for `write`, and `c_answer` for what is written and
 // returned.
+#![tactic(auto)]
+
 ghost use Rattle.std.specs.Prelude.{◌≡◌, length};
 ghost use Rattle.file_read.specs.Read.{read_answer, read_of, read_hops};
 ghost use Rattle.file_write.specs.Write.{write_answer, write_of, write_bytes};

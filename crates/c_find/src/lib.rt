@@ -2,6 +2,8 @@
 // `capi` exports the function unchanged.
 // Uses `graph_find` for where the hop stands or would stand, and `c_answer` for what is written and
 // returned.
+#![tactic(auto)]
+
 ghost use Rattle.std.specs.Prelude.{◌≡◌, length};
 ghost use Rattle.graph_check.specs.Check.{check_of};
 ghost use Rattle.graph_find.specs.Find.{find_of};

@@ -2,6 +2,8 @@
 // list that the caller has.
 // `capi` exports the function unchanged.
 // Uses `graph_hops_of` for where the part stands and `c_answer` for what is written and returned.
+#![tactic(auto)]
+
 ghost use Rattle.std.specs.Prelude.{◌≡◌, length};
 ghost use Rattle.graph.specs.Answers.{accepted};
 ghost use Rattle.graph_hops_of.specs.HopsOf.{chosen, span_of};

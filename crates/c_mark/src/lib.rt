@@ -5,6 +5,8 @@
 // Uses `graph_check` for `check`, `mark_entry` for `mark`, `mark_entry_fast` for the faster
 // marking, `mark_entry_round` for the round question, and `c_answer` for what is written and
 // returned.
+#![tactic(auto)]
+
 ghost use Rattle.std.specs.Prelude.{◌≡◌, [], length};
 ghost use Rattle.graph_check.specs.Check.{check_of};
 ghost use Rattle.mark_entry.specs.Mark.{mark_answer, mark_output};

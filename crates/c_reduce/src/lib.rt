@@ -3,6 +3,8 @@
 // `capi` exports the function unchanged. Where the answer slice is too short only the answer is
 // computed, and the map and the short hops are left as they were.
 // Uses `reduce_entry` for `reduce` and `c_answer` for what is written and returned.
+#![tactic(auto)]
+
 ghost use Rattle.std.specs.Prelude.{◌≡◌, length};
 ghost use Rattle.reduce_entry.specs.Reduce.{reduce_answer, reduce_of, map_output, short_output};
 ghost use Rattle.c_answer.specs.Numbers.{shape_of, returned, answer_after, unless_short};

@@ -4,6 +4,8 @@
 // computed, and the map and the last hops are left as they were.
 // Uses `shrink_entry` for `shrink`, `reduce_entry` for its answer alone, and `c_answer` for what is
 // written and returned.
+#![tactic(auto)]
+
 ghost use Rattle.std.specs.Prelude.{◌≡◌, length};
 ghost use Rattle.reduce_entry.specs.Reduce.{reduce_answer};
 ghost use Rattle.shrink_entry.specs.Shrink.{shrink_of, shrink_map_output, shrink_hops_output};

@@ -5,6 +5,8 @@
 // this crate, so the names zf_* stay.
 // Uses `c_mark`, `c_hops_of`, `c_find`, `c_reduce`, `c_shrink`, `c_audit` and `c_file`, one for
 // each family of entries.
+#![tactic(auto)]
+
 pub mod marking; // marking.rt: check, both markings and the round question
 pub mod span; // span.rt: hops of a state
 pub mod find; // find.rt: find

@@ -4,6 +4,8 @@
 // once the graph and its names have passed every check.
 // Uses `file_numbers` for numbers, `file_hops` and `file_lines` for the hop field and the lines,
 // and `file_fields` for the places of the fields.
+#![tactic(auto)]
+
 ghost use Rattle.std.specs.Prelude.{◌≡◌, ◌+◌, ◌≤◌, cond, length};
 ghost use Rattle.graph.specs.Answers.{most_hops};
 ghost use Rattle.graph.specs.Hops.{count};

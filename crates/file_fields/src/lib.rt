@@ -5,6 +5,8 @@
 // this but what lies behind the hops can be asked of any bytes. Where the names end is found from
 // the file's end, so it is asked only of a file that has the length that its numbers say.
 // Uses `file_numbers`, `file_lines` and `file_hops` for the single fields.
+#![tactic(auto)]
+
 ghost use Rattle.std.specs.Prelude.{◌≡◌, ◌&&◌, length};
 ghost use Rattle.file_lines.specs.LineField.{zero_lines};
 ghost use Rattle.file_fields.specs.Format.{has_initial, has_hops, has_names, has_lines, initial_in, hops_place, hops_in, names_place, names_in};

@@ -3,6 +3,8 @@
 // The checks come in this order: over-length, high bits, 11 (too short), left over, the rest of 12
 // (a bit over a field that holds what absence means), 14 (a bad name). `file_read` asks this first.
 // Uses `file_fields` for the layout and `file_names` for the search for a bad name.
+#![tactic(auto)]
+
 ghost use Rattle.std.specs.Prelude.{◌≡◌};
 ghost use Rattle.file_format.specs.Internal.Rows.{RestAt};
 ghost use Rattle.file_format.specs.Rows.{format_answer};

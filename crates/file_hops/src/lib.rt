@@ -5,4 +5,6 @@
 // changes this crate and graph's accessors. A hop's line is not in the field: it is taken from the
 // list of lines.
 // Uses `graph` for hops, `file_lines` for lines and `file_numbers` for numbers.
+#![tactic(auto)]
+
 pub mod hops; // hops.rt: the field, and its hops by place

@@ -2,6 +2,8 @@
 // list is, the line of a hop, whether all lines are 0, and the lines of a hop list as bytes.
 // Only this crate knows what a line looks like in a file.
 // Uses `graph` for hops and `file_numbers` for numbers.
+#![tactic(auto)]
+
 ghost use Rattle.std.specs.Prelude.{◌≡◌, ◌+◌, ◌<◌, ◌≤◌, length};
 ghost use Rattle.graph.specs.Hops.{count};
 ghost use Rattle.base_outputs.specs.Internal.Output.{over_at};
@@ -18,7 +20,7 @@ const BYTES_A_LINE: usize = 2;
 pub const MOST_LINE_BYTES: usize = BYTES_A_LINE * graph::MOST_HOPS;
 
 // Whether a file has a list of lines, and where it begins, or would begin.
-#[derive(Drop)]
+#[derive(Clone, Copy)]
 pub struct Lines {
     pub stand: bool,
     pub at: usize,

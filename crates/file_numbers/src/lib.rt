@@ -3,6 +3,8 @@
 // A missing byte reads 0, so that what a file says can be asked before its length is known. It
 // serves the fields, the hop field and the names of a file, and what writes one.
 // Uses `base_outputs` for what is written.
+#![tactic(auto)]
+
 ghost use Rattle.std.specs.Prelude.{◌≡◌, ◌+◌, ◌*◌, ◌≤◌, length, get_or};
 ghost use Rattle.base_outputs.specs.Internal.Output.{over_at};
 ghost use Rattle.file_numbers.specs.Internal.Numbers.{most_number};

@@ -4,11 +4,13 @@
 // output; nothing is written before all have passed.
 // Uses `file_format` for the format, `file_fields` and `file_hops` for what the file holds, and
 // `check` of `graph_check`.
+#![tactic(auto)]
+
 pub mod reading; // reading.rt: the entry, its answer, and what it returns
 
 // What reading returns: the answer, the graph's shape and number of hops, and where the block of
 // names lies in the file.
-#[derive(Drop)]
+#[derive(Clone, Copy)]
 pub struct Contents {
     pub answer: graph::Answer,
     pub shape: graph::Shape,

@@ -3,4 +3,6 @@
 // Their contracts are the two sentences; the laws behind them, and the longest legal file, are in
 // proofs/.
 // Uses `file_read` and `file_write`.
+#![tactic(auto)]
+
 pub mod round_trip; // round_trip.rt: read and write, one after the other

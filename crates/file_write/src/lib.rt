@@ -4,10 +4,12 @@
 // written before all have passed.
 // Uses `check` of `graph_check`, `file_names` for the search for a bad name, and `file_encode` for
 // the bytes.
+#![tactic(auto)]
+
 pub mod writing; // writing.rt: the entry and its answer
 
 // What writing returns: the answer, and how many bytes were written.
-#[derive(Drop)]
+#[derive(Clone, Copy)]
 pub struct Written {
     pub answer: graph::Answer,
     pub length: usize,

@@ -5,6 +5,8 @@
 // alike (specs/Hops): order, search and meaning look at no more of a hop. Answers (accepted, or
 // refused with number, table and place) are here too.
 // Uses `base_bounded` for statements over the places of a list.
+#![tactic(auto)]
+
 pub mod hops; // hops.rt: what stands at a place of a flat list
 pub mod map; // map.rt: a map at a state
 pub mod order; // order.rt: the one comparison of hops
@@ -30,7 +32,7 @@ pub const TO_COLUMN: usize = 2;
 // A hop: from one state, by a label, to another. Label 0 is silent. Its source line, 0 for none, is
 // carried along: order, search and meaning do not look at it.
 // In the field: a transition of a labelled transition system; label 0 is tau.
-#[derive(Drop)]
+#[derive(Clone, Copy)]
 pub struct Hop {
     pub from: u16,
     pub label: u16,
@@ -41,7 +43,7 @@ pub struct Hop {
 // What a graph has besides its hops. Any 32-bit number passes through unchanged, and is refused as
 // it is.
 // In the field: what a labelled transition system has besides its transitions.
-#[derive(Drop)]
+#[derive(Clone, Copy)]
 pub struct Shape {
     pub states: u32,
     pub labels: u32,
@@ -49,7 +51,7 @@ pub struct Shape {
 }
 
 // What an entry answers: document 01's number, table and place.
-#[derive(Drop)]
+#[derive(Clone, Copy)]
 pub struct Answer {
     pub number: u32,
     pub table: u32,
@@ -59,18 +61,18 @@ pub struct Answer {
 // A state's number in the graph that is read, graph 1 of the audit, and in the short graph,
 // graph 2. Only the map leads from one to the other. Code that serves both graphs takes and returns
 // bare numbers.
-#[derive(Drop)]
+#[derive(Clone, Copy)]
 pub struct OldState(pub u16);
 
-#[derive(Drop)]
+#[derive(Clone, Copy)]
 pub struct NewState(pub u16);
 
 // A label's number, which is neither.
-#[derive(Drop)]
+#[derive(Clone, Copy)]
 pub struct Label(pub u16);
 
 // Where a hop stands, or where it would stand.
-#[derive(Drop)]
+#[derive(Clone, Copy)]
 pub enum Found {
     At(usize),
     Gap(usize),

@@ -4,6 +4,8 @@
 // entry that takes a graph checks it first. One linear pass over the list for row 3 (range), one
 // for row 4 (order).
 // Uses `graph` for the accessors, the order of hops and answers.
+#![tactic(auto)]
+
 ghost use Rattle.std.specs.Prelude.{◌≡◌, ◌<◌};
 ghost use Rattle.graph.specs.Hops.{count};
 ghost use Rattle.graph_check.specs.Check.{counts_fit, inside, first_outside, first_not_ascending, check_of};

@@ -4,6 +4,8 @@
 // for: a hop with a number out of range is not in the graph, and its place is behind the hops that
 // come before it.
 // Uses `graph_check` for `check` and `graph` for the search.
+#![tactic(auto)]
+
 ghost use Rattle.std.specs.Prelude.{◌≡◌};
 ghost use Rattle.graph_find.specs.Internal.Find.{saturated};
 ghost use Rattle.graph_find.specs.Find.{find_of};
@@ -14,7 +16,7 @@ use graph_check::check;
 
 // What `find` returns: check's answer; 1 or 0, whether the graph has the hop; and the hop's place,
 // or where it would stand (0 and 0 with a refusal).
-#[derive(Drop)]
+#[derive(Clone, Copy)]
 pub struct Finding {
     pub answer: graph::Answer,
     pub found: u32,

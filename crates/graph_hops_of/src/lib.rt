@@ -4,6 +4,8 @@
 // if either graph fails `check`. Two binary searches find its ends. Rust and C callers read hops by
 // it without a copy.
 // Uses `graph_check` for `check` and `graph` for the search.
+#![tactic(auto)]
+
 ghost use Rattle.std.specs.Prelude.{◌≡◌, ◌<◌, ◌≤◌};
 ghost use Rattle.graph.specs.Hops.{count, part_address};
 ghost use Rattle.graph.specs.Order.{Ascending};
@@ -17,7 +19,7 @@ use graph::search::{first_of, past_of};
 use graph_check::check;
 
 // Where a part stands in its table, in numbers; 0 and 0 for an empty part.
-#[derive(Drop)]
+#[derive(Clone, Copy)]
 pub struct Span {
     pub start: usize,
     pub length: usize,

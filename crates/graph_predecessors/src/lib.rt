@@ -5,6 +5,8 @@
 // marking asks it for the hops into the two ends of a hop that fell (lost its mark).
 // Uses `graph` for hops, `graph_counting_sort` for the sort, and `graph_successors` for what is
 // required of a hop list.
+#![tactic(auto)]
+
 ghost use Rattle.graph.specs.Hops.{count};
 ghost use Rattle.graph_successors.specs.Internal.SuccessorIndex.{Indexable};
 ghost use Rattle.graph_predecessors.specs.Internal.PredecessorIndex.{PredecessorStarts, PredecessorPlaces};

@@ -6,6 +6,8 @@
 // audit, and either graph, so a state is a bare number here. Only `Rest` is of the old graph, since
 // marking alone uses it.
 // Uses `graph` for hops and the search, `graph_check` for what an admitted graph is.
+#![tactic(auto)]
+
 ghost use Rattle.std.specs.Prelude.{◌≡◌, ◌+◌, ◌<◌, ◌≤◌, get_or};
 ghost use Rattle.graph.specs.Answers.{most_states};
 ghost use Rattle.graph.specs.Search.{lower, first_of};
@@ -21,7 +23,7 @@ use graph::{Found, Hop, Label, MOST_STATES, OldState};
 pub const STARTS: usize = MOST_STATES + 1;
 
 // The hops of a state from place `at` on; `past` is the place past its last.
-#[derive(Drop)]
+#[derive(Clone, Copy)]
 pub struct Rest {
     pub state: OldState,
     pub at: usize,

@@ -7,3 +7,4 @@
 // definition (specs/) and theorems (proofs/), no code.
 // Uses the crates whose definitions it speaks of, from `graph_check` and `graph_find` to
 // `mark_entry`, `reduce_entry`, `audit_entry` and `shrink_entry`.
+#![tactic(auto)]

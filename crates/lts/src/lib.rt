@@ -4,3 +4,4 @@
 // reducing by the greatest set of R8 leaves no hop in any set of R8. Definitions (specs/) and
 // theorems (proofs/), no code.
 // Uses no other crate.
+#![tactic(auto)]

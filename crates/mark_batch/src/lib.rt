@@ -6,6 +6,8 @@
 // which states the batch touched, as a hint of which nothing is proved.
 // Uses `mark_senses` for what is marked, `mark_removal` for what marks keep under removal, for any
 // condition, and `mark_batch_spread`, `mark_batch_tables` and `mark_batch_filter` for the steps.
+#![tactic(auto)]
+
 ghost use Rattle.std.specs.Prelude.{◌+◌, ◌<◌, ◌≤◌, length};
 ghost use Rattle.graph.specs.Hops.{count};
 ghost use Rattle.graph_successors.specs.Internal.SuccessorIndex.{Indexable};

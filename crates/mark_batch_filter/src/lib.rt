@@ -4,6 +4,8 @@
 // `answers` at those where it is answered (`mark_batch_tables`). What the bits mean does not matter
 // here.
 // Uses `base_bitset` for words as sets and `graph` for hops.
+#![tactic(auto)]
+
 ghost use Rattle.std.specs.Prelude.{◌≡◌, cond, ◌<◌, ◌≤◌, length, set};
 ghost use Rattle.graph.specs.Hops.{count};
 ghost use Rattle.graph_successors.specs.Internal.SuccessorIndex.{Indexable};

@@ -7,6 +7,8 @@
 // ones.
 // Uses `base_bitset` for words as sets, `walk_topological_order` for the order, `mark_confluence`
 // for the set that marks are. It decides nothing about a hop.
+#![tactic(auto)]
+
 ghost use Rattle.std.specs.Prelude.{◌≡◌, ◌<◌, ◌≤◌, length};
 ghost use Rattle.graph.specs.Hops.{count};
 ghost use Rattle.graph.specs.Answers.{most_states, most_hops};

@@ -7,6 +7,8 @@
 // went.
 // Uses `mark_senses` for what is marked, `mark_removal` for what marks keep under removal, for any
 // condition, `mark_batch` for one batch, and `walk_topological_order` for the order of silent hops.
+#![tactic(auto)]
+
 ghost use Rattle.std.specs.Prelude.{◌≡◌, ◌+◌, ◌*◌, ◌<◌, ◌≤◌, length};
 ghost use Rattle.base_outputs.specs.Output.{on_front};
 ghost use Rattle.graph.specs.Hops.{count};
@@ -36,7 +38,7 @@ const PLAIN_SWEEPS: usize = 4;
 
 // The outcome of one batch or of a pass over batches: how many marks went, and which batches are
 // pending, that is, to be run again.
-#[derive(Drop)]
+#[derive(Clone, Copy)]
 struct SweepOutcome {
     lost: usize,
     pending: u64,

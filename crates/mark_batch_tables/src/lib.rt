@@ -6,6 +6,8 @@
 // bits are propagated along marked hops in between, and which marks are then taken, does not matter
 // here.
 // Uses `base_bitset` for words as sets and `graph` for hops.
+#![tactic(auto)]
+
 ghost use Rattle.std.specs.Prelude.{◌≡◌, ◌+◌, ◌<◌, ◌≤◌, ◌^◌, get_or, set, replicate};
 ghost use Rattle.std.specs.Int.Bits.{bit_or};
 ghost use Rattle.graph.specs.Hops.{count};
@@ -36,7 +38,7 @@ fn put_bit(words: &mut [u64; MOST_STATES], s: u16, b: usize)
 }
 
 // Which number of a hop is its key in a table.
-#[derive(Drop)]
+#[derive(Clone, Copy)]
 pub enum Key {
     From,
     Label,

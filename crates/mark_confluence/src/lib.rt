@@ -7,6 +7,8 @@
 // for one hop.
 // Uses `base_fixpoint` for the greatest fixpoint, `graph` for hops, `base_outputs` for what is
 // written.
+#![tactic(auto)]
+
 ghost use Rattle.std.specs.Prelude.{◌≡◌, ◌≤◌, length};
 ghost use Rattle.base_outputs.specs.Output.{on_front};
 ghost use Rattle.graph.specs.Hops.{count};

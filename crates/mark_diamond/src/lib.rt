@@ -7,6 +7,8 @@
 // Uses `mark_confluence` for the condition and the set that marks are, `graph` for hops and the
 // search, `graph_successors` for the hops of a state and those from a place on, and
 // `mark_diamond_search` for one diamond.
+#![tactic(auto)]
+
 ghost use Rattle.std.specs.Prelude.{◌≡◌, ◌<◌, ◌≤◌, eqb, ◌&&◌};
 ghost use Rattle.graph.specs.Hops.{count, label, to, has};
 ghost use Rattle.graph.specs.Answers.{most_states};

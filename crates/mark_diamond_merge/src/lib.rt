@@ -5,6 +5,8 @@
 // `mark_diamond_search` takes this way where neither list is far shorter than the other.
 // Uses `mark_confluence` for the condition and the set that marks are, `graph` for hops and the
 // search, `graph_successors` for the hops of a state and those from a place on.
+#![tactic(auto)]
+
 ghost use Rattle.std.specs.Prelude.{◌≡◌, ℕ, ◌<◌, ◌≤◌, length};
 ghost use Rattle.graph.specs.Hops.{count};
 ghost use Rattle.graph.specs.Answers.{most_states};

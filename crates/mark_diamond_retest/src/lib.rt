@@ -7,6 +7,8 @@
 // order, `graph_successors` for the hops of a state, those from a label on, and the search among
 // them, `mark_diamond_search` for whether a state has a hop, and `mark_diamond` for the trial of
 // one hop.
+#![tactic(auto)]
+
 ghost use Rattle.std.specs.Prelude.{◌≡◌, ◌<◌, true};
 ghost use Rattle.graph.specs.Hops.{count};
 ghost use Rattle.graph.specs.Answers.{most_states};

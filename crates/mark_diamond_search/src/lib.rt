@@ -6,6 +6,8 @@
 // Uses `mark_confluence` for the condition and the set that marks are, `graph` for hops and the
 // search, `graph_successors` for the hops of a state and those from a place on, and
 // `mark_diamond_merge` for which of two lists is far shorter, and for the merge.
+#![tactic(auto)]
+
 ghost use Rattle.std.specs.Prelude.{◌≡◌, ◌<◌, ◌≤◌};
 ghost use Rattle.graph.specs.Hops.{count, has};
 ghost use Rattle.graph.specs.Answers.{most_states};

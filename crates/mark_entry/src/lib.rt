@@ -4,4 +4,6 @@
 // Sense 1 is marked by the worklist, the others by sweeps over batches.
 // Uses `mark_worklist_loop` and `mark_batch_sweeps` for the marking, `mark_senses`, `walk_rings`
 // and `graph_check` for the refusals, and `base_outputs` for what is written.
+#![tactic(auto)]
+
 pub mod mark; // mark.rt: the entry `mark`

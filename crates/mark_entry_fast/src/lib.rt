@@ -5,6 +5,8 @@
 // Uses `mark_worklist_loop` for the marking, `mark_worklist` for the number of tests, `mark_entry`
 // for the answer and the output, `mark_senses` for which marked set is that of sense 1 and, for the
 // theorem, `mark_sweeps`.
+#![tactic(auto)]
+
 ghost use Rattle.std.specs.Prelude.{◌≡◌};
 ghost use Rattle.mark_entry.specs.Mark.{mark_output};
 ghost use Rattle.mark_entry_fast.specs.Fast.{mark_fast_of};
@@ -16,7 +18,7 @@ use mark_entry::mark::later_answer;
 use mark_worklist_loop::mark_rounds;
 
 // What the entry returns: the answer of `mark` in sense 1, and the number of tests.
-#[derive(Drop)]
+#[derive(Clone, Copy)]
 pub struct Counted {
     pub answer: Answer,
     pub tests: usize,

@@ -4,6 +4,8 @@
 // are those of the flat list. A slice of records is none of the forms that the prover steps through
 // by itself: each function that takes one has a proof by hand, and they are few.
 // Uses `check` of `graph_check` and `mark` of `mark_entry`.
+#![tactic(auto)]
+
 ghost use Rattle.std.specs.Prelude.{◌≡◌, ◌≤◌, length, ltb};
 ghost use Rattle.graph.specs.Hops.{between, flat};
 ghost use Rattle.graph.specs.Answers.{most_hops, refused};

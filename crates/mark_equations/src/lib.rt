@@ -5,6 +5,8 @@
 // limit on k here is the length of the table.
 // Uses `mark_confluence` for the equations and the rounds, `graph` for hops, `graph_successors` for
 // a state's hops, by label and by hop.
+#![tactic(auto)]
+
 ghost use Rattle.std.specs.Prelude.{◌≡◌, ◌<◌};
 ghost use Rattle.graph.specs.Hops.{count, from, label, to};
 ghost use Rattle.graph.specs.Answers.{most_states};

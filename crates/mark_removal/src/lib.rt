@@ -6,3 +6,4 @@
 // senses.
 // Uses `mark_confluence` for the set that marks are and the list of marks of a set, `base_fixpoint`
 // for sets of hops and conditions on them.
+#![tactic(auto)]

@@ -4,6 +4,8 @@
 // sense and contains every set of it. The answer of row 19 (no such sense) is here too.
 // Uses `lts` for what a sense is, over any relation, `mark_confluence` for document 01's condition,
 // which is sense 1, and `base_fixpoint` for the rounds of any condition.
+#![tactic(auto)]
+
 ghost use Rattle.std.specs.Prelude.{◌≡◌};
 ghost use Rattle.mark_senses.specs.Senses.{is_sense, sense_answer};
 

@@ -6,6 +6,8 @@
 // this is the plain algorithm, with a proof that needs no rounds.
 // Uses `mark_confluence` for the marked set and its theorems, `mark_removal` for what marks keep
 // under removal, for any condition, and `mark_diamond` for the test of a hop.
+#![tactic(auto)]
+
 ghost use Rattle.std.specs.Prelude.{◌≡◌, ◌<◌, ◌≤◌, length};
 ghost use Rattle.base_outputs.specs.Output.{on_front};
 ghost use Rattle.graph.specs.Hops.{count};

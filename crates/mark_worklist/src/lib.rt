@@ -5,3 +5,4 @@
 // theorems (proofs/), no code: `mark_worklist_next` finds the hops, `mark_worklist_loop` runs the
 // rounds.
 // Uses `mark_confluence` for the condition and the rounds.
+#![tactic(auto)]

@@ -7,6 +7,8 @@
 // Uses `mark_worklist` for which hops a round tests and that the others survive it,
 // `mark_worklist_next` to find them, `mark_worklist_round` for the parts of a round, and
 // `graph_predecessors` for the index.
+#![tactic(auto)]
+
 ghost use Rattle.std.specs.Prelude.{◌≡◌, ◌≤◌, length};
 ghost use Rattle.base_outputs.specs.Output.{on_front};
 ghost use Rattle.graph.specs.Hops.{count};

@@ -6,6 +6,8 @@
 // few, and is met for one fallen hop at most.
 // Uses `mark_worklist_push` for what one such pair brings to the queue, `graph_predecessors` for
 // the hops into a state, `graph_successors` for those out of it.
+#![tactic(auto)]
+
 ghost use Rattle.std.specs.Prelude.{◌<◌, ◌≤◌, length};
 ghost use Rattle.graph.specs.Hops.{count};
 ghost use Rattle.graph.specs.Answers.{most_hops};

@@ -6,6 +6,8 @@
 // hop. `mark_worklist_next` asks this for each such pair.
 // Uses `graph_predecessors` for the hops into a state, `graph_successors` for those out of it, and
 // `mark_confluence` for marks and document 01's first point.
+#![tactic(auto)]
+
 ghost use Rattle.std.specs.Prelude.{◌≡◌, ◌<◌, ◌≤◌, length};
 ghost use Rattle.graph.specs.Hops.{count, label};
 ghost use Rattle.graph.specs.Answers.{most_states};

@@ -4,6 +4,8 @@
 // that a fallen hop leaves. `mark_worklist_loop` puts the parts together.
 // Uses `mark_diamond` and `mark_diamond_retest` for the two tests, `mark_worklist` for which hops
 // the first round tests, and `mark_worklist_push` for the queue.
+#![tactic(auto)]
+
 ghost use Rattle.std.specs.Prelude.{ℕ, ◌<◌, ◌≤◌, length, get_or};
 ghost use Rattle.graph.specs.Hops.{count};
 ghost use Rattle.graph.specs.Answers.{most_hops};

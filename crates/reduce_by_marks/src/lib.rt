@@ -4,6 +4,8 @@
 // confluence or a repetition can use it. It checks nothing and requires no confluence: what the
 // short graph means is stated where the marks are known.
 // Uses `reduce_representatives` for the map and `reduce_short_graph` for the short hops.
+#![tactic(auto)]
+
 ghost use Rattle.std.specs.Prelude.{◌≡◌, ◌<◌, ◌≤◌, length};
 ghost use Rattle.graph.specs.Answers.{most_states};
 ghost use Rattle.graph_check.specs.Check.{Admitted};
@@ -20,7 +22,7 @@ use reduce_representatives::renumber::{fill_map, new_numbers};
 use reduce_short_graph::shorten::shorten;
 
 // The short graph besides its hops, and how many these are.
-#[derive(Drop)]
+#[derive(Clone, Copy)]
 pub struct ShortGraph {
     pub shape: Shape,
     pub hops: usize,

@@ -6,11 +6,13 @@
 // reduction use it.
 // Uses `graph_check`, `mark_senses` and `walk_rings` for the refusals, `mark_worklist_loop` and
 // `mark_batch_sweeps` for the marking, and `reduce_by_marks` for the reduction.
+#![tactic(auto)]
+
 pub mod entry; // entry.rt: the entry `reduce`
 
 // What `reduce` returns: the answer, and the short graph's counts and initial state (all 0 with a
 // refusal).
-#[derive(Drop)]
+#[derive(Clone, Copy)]
 pub struct Reduction {
     pub answer: graph::Answer,
     pub shape: graph::Shape,

@@ -6,6 +6,8 @@
 // `reduce`.
 // Uses `graph` for hops, `mark_confluence` for the set that marks are, `lts` and `walk_silent` for
 // what a class and a normal form are.
+#![tactic(auto)]
+
 pub mod follow; // follow.rt: where first marked hops lead, and the representatives
 pub mod renumber; // renumber.rt: new numbers and the map
 

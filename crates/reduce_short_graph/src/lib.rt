@@ -6,4 +6,6 @@
 // serves `reduce`.
 // Uses `reduce_representatives` for the representatives and the map, `reduce_sorted_images` for the
 // sorting.
+#![tactic(auto)]
+
 pub mod shorten; // shorten.rt: the short hops

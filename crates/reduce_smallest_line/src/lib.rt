@@ -2,6 +2,8 @@
 // 0.
 // It serves whatever sorts hops and merges those that are alike.
 // Uses `graph` for hops.
+#![tactic(auto)]
+
 ghost use Rattle.std.specs.Prelude.{◌≡◌};
 ghost use Rattle.reduce_smallest_line.specs.Lines.{lesser_line, merged_hop};
 

@@ -3,6 +3,8 @@
 // It is `reduce` in sense 1 without its checks, and it leaves the marks as well. It stands apart
 // from `reduce_entry`, since the program, which calls it, needs nothing of the other senses.
 // Uses `mark_worklist_loop` for the marks and `reduce_by_marks` for the map and the short graph.
+#![tactic(auto)]
+
 ghost use Rattle.std.specs.Prelude.{◌≡◌, ◌≤◌, length};
 ghost use Rattle.base_outputs.specs.Output.{on_front};
 ghost use Rattle.graph.specs.Hops.{count, flat};

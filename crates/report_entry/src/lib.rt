@@ -4,4 +4,6 @@
 // file and the buffer; a buffer too short for the longest report gets nothing.
 // Uses `file_read` for the file's graph, `walk_rings` for its rings, `reduce_strong` for its marks,
 // its map and its short graph, and `report_rows` for the lines.
+#![tactic(auto)]
+
 pub mod print; // print.rt: the entry `print_file`

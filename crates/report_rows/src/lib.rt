@@ -2,6 +2,8 @@
 // hops, the map, `out` and the short hops; or the one line of a refusal.
 // `report_entry` calls it when all that is printed has been computed.
 // Uses `graph` for what stands at a place and `report_text` for how a line is written.
+#![tactic(auto)]
+
 ghost use Rattle.std.specs.Prelude.{◌<◌, ◌≤◌, length};
 ghost use Rattle.graph.specs.Answers.{most_states};
 ghost use Rattle.graph.specs.Hops.{count};

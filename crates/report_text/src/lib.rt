@@ -3,6 +3,8 @@
 // Each function writes one text at a place, over what was there and over nothing else, and returns
 // the place behind it; the caller proves that the buffer is long enough.
 // Uses `base_outputs` for what a slice holds afterwards.
+#![tactic(auto)]
+
 ghost use Rattle.std.specs.Prelude.{[], ◌∷◌};
 ghost use Rattle.report_text.specs.Text.{digits, spaced, spaced_numbers, text_line};
 ghost use Rattle.report_text.specs.Internal.Text.{TextFits, TextPut};

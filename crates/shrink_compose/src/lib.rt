@@ -4,6 +4,8 @@
 // graph 2 to graph 3, one after the other has none from graph 1 to graph 3. The code composes two
 // maps in place. It serves the repeated reduction.
 // Uses `audit_entry` for what a count of 0 means, `lts` for maps that keep branching bisimilarity.
+#![tactic(auto)]
+
 ghost use Rattle.std.specs.Prelude.{◌≡◌, ◌≤◌, length};
 ghost use Rattle.graph.specs.Answers.{most_states};
 ghost use Rattle.shrink_compose.specs.Composed.{composed, identity_map};

@@ -3,6 +3,8 @@
 // It refuses as `reduce` does, and checks once: every short graph passes the checks.
 // Uses `reduce_entry` for the checks, `shrink_step` for one reduction and its map, `shrink_iterate`
 // for what it all means.
+#![tactic(auto)]
+
 ghost use Rattle.std.specs.Prelude.{◌≡◌, ◌≤◌, length};
 ghost use Rattle.base_outputs.specs.Output.{on_front};
 ghost use Rattle.graph.specs.Hops.{count, between};
@@ -22,7 +24,7 @@ use shrink_step::{Progress, step};
 
 // What `shrink` returns: the answer, the last graph's counts and initial state, and the number of
 // reductions that marked something (all 0 with a refusal).
-#[derive(Drop)]
+#[derive(Clone, Copy)]
 pub struct Shrinking {
     pub answer: Answer,
     pub shape: Shape,

@@ -4,3 +4,4 @@
 // bound. Definitions (specs/) and theorems (proofs/), no code; `shrink` rests on it.
 // Uses `reduce_entry` and `audit_of_reduce` for one reduction, `shrink_compose` for the composed
 // map.
+#![tactic(auto)]

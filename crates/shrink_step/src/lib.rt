@@ -4,6 +4,8 @@
 // follows. It serves `shrink`, which repeats it until nothing is marked.
 // Uses `reduce_entry` for the marking, `reduce_by_marks` for the reduction and `shrink_compose` for
 // the map.
+#![tactic(auto)]
+
 ghost use Rattle.std.specs.Prelude.{◌≡◌, cond, not, ◌&&◌, ◌<◌, ◌≤◌, length, eqb};
 ghost use Rattle.base_bounded.specs.Quantifiers.{any};
 ghost use Rattle.base_outputs.specs.Output.{on_front};
@@ -27,7 +29,7 @@ use shrink_compose::put_composed;
 
 // How far the repetition has come, besides the hops and the map; and whether there may be more to
 // do.
-#[derive(Drop)]
+#[derive(Clone, Copy)]
 pub struct Progress {
     pub shape: Shape,
     pub hops: usize,

@@ -1,6 +1,8 @@
 // A program for tests: graphs at the limits, and bad input, through `check`.
 // What it answers is printed and compared with the file stdout.
 // Uses `graph_check` for the entry.
+#![tactic(auto)]
+
 use graph::{Answer, Shape};
 use graph_check::check;
 use io::print_decimal;

@@ -2,6 +2,8 @@
 // graph 1 and its short graph as graph 2.
 // The numbers of each part are printed and compared with the file stdout.
 // Uses `graph_hops_of` for the entry and `test_print` for the printing.
+#![tactic(auto)]
+
 use graph::Shape;
 use graph_hops_of::hops_of;
 use test_print::{number, numbers, shape_of, text};

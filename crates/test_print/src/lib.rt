@@ -2,6 +2,8 @@
 // a space.
 // It serves `test_records`, `test_hops_of` and `test_round_trip`.
 // Uses `graph` for answers and shapes, and io and libc of the toolchain.
+#![tactic(auto)]
+
 use graph::{Answer, Shape};
 use io::print_decimal;
 use libc::STDOUT_FILENO;

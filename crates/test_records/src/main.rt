@@ -3,6 +3,8 @@
 // What they answer is printed and compared with the file stdout. An element of the output for marks
 // that was not written is 7.
 // Uses `mark_entry_records` for the entries and `test_print` for the printing.
+#![tactic(auto)]
+
 ghost use Rattle.std.specs.Prelude.{◌+◌, ◌<◌, ◌≤◌};
 ghost use Rattle.graph.specs.Answers.{most_hops};
 ghost use Rattle.graph.specs.Hops.{count};

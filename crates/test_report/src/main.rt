@@ -3,6 +3,8 @@
 // What it prints is compared with the file stdout. The whole program is run over more files by
 // tests/program.sh.
 // Uses `report_entry` for the report.
+#![tactic(auto)]
+
 use libc::STDOUT_FILENO;
 use report_entry::print::{MOST_TEXT, print_file};
 

@@ -3,6 +3,8 @@
 // What they answer is printed and compared with the file stdout. An element of an output that was
 // not written is 7.
 // Uses `file_round_trip` for the two functions and `test_print` for the printing.
+#![tactic(auto)]
+
 use file_read::Contents;
 use file_round_trip::round_trip::{copy_file, graph_back};
 use file_write::Written;

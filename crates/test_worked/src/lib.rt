@@ -3,3 +3,4 @@
 // A table (specs/) and the proof that the definitions yield its entries (proofs/), no code.
 // Uses the crates whose definitions the table is about, among them `mark_entry`, `mark_entry_fast`,
 // `reduce_entry`, `audit_entry` and `graph_find`.
+#![tactic(auto)]

@@ -3,3 +3,4 @@
 // A table (specs/) and the proof that the definitions yield its entries (proofs/), no code. A wrong
 // answer that alters a definition is tried here, where a check takes seconds.
 // Uses `graph_check`, `mark_entry`, `reduce_entry` and `audit_entry` for the definitions.
+#![tactic(auto)]

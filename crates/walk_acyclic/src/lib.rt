@@ -6,6 +6,8 @@
 // times. The search only chooses the order: each state is ranked by `rank_one`, which looks at its
 // hops.
 // Uses `graph_successors` for the hops of a state, `walk_silent` for what a ring is.
+#![tactic(auto)]
+
 ghost use Rattle.std.specs.Prelude.{◌≡◌, ◌<◌, ◌≤◌, length};
 ghost use Rattle.graph.specs.Answers.{most_states, most_hops};
 ghost use Rattle.graph.specs.Hops.{count};

@@ -4,6 +4,8 @@
 // the hop is chosen; the answer is one byte a state, 1 where the state is reached. That it finds
 // exactly what walks of any length reach is proved here once, for every set.
 // Uses `graph_successors` for the hops of a state, `lts` for the closure of a relation.
+#![tactic(auto)]
+
 ghost use Rattle.std.specs.Prelude.{◌≡◌, false, ◌++◌, ◌<◌, ◌≤◌, length, drop, replicate};
 ghost use Rattle.walk_reach.specs.Internal.Reach.{chosen_in};
 ghost use Rattle.walk_reach.specs.Internal.Frontier.{visited, reached_bytes, seen_with, queue_with, tail_with, Chosen, Space, Frontier, Expanded};

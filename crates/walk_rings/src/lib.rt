@@ -4,6 +4,8 @@
 // along the silent (tau) hops from each state without a rank, in ascending order, asks whether it
 // leads back.
 // Uses `walk_acyclic` for the ranks, `walk_reach` and `walk_silent` for the search.
+#![tactic(auto)]
+
 ghost use Rattle.std.specs.Prelude.{◌≡◌, ◌<◌, ◌≤◌, length};
 ghost use Rattle.base_bounded.specs.Quantifiers.{any};
 ghost use Rattle.graph.specs.Hops.{count};

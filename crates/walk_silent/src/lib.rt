@@ -5,4 +5,6 @@
 // searches along it. That a graph without rings has a rank that decreases along every silent hop is
 // proved here; walks along silent hops end by it.
 // Uses `walk_reach` for reachability along a set of hops, `lts` for the closure of a relation.
+#![tactic(auto)]
+
 pub mod chosen; // chosen.rt: the silent hops as bytes, one a hop

@@ -6,6 +6,8 @@
 // where silent hops lead upward only or downward only, that takes two passes at most.
 // Uses `graph_successors` for the hops of a state, `walk_acyclic` for the test of one state, and
 // `walk_silent` for what a ring is.
+#![tactic(auto)]
+
 ghost use Rattle.std.specs.Prelude.{◌≡◌, ◌+◌, ◌<◌, ◌≤◌, length};
 ghost use Rattle.graph.specs.Hops.{count, labelled};
 ghost use Rattle.base_bounded.specs.Quantifiers.{tally};
@@ -21,7 +23,7 @@ use graph_successors::{STARTS, start_of};
 use walk_acyclic::ends_ranked;
 
 // How far it has come: how many states are placed, and how many places the order has so far.
-#[derive(Drop)]
+#[derive(Clone, Copy)]
 pub struct Counts {
     pub states: usize,
     pub places: usize,

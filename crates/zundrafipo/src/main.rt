@@ -3,6 +3,8 @@
 // Where the input cannot be read it prints neither, since a file that was cut by a failure is no
 // short file. What fails is written to standard error; a program here has no exit status.
 // Uses `report_entry` for the report, and io and libc of the toolchain.
+#![tactic(auto)]
+
 ghost use Rattle.io.specs.Counts.{IsPrefixLen};
 
 use libc::{STDERR_FILENO, STDIN_FILENO, STDOUT_FILENO};
@@ -10,7 +12,7 @@ use report_entry::print::{MOST_INPUT, MOST_TEXT, print_file};
 
 // What came of reading: how many bytes were taken, and whether a read failed before the end of the
 // input was seen.
-#[derive(Drop)]
+#[derive(Clone, Copy)]
 struct Input {
     taken: usize,
     failed: bool,
