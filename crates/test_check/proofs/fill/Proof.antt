@@ -6,46 +6,46 @@ use lib.ListN.{length}
 use Rattle.test_check.proofs.fill.Statement.{statement}
 use Rattle.test_check.proofs.fill.Tie as tie
 
-abbrev invariant-loop : tie.invariant-loop
+abbrev invariant-loop : tie.invariant-loop-i
 invariant-loop hops₀ i₀ hops i = (i ≤ 4097) × (length hops ≡ length hops₀)
 
-abbrev decreases-loop : tie.decreases-loop
+abbrev decreases-loop : tie.decreases-loop-i
 decreases-loop hops₀ i₀ hops i = 4097 - i
 
-loop-holds : tie.Need-loop-init invariant-loop decreases-loop
+loop-holds : tie.Need-loop-i-init invariant-loop decreases-loop
 loop-holds c = search rules
 
-mul-put : tie.Need-overflow-mul-put invariant-loop decreases-loop
+mul-put : tie.Need-overflow_mul-i invariant-loop decreases-loop
 mul-put c = search rules
 
-cast-put : tie.Need-overflow-cast-put invariant-loop decreases-loop
+cast-put : tie.Need-overflow_cast-i invariant-loop decreases-loop
 cast-put c = search rules
 
 put-requires : tie.Need-put-requires invariant-loop decreases-loop
 put-requires c κs = search rules
 
-mul-put-2 : tie.Need-overflow-mul-put-2 invariant-loop decreases-loop
+mul-put-2 : tie.Need-overflow_mul-i-in-loop-i invariant-loop decreases-loop
 mul-put-2 c = search rules
 
-add-put : tie.Need-overflow-add-put invariant-loop decreases-loop
+add-put : tie.Need-overflow_add-i invariant-loop decreases-loop
 add-put c = search rules
 
-cast-put-2 : tie.Need-overflow-cast-put-2 invariant-loop decreases-loop
+cast-put-2 : tie.Need-overflow_cast-i-in-loop-i invariant-loop decreases-loop
 cast-put-2 c = search rules
 
-put-requires-2 : tie.Need-put-requires-2 invariant-loop decreases-loop
+put-requires-2 : tie.Need-put-requires-in-loop-i invariant-loop decreases-loop
 put-requires-2 c κs = search rules
 
-add-i : tie.Need-overflow-add-i invariant-loop decreases-loop
+add-i : tie.Need-overflow_add-i-in-loop-i invariant-loop decreases-loop
 add-i c = search rules
 
-loop-less : tie.Need-loop-smaller invariant-loop decreases-loop
+loop-less : tie.Need-loop-i-smaller invariant-loop decreases-loop
 loop-less c = search rules
 
-loop-again : tie.Need-loop-preserved invariant-loop decreases-loop
+loop-again : tie.Need-loop-i-preserved invariant-loop decreases-loop
 loop-again c = search rules
 
-same_length : tie.Need-same-length invariant-loop decreases-loop
+same_length : tie.Need-shape_of-hops invariant-loop decreases-loop
 same_length c = search rules
 
 returns : tie.Need-returns invariant-loop decreases-loop

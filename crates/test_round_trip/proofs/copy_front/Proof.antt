@@ -5,29 +5,29 @@ use lib.Seq.{length-take-le}
 use Rattle.test_round_trip.proofs.copy_front.Statement.{statement}
 use Rattle.test_round_trip.proofs.copy_front.Tie as tie
 
-returns : tie.Need-returns
+returns : tie.Need-returns-then-out-capacity
 returns c = search rules
 
-slice-relend-prefix-copy-file : tie.Need-slice-relend-prefix-copy-file
+slice-relend-prefix-copy-file : tie.Need-slice_bounds-copy_file-end
 slice-relend-prefix-copy-file c = search rules
 
-slice-aggregate-copy-file : tie.Need-slice-aggregate-copy-file
+slice-aggregate-copy-file : tie.Need-slice_bounds-copy_file-end-2
 slice-aggregate-copy-file c = sym (length-take-le _ _ (search rules))
 
-copy-file-requires : tie.Need-copy-file-requires
+copy-file-requires : tie.Need-copy_file-requires
 copy-file-requires c κs = search rules
 
-print-written-requires : tie.Need-print-written-requires
+print-written-requires : tie.Need-print_written-requires
 print-written-requires c κs = search rules
 
-same_length : tie.Need-same-length
+same_length : tie.Need-shape_of-out
 same_length c = search rules
 
-returns-2 : tie.Need-returns-2
+returns-2 : tie.Need-returns
 returns-2 c = search rules
 
-pub copy-front-spec : {M : Type 1} → statement M
-copy-front-spec =
+pub copy_front_spec : {M : Type 1} → statement M
+copy_front_spec =
     tie.close
     (tie.spec
     returns

@@ -9,68 +9,68 @@ use Rattle.io.proofs.Counting.{prefix_len_of_le}
 use Rattle.zundrafipo.proofs.read_input.Statement.{statement}
 use Rattle.zundrafipo.proofs.read_input.Tie as tie
 
-abbrev invariant-loop : tie.invariant-loop
+abbrev invariant-loop : tie.invariant-loop-taken
 invariant-loop fd buffer₀ taken₀ buffer taken = (length buffer ≡ length buffer₀) × (taken ≤ length buffer)
 
-abbrev decreases-loop : tie.decreases-loop
+abbrev decreases-loop : tie.decreases-loop-taken
 decreases-loop fd buffer₀ taken₀ buffer taken = length buffer - taken
 
-loop-holds : tie.Need-loop-init invariant-loop decreases-loop
+loop-holds : tie.Need-loop-taken-init invariant-loop decreases-loop
 loop-holds c = search rules
 
-sub_read : tie.Need-overflow-sub-read invariant-loop decreases-loop
+sub_read : tie.Need-slice_bounds-read-count invariant-loop decreases-loop
 sub_read c = search rules
 
-part-read-start : tie.Need-slice-bounds-read-start invariant-loop decreases-loop
+part-read-start : tie.Need-slice_bounds-read-start invariant-loop decreases-loop
 part-read-start c = search rules
 
-part-read-end : tie.Need-slice-bounds-read-end invariant-loop decreases-loop
+part-read-end : tie.Need-slice_bounds-read-end invariant-loop decreases-loop
 part-read-end c = search rules
 
-read-requires : tie.Need-read-requires invariant-loop decreases-loop
+read-requires : tie.Need-read-got-requires invariant-loop decreases-loop
 read-requires c κs = search rules
 
-same_length : tie.Need-same-length invariant-loop decreases-loop
+same_length : tie.Need-shape_of-buffer-then-got-lt0 invariant-loop decreases-loop
 same_length c = search rules
 
-returns : tie.Need-returns invariant-loop decreases-loop
+returns : tie.Need-returns-then-got-lt0 invariant-loop decreases-loop
 returns c = prefix_len_of_le _ _ (omega arith)
 
-sub-count : tie.Need-overflow-sub-count invariant-loop decreases-loop
+sub-count : tie.Need-slice_bounds-count-count invariant-loop decreases-loop
 sub-count c = search rules
 
-part-count-start : tie.Need-slice-bounds-count-start invariant-loop decreases-loop
+part-count-start : tie.Need-slice_bounds-count-start invariant-loop decreases-loop
 part-count-start c = search rules
 
-part-count-end : tie.Need-slice-bounds-count-end invariant-loop decreases-loop
+part-count-end : tie.Need-slice_bounds-count-end invariant-loop decreases-loop
 part-count-end c = search rules
 
-count-requires : tie.Need-count-requires invariant-loop decreases-loop
+count-requires : tie.Need-count-more-requires invariant-loop decreases-loop
 count-requires c κs = search rules
 
-add-taken : tie.Need-overflow-add-taken invariant-loop decreases-loop
+add-taken : tie.Need-overflow_add-taken invariant-loop decreases-loop
 add-taken c = omega arith
 
-loop-less : tie.Need-loop-smaller invariant-loop decreases-loop
+loop-less : tie.Need-loop-taken-smaller invariant-loop decreases-loop
 loop-less c = omega arith
 
-loop-again : tie.Need-loop-preserved invariant-loop decreases-loop
+loop-again : tie.Need-loop-taken-preserved invariant-loop decreases-loop
 loop-again c = (omega arith, omega arith)
 
-same-length-2 : tie.Need-same-length-2 invariant-loop decreases-loop
+same-length-2 : tie.Need-shape_of-buffer-after-loop-taken invariant-loop decreases-loop
 same-length-2 c = search rules
 
-returns-2 : tie.Need-returns-2 invariant-loop decreases-loop
+returns-2 : tie.Need-returns-after-loop-taken invariant-loop decreases-loop
 returns-2 c = prefix_len_of_le _ _ (omega arith)
 
-same-length-3 : tie.Need-same-length-3 invariant-loop decreases-loop
+same-length-3 : tie.Need-shape_of-buffer-then-more-eq0 invariant-loop decreases-loop
 same-length-3 c = search rules
 
-returns-3 : tie.Need-returns-3 invariant-loop decreases-loop
+returns-3 : tie.Need-returns-then-more-eq0 invariant-loop decreases-loop
 returns-3 c = prefix_len_of_le _ _ (omega arith)
 
-pub read-input-spec : {M : Type 1} → statement M
-read-input-spec =
+pub read_input_spec : {M : Type 1} → statement M
+read_input_spec =
     tie.close
     (tie.spec
     invariant-loop

@@ -12,5 +12,5 @@ foreseen-requires c κs = search rules
 returns : tie.Need-returns
 returns c = ap (λ (x : Written). x.answer) c.before.foreseen.ensures ∙ gives_answer _ _ _ _
 
-pub write-answer-spec : {M : Type 1} → statement M
-write-answer-spec = tie.close (tie.spec foreseen-requires returns)
+pub write_answer_spec : {M : Type 1} → statement M
+write_answer_spec = tie.close (tie.spec foreseen-requires returns)
