@@ -63,7 +63,7 @@ loop-holds c =
       omega arith,
       omega (arith, first_next hs up at),
       refl,
-      rw f (on_none hs s.args.hops2.now s.args.map.now s.args.seen.now (mapped s.args.map.now at) s.args.k (first_of hs at) s.args.stamps-1.now),
+      rw f (on_none hs s.args.hops2.now s.args.map.now s.args.seen.now (mapped s.args.map.now at) s.args.k (first_of hs at) s.args.stamps.now),
     )
 
 stamp-hop-requires : tie.Need-stamp_hop-requires invariant-loop decreases-loop
@@ -91,7 +91,7 @@ loop-again c =
       omega arith,
       state_more s.args.hops1.now s.args.hops2.now s.args.map.now s.args.seen.now (mapped s.args.map.now at) s.args.k
           s.requires.0.auditable.admitted.ascending at own s.requires.0.auditable.ready s.args.images.now s.requires.0.imaged (and_yes seen-too (eq-eqb _ _ own))
-          s.args.stamps-1.now c.before.before.before.before.before.loop-i.stamps-1 (omega arith) v.2 (omega arith) c.before.before.stamp_hop.ensures v.5,
+          s.args.stamps.now c.before.before.before.before.before.loop-i.stamps (omega arith) v.2 (omega arith) c.before.before.stamp_hop.ensures v.5,
     )
 
 same_length : tie.Need-shape_of-stamps invariant-loop decreases-loop

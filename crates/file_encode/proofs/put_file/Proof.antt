@@ -73,7 +73,7 @@ returns : tie.Need-returns
 returns c =
     let k = c.before.before.before.before.before.before.before.before.before.before.before.before.before.before.before.before.before.before.before.before.before in
     let st = k.before.before.before.before.before in
-    file_put st.args.shape st.args.hops.now st.args.names.now (ap (λ (n : ℕ). initial_place + n) k.before.initial_length-hops_at.ensures) (ap (λ (n : ℕ). initial_place + k.before.initial_length-hops_at.result + n) k.hops_length.ensures) refl st.args.out-1.now c.before.before.before.before.before.before.before.before.before.before.before.before.before.before.before.before.before.before.before.before.bits_of-bits.ensures c.before.before.before.before.before.before.before.before.before.before.before.before.before.before.before.before.before.before.put_head.ensures c.before.before.before.before.before.before.before.before.before.before.before.before.before.before.put_initial.ensures c.before.before.before.before.before.before.before.before.before.before.put_hops.ensures c.before.before.before.before.before.before.put_bytes.ensures c.before.before.put_lines_of.ensures
+    file_put st.args.shape st.args.hops.now st.args.names.now (ap (λ (n : ℕ). initial_place + n) k.before.initial_length-hops_at.ensures) (ap (λ (n : ℕ). initial_place + k.before.initial_length-hops_at.result + n) k.hops_length.ensures) refl st.args.out.now c.before.before.before.before.before.before.before.before.before.before.before.before.before.before.before.before.before.before.before.before.bits_of-bits.ensures c.before.before.before.before.before.before.before.before.before.before.before.before.before.before.before.before.before.before.put_head.ensures c.before.before.before.before.before.before.before.before.before.before.before.before.before.before.put_initial.ensures c.before.before.before.before.before.before.before.before.before.before.put_hops.ensures c.before.before.before.before.before.before.put_bytes.ensures c.before.before.put_lines_of.ensures
 
 pub put_file_spec : {M : Type 1} → statement M
 put_file_spec =

@@ -17,10 +17,10 @@ same_length : tie.Need-shape_of-out
 same_length c = search rules
 
 returns : tie.Need-returns-then-hop_count-ne0
-returns c = hops_put c.before.before.before.before.before.before.before.before.args.at c.before.before.before.before.before.before.before.before.args.out-1.now c.before.before.before.before.before.before.before.before.args.hops.now c.before.before.before.before.before.hop_count.ensures c.before.before.before.before.if-hop_count-ne0.true c.before.before.put_field.ensures
+returns c = hops_put c.before.before.before.before.before.before.before.before.args.at c.before.before.before.before.before.before.before.before.args.out.now c.before.before.before.before.before.before.before.before.args.hops.now c.before.before.before.before.before.hop_count.ensures c.before.before.before.before.if-hop_count-ne0.true c.before.before.put_field.ensures
 
 returns-2 : tie.Need-returns-else-hop_count-ne0
-returns-2 c = hops_put_none c.before.before.before.before.args.at c.before.before.before.before.args.out-1.now c.before.before.before.before.args.hops.now c.before.hop_count.ensures c.if-hop_count-ne0.false
+returns-2 c = hops_put_none c.before.before.before.before.args.at c.before.before.before.before.args.out.now c.before.before.before.before.args.hops.now c.before.hop_count.ensures c.if-hop_count-ne0.false
 
 pub put_hops_spec : {M : Type 1} → statement M
 put_hops_spec =

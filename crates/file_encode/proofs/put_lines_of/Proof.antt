@@ -18,10 +18,10 @@ same_length c = search rules
 returns : tie.Need-returns-then-lined
 returns c =
     let st = c.before.before.before.before.before.before.before in
-    lines_put st.args.at st.args.out-1.now st.args.hops.now st.requires.0 c.before.before.before.before.if-lined.true c.before.before.put_lines.ensures
+    lines_put st.args.at st.args.out.now st.args.hops.now st.requires.0 c.before.before.before.before.if-lined.true c.before.before.put_lines.ensures
 
 returns-2 : tie.Need-returns-else-lined
-returns-2 c = let st = c.before.before.before in lines_put_none st.args.at st.args.out-1.now st.args.hops.now st.requires.0 c.if-lined.false
+returns-2 c = let st = c.before.before.before in lines_put_none st.args.at st.args.out.now st.args.hops.now st.requires.0 c.if-lined.false
 
 pub put_lines_of_spec : {M : Type 1} → statement M
 put_lines_of_spec =

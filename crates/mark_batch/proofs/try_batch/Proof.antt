@@ -65,7 +65,7 @@ returns c =
       taken_are = at-answers.put_answers.ensures;
       answers_are = at_before.before_table.ensures;
     } in
-    filtered_swept (sense_of st.args.sense) st.args.shape st.args.hops.now st.args.marks-1.now st.requires.1.0 st.args.base st.args.m _ _
+    filtered_swept (sense_of st.args.sense) st.args.shape st.args.hops.now st.args.marks.now st.requires.1.0 st.args.base st.args.m _ _
     st.requires.1.1.0 st.requires.1.1.1 at-froms.put_keys-3.ensures tables _ _ at-filter.filter.ensures
 
 pub try_batch_spec : {M : Type 1} → statement M

@@ -30,13 +30,13 @@ filter-at-requires c κs =
 turn : (c : tie.After-slice_known-in-loop-i-1 invariant-loop decreases-loop) →
     let st = c.before.before.before.before.before.before.before.before.before in
     let v = c.before.before.before.before.before.loop-i in
-    FilteredTo st.args.hops.now st.args.marks-1.now st.args.froms.now st.args.answers.now (v.i + 1)
+    FilteredTo st.args.hops.now st.args.marks.now st.args.froms.now st.args.answers.now (v.i + 1)
     c.before.before.filter_at-lost.new.1.0 (v.lost + c.before.before.filter_at-lost.result)
 turn c =
     let st = c.before.before.before.before.before.before.before.before.before in
     let v = c.before.before.before.before.before.loop-i in
     let h = c.before.before.filter_at-lost.ensures in
-    filtered_more st.args.hops.now st.args.marks-1.now st.args.froms.now st.args.answers.now v.invariant.2 (omega arith) st.requires.1 h.0 h.1
+    filtered_more st.args.hops.now st.args.marks.now st.args.froms.now st.args.answers.now v.invariant.2 (omega arith) st.requires.1 h.0 h.1
 
 add-lost : tie.Need-overflow_add-lost invariant-loop decreases-loop
 add-lost c =

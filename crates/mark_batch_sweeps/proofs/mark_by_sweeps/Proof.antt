@@ -37,7 +37,7 @@ returns : tie.Need-returns
 returns c =
     let st = c.before.before.before.before.before.before.before.before.before.before.before.before.before in
     let hs = st.args.hops.now in
-    marks_over hs (marked_by st.args.sense st.args.shape hs) every_pair st.args.marks-1.now c.before.before.before.before.before.before.before.start_marks.ensures c.before.before.sweep_to_fixpoint.ensures
+    marks_over hs (marked_by st.args.sense st.args.shape hs) every_pair st.args.marks.now c.before.before.before.before.before.before.before.start_marks.ensures c.before.before.sweep_to_fixpoint.ensures
 
 pub mark_by_sweeps_spec : {M : Type 1} → statement M
 mark_by_sweeps_spec = tie.close (tie.spec order-of-requires start-marks-requires sweep-to-fixpoint-requires same_length returns)

@@ -43,7 +43,7 @@ run-pending-requires c κs =
 add-lost : tie.Need-overflow_add-lost invariant-loop decreases-loop
 add-lost c =
     let st = c.before.before.before.before.before.before.before.before.before.before.before.before.before.before in
-    omega (arith, c.before.before.before.before.before.before.before.before.before.loop-k.invariant.4.fewer, c.before.before.before.run_pending-outcome.ensures.fewer, count_within st.args.hops.now st.args.marks-1.now, st.requires.0.ready.hops_most)
+    omega (arith, c.before.before.before.before.before.before.before.before.before.loop-k.invariant.4.fewer, c.before.before.before.run_pending-outcome.ensures.fewer, count_within st.args.hops.now st.args.marks.now, st.requires.0.ready.hops_most)
 
 add-k : tie.Need-overflow_add-k invariant-loop decreases-loop
 add-k c = let v = c.before.before.before.before.before.before.before.before.before.loop-k.invariant in omega (arith, c.before.before.before.before.before.before.before.before.loop-k-test.true, v.0, v.1, c.before.before.before.before.before.before.before.before.before.before.before.before.before.before.requires.0.ready.hops_most)

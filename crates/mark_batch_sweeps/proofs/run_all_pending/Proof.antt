@@ -30,7 +30,7 @@ pass-pending-requires c κs = (c.before.before.before.before.before.before.befor
 add-all : tie.Need-overflow_add-all invariant-loop decreases-loop
 add-all c =
     let st = c.before.before.before.before.before.before.before.before.before.before.before.before.before.before in
-    omega (arith, c.before.before.before.before.before.before.before.loop-lost.invariant.1.fewer, c.before.before.pass_pending-outcome.ensures.fewer, count_within st.args.hops.now st.args.marks-1.now, st.requires.0.ready.hops_most)
+    omega (arith, c.before.before.before.before.before.before.before.loop-lost.invariant.1.fewer, c.before.before.pass_pending-outcome.ensures.fewer, count_within st.args.hops.now st.args.marks.now, st.requires.0.ready.hops_most)
 
 loop-less : tie.Need-loop-lost-smaller invariant-loop decreases-loop
 loop-less c = omega (arith, c.before.before.pass_pending-outcome.ensures.fewer, c.before.before.before.before.before.before.loop-lost-test.true)

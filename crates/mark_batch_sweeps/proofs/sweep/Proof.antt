@@ -43,7 +43,7 @@ try-batch-requires c κs =
 add-lost : tie.Need-overflow_add-lost invariant-loop decreases-loop
 add-lost c =
     let st = c.before.before.before.before.before.before.before.before.before.before.before.before in
-    omega (arith, c.before.before.before.before.before.before.before.before.loop-base.invariant.3.fewer, c.before.before.try_batch-lost.ensures.fewer, count_within st.args.hops.now st.args.marks-1.now, st.requires.0.ready.hops_most)
+    omega (arith, c.before.before.before.before.before.before.before.before.loop-base.invariant.3.fewer, c.before.before.try_batch-lost.ensures.fewer, count_within st.args.hops.now st.args.marks.now, st.requires.0.ready.hops_most)
 
 add-base : tie.Need-overflow_add-base invariant-loop decreases-loop
 add-base c = let st = c.before.before.before.before.before.before.before.before.before.before.before.before in omega (arith, c.before.before.before.before.before.before.batch_len-m.ensures.0, c.before.before.before.before.before.before.before.before.loop-base.invariant.0, st.requires.0.ready.hops_most)
@@ -62,7 +62,7 @@ loop-again c =
       v.0,
       c.before.before.before.before.before.before.batch_len-m.ensures.0,
       c.before.before.try_batch-lost.auto.1.1.1.1.1.1.1.1.0 ∙ v.2,
-      swept_then {B = TriedIn k hs b (b + m)} v.3 c.before.before.try_batch-lost.ensures (tried_more k hs b m st.args.marks-1.now),
+      swept_then {B = TriedIn k hs b (b + m)} v.3 c.before.before.try_batch-lost.ensures (tried_more k hs b m st.args.marks.now),
     )
 
 same_length : tie.Need-shape_of-marks invariant-loop decreases-loop

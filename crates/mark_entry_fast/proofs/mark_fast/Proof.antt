@@ -34,7 +34,7 @@ mark-rounds-requires c κs =
     let st = c.before.before.before.before.before.before.before.before.before.before.before.before in
     let e = c.before.before.before.before.before.before.before.before.before.check-checked.ensures in
     let z = c.before.before.before.before.before.before.before.if-checked-ne0.false in
-    let d = first_later _ _ st.args.marks-1.now e z c.before.before.before.before.later_answer-answer.ensures in
+    let d = first_later _ _ st.args.marks.now e z c.before.before.before.before.later_answer-answer.ensures in
     (admitted_indexable (check_admitted _ _ (rw e at z)), (c.before.before.before.before.before.before.starts_of-starts.ensures, mark_capacity _ _ _ _ (rw d at c.before.before.if-answer-ne0.false)))
 
 same_length : tie.Need-shape_of-marks

@@ -26,7 +26,7 @@ same_length c = search rules
 returns : tie.Need-returns
 returns c =
     let st = c.before.before.before.before.before.before.before.before.before.before.before.before in
-    marks_over st.args.hops.now (marked st.args.hops.now) every_pair st.args.marks-1.now c.before.before.before.before.before.before.before.start_marks.ensures c.before.before.sweep_to_fixpoint.ensures
+    marks_over st.args.hops.now (marked st.args.hops.now) every_pair st.args.marks.now c.before.before.before.before.before.before.before.start_marks.ensures c.before.before.sweep_to_fixpoint.ensures
 
 pub mark_all_spec : {M : Type 1} → statement M
 mark_all_spec =

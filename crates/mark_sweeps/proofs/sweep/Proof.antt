@@ -38,7 +38,7 @@ add-lost c =
       arith,
       c.before.before.before.before.before.loop-i.invariant.3.fewer,
       c.before.before.test_at-lost.ensures.fewer,
-      count_within st.args.hops.now st.args.marks-1.now,
+      count_within st.args.hops.now st.args.marks.now,
       st.requires.0.hops_most,
     )
 

@@ -80,7 +80,7 @@ test-again-requires c κs =
         places = lists_listed hs (pushed_lists hs a q g);
         capacity = a.capacity;
       },
-      (pushed_skipped hs a q g _ c.before.before.before.before.before.dirty_of-dirty.ensures, g.queue.flags-1),
+      (pushed_skipped hs a q g _ c.before.before.before.before.before.dirty_of-dirty.ensures, g.queue.flags),
     )
 
 unmark-fallen-requires : tie.Need-unmark_fallen-requires invariant-loop decreases-loop
@@ -120,7 +120,7 @@ loop-again c =
       record {
         push = record { given = record { ready = i.ready; table = i.table; capacity = m }; queue = tested_queue hs a q g c.before.before.before.before.before.test_again-left.ensures.1 };
         tables = v.1.tables;
-        leaving = leaving_next hs a q g d m w _ v.1.leaving-1;
+        leaving = leaving_next hs a q g d m w _ v.1.leaving;
       },
       (suc v.2.0, after_next hs a q g d m w (omega (arith, d.most, pushed_most hs a q g, i.ready.hops_most))),
     )

@@ -25,7 +25,7 @@ loop-holds : tie.Need-loop-at-init invariant-loop decreases-loop
 loop-holds c =
     let st = c.before.before.before.before.before.before in
     let own = c.before.before.put_identity.ensures ∙ ap identity_map st.requires.1.1 in
-    (first_stands st.args.sense st.args.shape st.args.hops-1.now _ st.args.n st.requires.0 st.requires.1.0 own, refl, refl)
+    (first_stands st.args.sense st.args.shape st.args.hops.now _ st.args.n st.requires.0 st.requires.1.0 own, refl, refl)
 
 step-requires : tie.Need-step-at-requires invariant-loop decreases-loop
 step-requires c κs =

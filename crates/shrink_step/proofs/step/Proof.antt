@@ -33,7 +33,7 @@ returns : tie.Need-returns-then-not-mark_stage
 returns c =
     let st = c.before.before.before.before.before.before.before.before.before in
     let q = c.before.before.before.before.part-seen.ensures.0 in
-    let n = seen_some st.args.sense st.args.at.shape-1 q c.before.before.mark_stage.ensures.0 (not-true _ c.if-not-mark_stage.true-raw) in
+    let n = seen_some st.args.sense st.args.at.shape q c.before.before.mark_stage.ensures.0 (not-true _ c.if-not-mark_stage.true-raw) in
     (more_is st.args.sense n, (rw (← n), st.requires.1.0))
 
 slice-aggregate-reduce-marked : tie.Need-slice_bounds-reduce_marked-end
@@ -63,13 +63,13 @@ array-share-prefix-next c = search rules
 slice-aggregate-put-composed : tie.Need-slice_bounds-put_composed-end
 slice-aggregate-put-composed c =
     let st = c.before.before.before.before.before.before.before.before.before.before.before.before.before.before.before.before.before.before in
-    sym (length-take-le st.args.at.shape-1.states _ (omega (arith, c.before.before.before.before.before.reduce_marked-made.auto.1.1.1.0, st.requires.0.admitted.states_most)))
+    sym (length-take-le st.args.at.shape.states _ (omega (arith, c.before.before.before.before.before.reduce_marked-made.auto.1.1.1.0, st.requires.0.admitted.states_most)))
 
 put-composed-requires : tie.Need-put_composed-requires
 put-composed-requires c κs =
     let st = c.before.before.before.before.before.before.before.before.before.before.before.before.before.before.before.before.before.before in
     let made = c.before.before.before.before.before.reduce_marked-made in
-    let sized = length-take-le st.args.at.shape-1.states made.new.1.1.1.0 (omega (arith, made.auto.1.1.1.0, st.requires.0.admitted.states_most)) in
+    let sized = length-take-le st.args.at.shape.states made.new.1.1.1.0 (omega (arith, made.auto.1.1.1.0, st.requires.0.admitted.states_most)) in
     (st.requires.1.1.0, λ s l. omega (arith, st.requires.1.1.1.0 s l, sized))
 
 slice-aggregate-part : tie.Need-slice_bounds-part-end
@@ -81,7 +81,7 @@ part-requires-2 c κs =
     let q = c.before.before.before.before.before.before.before.before.before.before.before.before.before.before.before.before.before.before.before.part-seen.ensures.0 in
     let e = c.before.before.before.before.before.before.before.before.before.before.before.before.before.before.before.before.before.mark_stage.ensures.1 in
     let made = c.before.before.before.before.before.before.before.before.before.before.before.reduce_marked-made in
-    (omega arith, omega (arith, hops_within st.args.sense st.args.at st.args.hops-1.now st.args.map-1.now q _ _ e made.ensures.0, made.auto.1.1.1.1.0, st.requires.0.admitted.hops_most))
+    (omega arith, omega (arith, hops_within st.args.sense st.args.at st.args.hops.now st.args.map.now q _ _ e made.ensures.0, made.auto.1.1.1.1.0, st.requires.0.admitted.hops_most))
 
 put-numbers-requires : tie.Need-put_numbers-requires
 put-numbers-requires c κs =
@@ -89,7 +89,7 @@ put-numbers-requires c κs =
     let q = c.before.before.before.before.before.before.before.before.before.before.before.before.before.before.before.before.before.before.before.before.part-seen.ensures.0 in
     let e = c.before.before.before.before.before.before.before.before.before.before.before.before.before.before.before.before.before.before.mark_stage.ensures.1 in
     let made = c.before.before.before.before.before.before.before.before.before.before.before.before.reduce_marked-made in
-    short_capacity st.args.sense st.args.at st.args.hops-1.now st.args.map-1.now q _ _ e made.ensures.0 _ made.ensures.1.1 c.part.ensures.0 st.requires.1.0
+    short_capacity st.args.sense st.args.at st.args.hops.now st.args.map.now q _ _ e made.ensures.0 _ made.ensures.1.1 c.part.ensures.0 st.requires.1.0
 
 add-t37 : tie.Need-overflow_add-result
 add-t37 c =
@@ -108,10 +108,10 @@ returns-2 c =
     let q = c.before.before.before.before.before.before.before.before.before.before.before.before.before.before.before.before.before.before.before.before.before.before.before.before.part-seen.ensures.0 in
     let e = c.before.before.before.before.before.before.before.before.before.before.before.before.before.before.before.before.before.before.before.before.before.before.mark_stage.ensures.1 in
     let made = c.before.before.before.before.before.before.before.before.before.before.before.before.before.before.before.before.reduce_marked-made in
-    let some = seen_some st.args.sense st.args.at.shape-1 q c.before.before.before.before.before.before.before.before.before.before.before.before.before.before.before.before.before.before.before.before.before.before.mark_stage.ensures.0 (not-false _ c.before.before.before.before.before.before.before.before.before.before.before.before.before.before.before.before.before.before.before.before.if-not-mark_stage.false-raw) in
-    let next = stepped st.args.sense st.args.at st.args.hops-1.now st.args.map-1.now q _ _ e made.ensures.0 _ made.ensures.1.1 _ made.ensures.1.0
+    let some = seen_some st.args.sense st.args.at.shape q c.before.before.before.before.before.before.before.before.before.before.before.before.before.before.before.before.before.before.before.before.before.before.mark_stage.ensures.0 (not-false _ c.before.before.before.before.before.before.before.before.before.before.before.before.before.before.before.before.before.before.before.before.if-not-mark_stage.false-raw) in
+    let next = stepped st.args.sense st.args.at st.args.hops.now st.args.map.now q _ _ e made.ensures.0 _ made.ensures.1.1 _ made.ensures.1.0
     c.before.before.before.before.part.ensures.0 c.before.before.before.put_numbers.ensures c.before.before.before.before.before.before.before.before.before.before.put_composed.ensures in
-    let few = hops_fewer st.args.sense st.args.at st.args.hops-1.now st.args.map-1.now q _ _ e made.ensures.0 st.requires.1.0 in
+    let few = hops_fewer st.args.sense st.args.at st.args.hops.now st.args.map.now q _ _ e made.ensures.0 st.requires.1.0 in
     (more_is st.args.sense some, (rw (← some) next, omega (arith, few, c.before.before.before.put_numbers.auto.0, st.requires.1.0)))
 
 pub step_spec : {M : Type 1} → statement M

@@ -25,7 +25,7 @@ module _ (o : tie.After-rank_once-first invariant-loop decreases-loop) where
   abbrev start : tie.Start invariant-loop decreases-loop
   start = o.before.before.before.before
 
-  same : length o.rank_once-first.last.1.1.1.0 ≡ length start.args.ranked-1.now
+  same : length o.rank_once-first.last.1.1.1.0 ≡ length start.args.ranked.now
   same = o.rank_once-first.kept.1.1.1.0
 
   ranks : Ranks start.args.hops.now start.args.shape.states o.rank_once-first.last.1.1.1.0

@@ -54,7 +54,7 @@ loop-holds c =
     let s = c.before.before.before.before.before.before.before.before.before.before.before.before in
     (s.requires.1.0, refl, ranked_none _ s.requires.1.1.unringed)
 
-ranks : (a : tie.At-loop-left invariant-loop decreases-loop) → Ranks (start a).args.hops.now (start a).args.shape.states a.loop-left.ranked-1
+ranks : (a : tie.At-loop-left invariant-loop decreases-loop) → Ranks (start a).args.hops.now (start a).args.shape.states a.loop-left.ranked
 ranks a = ranks_later (start a).requires.1.1 a.loop-left.invariant.1 a.loop-left.invariant.2
 
 descend-requires : tie.Need-descend-top-requires invariant-loop decreases-loop
@@ -75,10 +75,10 @@ module _ (c : tie.After-slice_known-in-loop-left-1 invariant-loop decreases-loop
   abbrev after : List ℕ
   after = c.before.before.rank_one-got.new.1.1.1.1.0
 
-  same : length after ≡ length (start turn).args.ranked-1.now
+  same : length after ≡ length (start turn).args.ranked.now
   same = c.before.before.rank_one-got.auto.1.1.1.1.0 ∙ turn.loop-left.inv.1
 
-  joined : Ranked (start turn).args.hops.now (start turn).args.shape.states (start turn).args.ranked-1.now after (turn.loop-left.got + c.before.before.rank_one-got.result)
+  joined : Ranked (start turn).args.hops.now (start turn).args.shape.states (start turn).args.ranked.now after (turn.loop-left.got + c.before.before.rank_one-got.result)
   joined = ranked_join turn.loop-left.inv.2 c.before.before.rank_one-got.ensures
 
 add-got : tie.Need-overflow_add-got invariant-loop decreases-loop

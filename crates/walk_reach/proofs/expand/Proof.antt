@@ -62,7 +62,7 @@ module _ (c : tie.At-loop-i invariant-loop decreases-loop) where
       }
 
   passed : Passed start.args.hops.now (chosen_in start.args.chosen.now) start.args.shape.states start.args.v.0 c.before.start_of-i.result c.loop-i.i
-      start.args.seen-1.now start.args.queue-1.now start.args.tail c.loop-i.seen-1 c.loop-i.queue-1 c.loop-i.end
+      start.args.seen.now start.args.queue.now start.args.tail c.loop-i.seen c.loop-i.queue c.loop-i.end
   passed = c.loop-i.invariant.1 start.args.shape start.args.v.0 range start.requires.1.1
 
 shared-slice-read-if1 : tie.Need-bounds-chosen-i invariant-loop decreases-loop

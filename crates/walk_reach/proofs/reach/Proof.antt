@@ -37,12 +37,12 @@ module _ (c : tie.At-loop-head invariant-loop decreases-loop) where
   abbrev start : tie.Start invariant-loop decreases-loop
   start = c.before.before.before.before.before.before.before.before.before.before.before.before.before.before.before.before.before
 
-  search-at : Search start.args.hops.now (chosen_in start.args.chosen.now) start.args.shape.states start.args.s.0 start.args.seen-1.now start.args.queue-1.now
-      c.loop-head.seen-1 c.loop-head.queue-1 c.loop-head.head c.loop-head.tail
+  search-at : Search start.args.hops.now (chosen_in start.args.chosen.now) start.args.shape.states start.args.s.0 start.args.seen.now start.args.queue.now
+      c.loop-head.seen c.loop-head.queue c.loop-head.head c.loop-head.tail
   search-at =
       let n = c.before.before.before.before.before.visit-tail.ensures in
-      c.loop-head.invariant start.args.s.0 start.args.seen-1.now start.args.queue-1.now
-      (search_starts start.args.shape.states start.args.seen-1.now start.args.queue-1.now start.requires.1.1.seen_capacity start.requires.1.1.queue_capacity
+      c.loop-head.invariant start.args.s.0 start.args.seen.now start.args.queue.now
+      (search_starts start.args.shape.states start.args.seen.now start.args.queue.now start.requires.1.1.seen_capacity start.requires.1.1.queue_capacity
       start.args.hops.now (chosen_in start.args.chosen.now) start.args.s.0 start.requires.1.0 c.before.before.before.before.before.before.before.before.before.before.clear.ensures n.0 n.1.0 n.1.1)
 
 mul-t20 : tie.Need-offset_bounds-queue-head invariant-loop decreases-loop

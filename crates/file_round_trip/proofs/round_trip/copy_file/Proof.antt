@@ -28,7 +28,7 @@ unwritten-requires : tie.Need-unwritten-requires
 unwritten-requires c κs = search rules
 
 returns : tie.Need-returns-then-answer-ne0
-returns c = let g = copy_unread c.before.before.before.before.before.before.before.before.before.args.file.now local (λ i. (c.before.before.before.before.before.before.before.before.shared_slice_known-1.given i).fits) local-length c.before.before.before.before.before.read-found.ensures.0 c.before.before.before.before.before.before.before.before.before.args.out-1.now c.before.if-answer-ne0.true in (c.unwritten.ensures ∙ g.0, g.1)
+returns c = let g = copy_unread c.before.before.before.before.before.before.before.before.before.args.file.now local (λ i. (c.before.before.before.before.before.before.before.before.shared_slice_known-1.given i).fits) local-length c.before.before.before.before.before.read-found.ensures.0 c.before.before.before.before.before.before.before.before.before.args.out.now c.before.if-answer-ne0.true in (c.unwritten.ensures ∙ g.0, g.1)
 
 number-place-requires : tie.Need-number_place-n-requires
 number-place-requires c κs = omega (arith, found_hops c.before.before.before.before.before.before.before.before.before.args.file.now local (λ i. (c.before.before.before.before.before.before.before.before.shared_slice_known-1.given i).fits) local-length c.before.before.before.before.before.read-found.ensures.0 c.before.if-answer-ne0.false)
@@ -61,7 +61,7 @@ same_length : tie.Need-shape_of-out
 same_length c = search rules
 
 returns-2 : tie.Need-returns
-returns-2 c = copy_gives c.before.before.before.before.before.before.before.before.before.before.before.before.before.before.before.before.before.before.args.file.now local (λ i. (c.before.before.before.before.before.before.before.before.before.before.before.before.before.before.before.before.before.shared_slice_known-1.given i).fits) local-length c.before.before.before.before.before.before.before.before.before.before.before.before.before.before.read-found.ensures.0 c.before.before.before.before.before.before.before.before.before.before.if-answer-ne0.false c.before.before.before.before.before.before.before.before.before.before.before.before.before.before.before.before.before.before.args.out-1.now c.before.before.before.before.before.before.before.before.before.before.before.before.before.before.read-found.ensures.1 c.before.before.before.before.before.before.before.before.number_place-n.ensures c.before.before.write.ensures.0 c.before.before.write.ensures.1
+returns-2 c = copy_gives c.before.before.before.before.before.before.before.before.before.before.before.before.before.before.before.before.before.before.args.file.now local (λ i. (c.before.before.before.before.before.before.before.before.before.before.before.before.before.before.before.before.before.shared_slice_known-1.given i).fits) local-length c.before.before.before.before.before.before.before.before.before.before.before.before.before.before.read-found.ensures.0 c.before.before.before.before.before.before.before.before.before.before.if-answer-ne0.false c.before.before.before.before.before.before.before.before.before.before.before.before.before.before.before.before.before.before.args.out.now c.before.before.before.before.before.before.before.before.before.before.before.before.before.before.read-found.ensures.1 c.before.before.before.before.before.before.before.before.number_place-n.ensures c.before.before.write.ensures.0 c.before.before.write.ensures.1
 
 pub copy_file_spec : {M : Type 1} → statement M
 copy_file_spec =

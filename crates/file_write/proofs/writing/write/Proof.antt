@@ -11,7 +11,7 @@ foreseen-requires c κs = search rules
 put-file-requires : tie.Need-put_file-requires
 put-file-requires c κs =
     let e = c.before.before.before.before.foreseen-written.ensures in
-    let old = c.before.before.before.before.before.before.before.before.args.out-1.now in
+    let old = c.before.before.before.before.before.before.before.before.args.out.now in
     (gives_writable _ _ _ old e c.before.if-answer-eq0.true, gives_length _ _ _ old e c.before.if-answer-eq0.true)
 
 same_length : tie.Need-shape_of-out

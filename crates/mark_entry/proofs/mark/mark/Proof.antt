@@ -34,7 +34,7 @@ mark-in-requires c κs =
     let st = c.before.before.before.before.before.before.before.before.before.before.before.before.before.before.before in
     let e = c.before.before.before.before.before.before.before.before.before.before.before.before.check-checked.ensures in
     let z = c.before.before.before.before.before.before.before.before.before.before.if-checked-ne0.false in
-    let d = mark_later _ _ _ st.args.marks-1.now e z c.before.before.before.before.before.before.before.before.before.sense_answer-sensed.ensures c.before.before.before.before.before.before.before.if-sensed-ne0.false c.before.before.before.before.later_answer-answer.ensures in
+    let d = mark_later _ _ _ st.args.marks.now e z c.before.before.before.before.before.before.before.before.before.sense_answer-sensed.ensures c.before.before.before.before.before.before.before.if-sensed-ne0.false c.before.before.before.before.later_answer-answer.ensures in
     let y = rw d at c.before.before.if-answer-eq0.true in
     (record { admitted = check_admitted _ _ (rw e at z); table = c.before.before.before.before.before.before.starts_of-starts.ensures }, (mark_ringless _ _ _ _ y, mark_capacity _ _ _ _ y))
 

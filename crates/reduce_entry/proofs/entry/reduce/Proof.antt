@@ -17,8 +17,8 @@ refused-reduction-requires c κs = search rules
 returns : tie.Need-returns-then-checked-ne0
 returns c =
     let st = c.before.before.before.before.before.before.before in
-    let map = st.args.map-1.now in
-    let short = st.args.short-1.now in
+    let map = st.args.map.now in
+    let short = st.args.short.now in
     let n = c.before.if-checked-ne0.true in
     let d = answer_checked _ _ _ _ _ c.before.before.before.check-checked.ensures n in
     (c.refused_reduction.ensures ∙ refused_returns _ _ _ map short d n, (refused_map _ _ _ map short d n, refused_short _ _ _ map short d n))
@@ -36,8 +36,8 @@ refused-reduction-requires-2 c κs = search rules
 returns-2 : tie.Need-returns-then-answer-ne0
 returns-2 c =
     let st = c.before.before.before.before.before.before.before.before.before.before.before.before in
-    let map = st.args.map-1.now in
-    let short = st.args.short-1.now in
+    let map = st.args.map.now in
+    let short = st.args.short.now in
     let n = c.before.if-answer-ne0.true in
     let d = answer_later _ _ _ _ _ c.before.before.before.before.before.before.before.before.check-checked.ensures c.before.before.before.before.before.before.if-checked-ne0.false c.before.before.before.later_answer-answer.ensures in
     (c.refused_reduction-then-answer-ne0.ensures ∙ refused_returns _ _ _ map short d n, (refused_map _ _ _ map short d n, refused_short _ _ _ map short d n))
@@ -57,8 +57,8 @@ same-length-2 c = search rules
 returns-3 : tie.Need-returns
 returns-3 c =
     let st = c.before.before.before.before.before.before.before.before.before.before.before.before.before.before.before.before.before.before.before in
-    let map = st.args.map-1.now in
-    let short = st.args.short-1.now in
+    let map = st.args.map.now in
+    let short = st.args.short.now in
     let z = c.before.before.before.before.before.before.before.before.if-answer-ne0.false in
     let d = answer_later _ _ _ _ _ c.before.before.before.before.before.before.before.before.before.before.before.before.before.before.before.check-checked.ensures c.before.before.before.before.before.before.before.before.before.before.before.before.before.if-checked-ne0.false c.before.before.before.before.before.before.before.before.before.before.later_answer-answer.ensures in
     let w = c.before.before.before.before.accepted_reduction.ensures in
