@@ -54,10 +54,10 @@ enum-known-found-2 : tie.Need-enum_known-found-in-Gap-1
 enum-known-found-2 c = search rules
 
 returns-2 : tie.Need-returns-in-At
-returns-2 c = searched c.before.before.before (At _) c.before.found-1.given.1
+returns-2 c = searched c.before (At _) c.in-At.is
 
 returns-3 : tie.Need-returns-in-Gap
-returns-3 c = searched c.before.before.before (Gap _) c.before.found-in-Gap-1.given.1
+returns-3 c = searched c.before (Gap _) c.in-Gap.is
 
 pub find_spec : {M : Type 1} → statement M
 find_spec =
