@@ -104,9 +104,9 @@ loop-again c =
       total_more _ _ l.invariant.6 m.ensures.0,
       l.invariant.7,
       ⊎_elim
-          (λ w. kept_before h.shape1 h.hops1.now h.hops2.now h.map.now l.s l.invariant.8 m.ensures.1.0 w.0.taken w.1 w.2)
-          (λ w. kept_later h.shape1 h.hops1.now h.hops2.now h.map.now l.s l.invariant.8 m.ensures.1.0 w.0.left w.1 w.2)
-          c.if-of-place.branch,
+          (λ w. kept_before h.shape1 h.hops1.now h.hops2.now h.map.now l.s l.invariant.8 m.ensures.1.0 w.if-of-place.true w.place-is w.state-is)
+          (λ w. kept_later h.shape1 h.hops1.now h.hops2.now h.map.now l.s l.invariant.8 m.ensures.1.0 w.if-of-place.false w.place-is w.state-is)
+          c.if-of-place.branch-raw,
     )
 
 share-of-requires : tie.Need-share_of-requires invariant-loop decreases-loop

@@ -78,8 +78,8 @@ loop-again c = let a = c.before.before.before in (
   search rules,
   search rules,
   omega arith,
-  ⊎_elim (λ w. w.1 ∙ tally_more (test a) a.loop-j.j a.loop-j.invariant.3 (told c.before w.0.taken))
-      (λ w. w.1 ∙ tally_skip (test a) a.loop-j.j a.loop-j.invariant.3 (told c.before w.0.left)) c.if-is_unstamped.branch,
+  ⊎_elim (λ w. w.faults-is ∙ tally_more (test a) a.loop-j.j a.loop-j.invariant.3 (told c.before w.if-is_unstamped.true))
+      (λ w. w.faults-is ∙ tally_skip (test a) a.loop-j.j a.loop-j.invariant.3 (told c.before w.if-is_unstamped.false)) c.if-is_unstamped.branch-raw,
 )
 
 returns : tie.Need-returns invariant-loop decreases-loop

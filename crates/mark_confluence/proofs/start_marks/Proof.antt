@@ -55,8 +55,8 @@ loop-again c =
       v.0,
       v.1,
       omega arith,
-      ⊎_elim (λ w. w.1 ∙ tabulate_more _ _ v.3 (first_silent _ _ (sym a ∙ w.0.taken)) (omega arith))
-          (λ w. w.1 ∙ tabulate_more _ _ v.3 (first_visible _ _ (λ q. w.0.left (a ∙ q))) (omega arith)) c.if-label_at-eq0.branch,
+      ⊎_elim (λ w. w.marks-is ∙ tabulate_more _ _ v.3 (first_silent _ _ (sym a ∙ w.if-label_at-eq0.true)) (omega arith))
+          (λ w. w.marks-is ∙ tabulate_more _ _ v.3 (first_visible _ _ (λ q. w.if-label_at-eq0.false (a ∙ q))) (omega arith)) c.if-label_at-eq0.branch-raw,
     )
 
 same_length : tie.Need-shape_of-marks invariant-loop decreases-loop

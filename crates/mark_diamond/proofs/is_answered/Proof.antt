@@ -34,7 +34,7 @@ hop-answers-requires c κs =
 returns-2 : tie.Need-returns
 returns-2 c =
     answered_else _ _ _ _ c.before.before.before.before.before.label_at-a.ensures c.before.before.before.before.to_at-s3.ensures c.hop_answers.ensures
-    (⊎_elim (λ w q. sym w.1.ensures ∙ w.2.left) (λ w q. absurd (w.left q)) c.before.if-a-eq0.branch)
+    (⊎_elim (λ w q. sym w.is_closed.ensures ∙ w.if-is_closed.false) (λ w q. absurd (w.if-a-eq0.false q)) c.before.if-a-eq0.branch-raw)
 
 pub is_answered_spec : {M : Type 1} → statement M
 is_answered_spec =

@@ -54,11 +54,11 @@ loop-again c =
     let lp = c.before.before.before.loop-i in
     let l : lp.i < count st.args.hops.now = omega (arith, c.before.before.before.before.hop_count-n.ensures) in
     let b = st.requires.0.from_in lp.i l in (
-      ⊎_elim (λ w. rw w.3 (simp length-set lp.invariant.0)) (λ w. rw w.1 lp.invariant.0) c.if-marks-i-eq1.branch,
+      ⊎_elim (λ w. rw w.leaving-is (simp length-set lp.invariant.0)) (λ w. rw w.leaving-is lp.invariant.0) c.if-marks-i-eq1.branch-raw,
       omega arith,
       ⊎_elim
-          (λ w. rw w.3 (leaving_more st.args.hops.now st.args.marks.now lp.leaving lp.invariant.2 (w.2.ensures ∙ w.1.ensures) (omega (arith, w.2.ensures, w.1.ensures, lp.invariant.0))))
-          (λ w. rw w.1 (leaving_skip st.args.hops.now st.args.marks.now lp.leaving lp.invariant.2 w.0.left)) c.if-marks-i-eq1.branch,
+          (λ w. rw w.leaving-is (leaving_more st.args.hops.now st.args.marks.now lp.leaving lp.invariant.2 (w.wide-s.ensures ∙ w.from_at.ensures) (omega (arith, w.wide-s.ensures, w.from_at.ensures, lp.invariant.0))))
+          (λ w. rw w.leaving-is (leaving_skip st.args.hops.now st.args.marks.now lp.leaving lp.invariant.2 w.if-marks-i-eq1.false)) c.if-marks-i-eq1.branch-raw,
     )
 
 returns : tie.Need-returns invariant-loop decreases-loop

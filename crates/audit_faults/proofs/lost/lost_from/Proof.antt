@@ -61,8 +61,8 @@ loop-again : tie.Need-loop-i-preserved invariant-loop decreases-loop
 loop-again c = let a = c.before.before.before in (
   search rules,
   omega arith,
-  ⊎_elim (λ w. w.1 ∙ tally_more (lost a) a.loop-i.i a.loop-i.invariant.2 (lost-is c.before w.0.taken))
-      (λ w. w.1 ∙ tally_skip (lost a) a.loop-i.i a.loop-i.invariant.2 (lost-is c.before w.0.left)) c.if-not-is_preserved.branch,
+  ⊎_elim (λ w. w.faults-is ∙ tally_more (lost a) a.loop-i.i a.loop-i.invariant.2 (lost-is c.before w.if-not-is_preserved.true))
+      (λ w. w.faults-is ∙ tally_skip (lost a) a.loop-i.i a.loop-i.invariant.2 (lost-is c.before w.if-not-is_preserved.false)) c.if-not-is_preserved.branch-raw,
 )
 
 returns : tie.Need-returns invariant-loop decreases-loop
