@@ -10,25 +10,25 @@ check-requires : tie.Need-check-first-requires
 check-requires c κs = search rules
 
 returns : tie.Need-returns-then-first-ne0
-returns c = answer_first _ _ _ _ _ c.before.before.check-first.ensures c.if-first-ne0.true
+returns c = answer_first _ _ _ _ _ c.check-first.ensures c.if-first-ne0.true
 
 check-requires-2 : tie.Need-check-second-requires
 check-requires-2 c κs = search rules
 
 returns-2 : tie.Need-returns-then-second-ne0
-returns-2 c = answer_second _ _ _ _ _ c.before.before.before.before.before.check-first.ensures c.before.before.before.if-first-ne0.false c.before.before.check-second.ensures c.if-second-ne0.true
+returns-2 c = answer_second _ _ _ _ _ c.check-first.ensures c.if-first-ne0.false c.check-second.ensures c.if-second-ne0.true
 
 refuse-requires : tie.Need-refuse-requires
 refuse-requires c κs = search rules
 
 returns-3 : tie.Need-returns-then-shape1-shape2
-returns-3 c = c.refuse.ensures ∙ answer_labels _ _ _ _ _ c.before.before.before.before.before.before.before.before.before.check-first.ensures c.before.before.before.before.before.before.before.if-first-ne0.false c.before.before.before.before.before.before.check-second.ensures c.before.before.before.before.if-second-ne0.false c.before.if-shape1-shape2.true
+returns-3 c = c.refuse.ensures ∙ answer_labels _ _ _ _ _ c.check-first.ensures c.if-first-ne0.false c.check-second.ensures c.if-second-ne0.false c.if-shape1-shape2.true
 
 map-fits-requires : tie.Need-map_fits-requires
 map-fits-requires c κs = search rules
 
 returns-4 : tie.Need-returns
-returns-4 c = answer_map _ _ _ _ _ c.before.before.before.before.before.before.before.before.before.check-first.ensures c.before.before.before.before.before.before.before.if-first-ne0.false c.before.before.before.before.before.before.check-second.ensures c.before.before.before.before.if-second-ne0.false c.before.if-shape1-shape2.false c.map_fits.ensures
+returns-4 c = answer_map _ _ _ _ _ c.check-first.ensures c.if-first-ne0.false c.check-second.ensures c.if-second-ne0.false c.if-shape1-shape2.false c.map_fits.ensures
 
 pub audit_answer_spec : {M : Type 1} → statement M
 audit_answer_spec =

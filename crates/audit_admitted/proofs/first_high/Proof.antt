@@ -32,11 +32,11 @@ shared-slice-read-if1 : tie.Need-bounds-map-s invariant-loop decreases-loop
 shared-slice-read-if1 c = search rules
 
 cast-if1 : tie.Need-overflow_cast-map invariant-loop decreases-loop
-cast-if1 c = omega (arith, c.shared_slice_known-1.given c.before.before.loop-s.s)
+cast-if1 c = omega (arith, c.shared_slice_known-1.given c.loop-s.s)
 
 returns : tie.Need-returns-then-shape2-map invariant-loop decreases-loop
 unfolding first_high
-returns c = sym (least_found _ _ (omega arith) c.before.before.before.before.loop-s.invariant.1 (not_no (le-ltb _ _ c.if-shape2-map.true)))
+returns c = sym (least_found _ _ (omega arith) c.loop-s.invariant.1 (not_no (le-ltb _ _ c.if-shape2-map.true)))
 
 add-s : tie.Need-overflow_add-s invariant-loop decreases-loop
 add-s c = search rules
@@ -45,11 +45,11 @@ loop-less : tie.Need-loop-s-smaller invariant-loop decreases-loop
 loop-less c = search rules
 
 loop-again : tie.Need-loop-s-preserved invariant-loop decreases-loop
-loop-again c = (omega arith, least_more _ _ c.before.before.before.before.loop-s.invariant.1 (not_yes (lt-ltb _ _ c.if-shape2-map.false)))
+loop-again c = (omega arith, least_more _ _ c.loop-s.invariant.1 (not_yes (lt-ltb _ _ c.if-shape2-map.false)))
 
 returns-2 : tie.Need-returns invariant-loop decreases-loop
 unfolding first_high
-returns-2 c = sym (least_done _ (omega arith) (omega arith) c.before.loop-s.invariant.1 ∙ sym (omega arith))
+returns-2 c = sym (least_done _ (omega arith) (omega arith) c.loop-s.invariant.1 ∙ sym (omega arith))
 
 pub first_high_spec : {M : Type 1} → statement M
 first_high_spec =

@@ -13,7 +13,7 @@ refuse-requires : tie.Need-refuse-requires
 refuse-requires c κs = search rules
 
 returns : tie.Need-returns-then-n-shape1
-returns c = c.refuse.ensures ∙ fits_length _ _ _ c.before.if-n-shape1.true
+returns c = c.refuse.ensures ∙ fits_length _ _ _ c.if-n-shape1.true
 
 first-high-requires : tie.Need-first_high-high-requires
 first-high-requires c κs = search rules
@@ -22,13 +22,13 @@ refuse-requires-2 : tie.Need-refuse-requires-then-high-n
 refuse-requires-2 c κs = search rules
 
 returns-2 : tie.Need-returns-then-high-n
-returns-2 c = c.refuse-then-high-n.ensures ∙ fits_high _ _ _ c.before.before.before.if-n-shape1.false c.before.before.first_high-high.ensures c.before.if-high-n.true
+returns-2 c = c.refuse-then-high-n.ensures ∙ fits_high _ _ _ c.if-n-shape1.false c.first_high-high.ensures c.if-high-n.true
 
 accept-requires : tie.Need-accept-requires
 accept-requires c κs = search rules
 
 returns-3 : tie.Need-returns
-returns-3 c = c.accept.ensures ∙ fits_accepts _ _ _ c.before.before.before.if-n-shape1.false c.before.before.first_high-high.ensures c.before.if-high-n.false
+returns-3 c = c.accept.ensures ∙ fits_accepts _ _ _ c.if-n-shape1.false c.first_high-high.ensures c.if-high-n.false
 
 pub map_fits_spec : {M : Type 1} → statement M
 map_fits_spec =

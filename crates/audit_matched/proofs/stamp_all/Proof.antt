@@ -22,15 +22,15 @@ cast-n : tie.Need-overflow_cast-n invariant-loop decreases-loop
 cast-n c = search rules
 
 loop-holds : tie.Need-loop-u-init invariant-loop decreases-loop
-loop-holds c = (search rules, search rules, search rules, stamped_first _ _ _ _ _ _ c.before.before.before.before.before.before.requires.0.auditable.admitted.ascending _)
+loop-holds c = (search rules, search rules, search rules, stamped_first _ _ _ _ _ _ c.requires.0.auditable.admitted.ascending _)
 
 cast-t17 : tie.Need-overflow_cast-u invariant-loop decreases-loop
 cast-t17 c = search rules
 
 stamp-state-requires : tie.Need-stamp_state-requires invariant-loop decreases-loop
 stamp-state-requires c κs =
-    let s = c.before.before.before.before.before.before.before.before.before in
-    (s.requires.0, (s.requires.1.0, (omega (arith, c.before.before.loop-u.invariant.2, s.requires.1.1), omega arith)))
+    let s = c in
+    (s.requires.0, (s.requires.1.0, (omega (arith, c.loop-u.invariant.2, s.requires.1.1), omega arith)))
 
 add-u : tie.Need-overflow_add-u invariant-loop decreases-loop
 add-u c = search rules
@@ -40,15 +40,15 @@ loop-less c = search rules
 
 loop-again : tie.Need-loop-u-preserved invariant-loop decreases-loop
 unfolding StampedFrom
-loop-again c = (search rules, omega arith, omega arith, c.before.before.stamp_state.ensures _ c.before.before.before.before.before.loop-u.invariant.3)
+loop-again c = (search rules, omega arith, omega arith, c.stamp_state.ensures _ c.loop-u.invariant.3)
 
 same_length : tie.Need-shape_of-stamps invariant-loop decreases-loop
 same_length c = search rules
 
 returns : tie.Need-returns invariant-loop decreases-loop
 returns c =
-    let s = c.before.before.before.before.before.before.before.before in
-    stamped_last _ _ _ _ _ _ s.requires.0.auditable.admitted.range s.requires.0.auditable.admitted.ascending _ _ (omega arith) c.before.loop-u.invariant.3
+    let s = c in
+    stamped_last _ _ _ _ _ _ s.requires.0.auditable.admitted.range s.requires.0.auditable.admitted.ascending _ _ (omega arith) c.loop-u.invariant.3
 
 pub stamp_all_spec : {M : Type 1} → statement M
 stamp_all_spec =

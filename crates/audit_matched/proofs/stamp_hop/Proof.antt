@@ -29,13 +29,13 @@ same_length c = search rules
 
 returns : tie.Need-returns-then-p-stamps
 returns c =
-    let s = c.before.before.before.before.args in
-    ap (λ (p : ℕ). set s.stamps.now p s.k) c.before.wide-p.ensures
+    let s = c.args in
+    ap (λ (p : ℕ). set s.stamps.now p s.k) c.wide-p.ensures
 
 returns-2 : tie.Need-returns-else-p-stamps
 returns-2 c =
-    let s = c.before.before.before.before.args in
-    sym (set_out s.stamps.now c.before.wide-p.result s.k (omega arith)) ∙ ap (λ (p : ℕ). set s.stamps.now p s.k) c.before.wide-p.ensures
+    let s = c.args in
+    sym (set_out s.stamps.now c.wide-p.result s.k (omega arith)) ∙ ap (λ (p : ℕ). set s.stamps.now p s.k) c.wide-p.ensures
 
 pub stamp_hop_spec : {M : Type 1} → statement M
 stamp_hop_spec =

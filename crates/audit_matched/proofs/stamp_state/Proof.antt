@@ -46,17 +46,17 @@ start-of-requires-2 : tie.Need-start_of-i-requires invariant-loop decreases-loop
 start-of-requires-2 c κs = omega arith
 
 -- the map of u, by its index
-map_of : (c : tie.After-wide-at invariant-loop decreases-loop) → c.before.map_at-v.result.0 ≡ mapped c.before.before.before.before.before.before.before.args.map.now c.wide-at.result
-map_of c = c.before.map_at-v.ensures ∙ ap (mapped c.before.before.before.before.before.before.before.args.map.now) (sym c.wide-at.ensures)
+map_of : (c : tie.After-wide-at invariant-loop decreases-loop) → c.map_at-v.result.0 ≡ mapped c.args.map.now c.wide-at.result
+map_of c = c.map_at-v.ensures ∙ ap (mapped c.args.map.now) (sym c.wide-at.ensures)
 
 loop-holds : tie.Need-loop-i-init invariant-loop decreases-loop
 loop-holds c =
-    let s = c.before.before.before.before.before.before.before.before.before.before.before.before.before in
+    let s = c in
     let hs = s.args.hops1.now in
     let up = s.requires.0.auditable.admitted.ascending in
-    let at = c.before.before.before.before.before.before.wide-at.result in
-    let in_table : at + 1 ≤ most_states = omega (arith, c.before.before.before.before.before.before.wide-at.ensures, s.requires.1.1.1, s.requires.0.auditable.admitted.states_most) in
-    let p : c.before.start_of-past.result ≡ first_of hs (at + 1) = start_is hs s.args.starts1.now s.requires.0.table _ refl in_table c.before.start_of-past.ensures in
+    let at = c.wide-at.result in
+    let in_table : at + 1 ≤ most_states = omega (arith, c.wide-at.ensures, s.requires.1.1.1, s.requires.0.auditable.admitted.states_most) in
+    let p : c.start_of-past.result ≡ first_of hs (at + 1) = start_is hs s.args.starts1.now s.requires.0.table _ refl in_table c.start_of-past.ensures in
     let f : c.start_of-i.result ≡ first_of hs at = start_is hs s.args.starts1.now s.requires.0.table _ refl (omega arith) c.start_of-i.ensures in (
       p,
       omega (arith, first_within hs up (at + 1)),
@@ -68,8 +68,8 @@ loop-holds c =
 
 stamp-hop-requires : tie.Need-stamp_hop-requires invariant-loop decreases-loop
 stamp-hop-requires c κs =
-    let s = c.before.before.before.before.before.before.before.before.before.before.before.before.before.before.before.before in
-    omega (arith, c.before.before.loop-i.invariant, c.before.loop-i-test, s.requires.0.auditable.admitted.hops_most)
+    let s = c in
+    omega (arith, c.loop-i.invariant, c.loop-i-test, s.requires.0.auditable.admitted.hops_most)
 
 add-i : tie.Need-overflow_add-i invariant-loop decreases-loop
 add-i c = search rules
@@ -79,11 +79,11 @@ loop-less c = search rules
 
 loop-again : tie.Need-loop-i-preserved invariant-loop decreases-loop
 loop-again c =
-    let s = c.before.before.before.before.before.before.before.before.before.before.before.before.before.before.before.before.before.before.before in
-    let v = c.before.before.before.before.before.loop-i.invariant in
-    let at = c.before.before.before.before.before.before.before.before.before.before.before.before.wide-at.result in
+    let s = c in
+    let v = c.loop-i.invariant in
+    let at = c.wide-at.result in
     let own = map_of c.before.before.before.before.before.before.before.before.before.before.before.before in
-    let seen-too = and_left (eqb (get_or s.args.seen.now at 0) 1) _ c.before.before.before.before.before.before.before.before.if-seen-at.true in (
+    let seen-too = and_left (eqb (get_or s.args.seen.now at 0) 1) _ c.if-seen-at.true in (
       v.0,
       v.1,
       omega arith,
@@ -91,7 +91,7 @@ loop-again c =
       omega arith,
       state_more s.args.hops1.now s.args.hops2.now s.args.map.now s.args.seen.now (mapped s.args.map.now at) s.args.k
           s.requires.0.auditable.admitted.ascending at own s.requires.0.auditable.ready s.args.images.now s.requires.0.imaged (and_yes seen-too (eq-eqb _ _ own))
-          s.args.stamps.now c.before.before.before.before.before.loop-i.stamps (omega arith) v.2 (omega arith) c.before.before.stamp_hop.ensures v.5,
+          s.args.stamps.now c.loop-i.stamps (omega arith) v.2 (omega arith) c.stamp_hop.ensures v.5,
     )
 
 same_length : tie.Need-shape_of-stamps invariant-loop decreases-loop
@@ -99,18 +99,18 @@ same_length c = omega arith
 
 returns : tie.Need-returns-after-loop-i invariant-loop decreases-loop
 returns c =
-    let s = c.before.before.before.before.before.before.before.before.before.before.before.before.before.before.before in
-    let v = c.before.loop-i.invariant in
-    let at = c.before.before.before.before.before.before.before.before.wide-at.result in
-    let class : s.args.r.0 ≡ mapped s.args.map.now at = sym (eqb-true _ _ (and_right (eqb (get_or s.args.seen.now at 0) 1) _ c.before.before.before.before.if-seen-at.true)) ∙ map_of c.before.before.before.before.before.before.before.before in
-    rw (class, ← c.before.before.before.before.before.before.before.before.wide-at.ensures)
+    let s = c in
+    let v = c.loop-i.invariant in
+    let at = c.wide-at.result in
+    let class : s.args.r.0 ≡ mapped s.args.map.now at = sym (eqb-true _ _ (and_right (eqb (get_or s.args.seen.now at 0) 1) _ c.if-seen-at.true)) ∙ map_of c.before.before.before.before.before.before.before.before in
+    rw (class, ← c.wide-at.ensures)
     (on_done s.args.hops1.now s.args.hops2.now s.args.map.now s.args.seen.now (mapped s.args.map.now at) s.args.k _ _ _ (omega arith) (omega arith) v.5)
 
 returns-2 : tie.Need-returns-else-seen-at invariant-loop decreases-loop
 returns-2 c =
-    let s = c.before.before.before.before.before.before.before.before.before.before.before in
+    let s = c in
     state_skipped s.args.hops1.now s.args.hops2.now s.args.map.now s.args.seen.now s.args.r.0 s.args.k s.requires.0.auditable.admitted.ascending s.args.u.0
-    c.before.before.before.before.before.map_at-v.ensures (rw c.before.before.before.before.wide-at.ensures at c.if-seen-at.false) _
+    c.map_at-v.ensures (rw c.wide-at.ensures at c.if-seen-at.false) _
 
 pub stamp_state_spec : {M : Type 1} → statement M
 stamp_state_spec =

@@ -29,9 +29,9 @@ audit-requires c κs = search rules
 
 returns : tie.Need-returns
 unfolding audit_of_reduce
-returns c = let s = c.before.before.before.before.before.before.before.before in
+returns c = let s = c in
     let e : s.args.shape.states - 0 ≡ s.args.shape.states = omega arith in
-    rw (eq-eqb _ 0 s.requires.0) (rw (c.before.before.part.ensures.0, e) at c.audit.ensures)
+    rw (eq-eqb _ 0 s.requires.0) (rw (c.part.ensures.0, e) at c.audit.ensures)
 
 pub audit_reduction_spec : {M : Type 1} → statement M
 audit_reduction_spec =

@@ -22,16 +22,16 @@ same-length-2 c = omega arith
 
 returns : tie.Need-returns-then-answer-ne0
 unfolding audit_of_reduce
-returns c = let r = c.before.before.before.before.before.before.before.before.reduce-reduction in
-    (r.ensures.0, (rw (ne_eqb _ 0 c.before.if-answer-ne0.true, c.no_fault.ensures), ((λ z. absurd (c.before.if-answer-ne0.true z)), (r.ensures.1.0, r.ensures.1.1))))
+returns c = let r = c.reduce-reduction in
+    (r.ensures.0, (rw (ne_eqb _ 0 c.if-answer-ne0.true, c.no_fault.ensures), ((λ z. absurd (c.if-answer-ne0.true z)), (r.ensures.1.0, r.ensures.1.1))))
 
 audit-reduction-requires : tie.Need-audit_reduction-audit-requires
 audit-reduction-requires c κs =
-    let r = c.before.before.before.before.before.before.before.before.before.reduce-reduction in
-    let s = c.before.before.before.before.before.before.before.before.before.before.before.before.before.before.before.args in
-    let zero = c.before.before.if-answer-ne0.false in (
+    let r = c.reduce-reduction in
+    let s = c.args in
+    let zero = c.if-answer-ne0.false in (
       zero,
-      (omega (arith, map_there s.shape s.hops.now s.sense s.map-1.now s.short-1.now r.ensures.0 zero, r.auto), omega (arith, short_there s.shape s.hops.now s.sense s.map-1.now s.short-1.now r.ensures.0 zero, r.auto)),
+      (omega (arith, map_there s.shape s.hops.now s.sense s.map.now s.short.now r.ensures.0 zero, r.auto), omega (arith, short_there s.shape s.hops.now s.sense s.map.now s.short.now r.ensures.0 zero, r.auto)),
     )
 
 same-length-3 : tie.Need-shape_of-map
@@ -42,9 +42,9 @@ same-length-4 c = omega arith
 
 returns-2 : tie.Need-returns
 returns-2 c =
-    let r = c.before.before.before.before.before.before.before.before.before.before.reduce-reduction in
-    let s = c.before.before.before.before.before.before.before.before.before.before.before.before.before.before.before.before.args in
-    let right = output_faultless s.shape s.hops.now s.sense s.map-1.now s.short-1.now r.ensures.0 c.before.before.before.if-answer-ne0.false c.audit_reduction-audit.ensures r.ensures.1.0 r.ensures.1.1 in
+    let r = c.reduce-reduction in
+    let s = c.args in
+    let right = output_faultless s.shape s.hops.now s.sense s.map.now s.short.now r.ensures.0 c.if-answer-ne0.false c.audit_reduction-audit.ensures r.ensures.1.0 r.ensures.1.1 in
     (r.ensures.0, (c.audit_reduction-audit.ensures, ((λ _. right), (r.ensures.1.0, r.ensures.1.1))))
 
 pub reduce_and_audit_spec : {M : Type 1} → statement M

@@ -37,12 +37,12 @@ start-of-requires-2 c κs = search rules
 
 loop-holds : tie.Need-loop-j-init invariant-loop decreases-loop
 loop-holds c =
-    let s = c.before.before.before.before.before in
+    let s = c in
     let hs = s.args.hops2.now in
     let up = s.requires.0.ascending in
-    let w : c.before.before.wide-at.result ≡ s.args.r.0 = omega arith in
-    let p : c.before.start_of-past.result ≡ first_of hs (s.args.r.0 + 1) =
-    start_is hs s.args.starts2.now s.requires.1.0 _ (ap (λ (x : ℕ). x + 1) w) (omega arith) c.before.start_of-past.ensures in
+    let w : c.wide-at.result ≡ s.args.r.0 = omega arith in
+    let p : c.start_of-past.result ≡ first_of hs (s.args.r.0 + 1) =
+    start_is hs s.args.starts2.now s.requires.1.0 _ (ap (λ (x : ℕ). x + 1) w) (omega arith) c.start_of-past.ensures in
     let f : c.start_of-j.result ≡ first_of hs s.args.r.0 = start_is hs s.args.starts2.now s.requires.1.0 _ w (omega arith) c.start_of-j.ensures in (
       p,
       omega (arith, first_within hs up (s.args.r.0 + 1)),
@@ -62,7 +62,7 @@ is-unstamped-requires : tie.Need-is_unstamped-requires invariant-loop decreases-
 is-unstamped-requires c κs = search rules
 
 -- the test at the place that was looked at
-told : (c : tie.After-is_unstamped invariant-loop decreases-loop) {x : Bool} → c.is_unstamped.result ≡ x → test c.before.before c.before.before.loop-j.j ≡ x
+told : (c : tie.After-is_unstamped invariant-loop decreases-loop) {x : Bool} → c.is_unstamped.result ≡ x → test c.before.before c.loop-j.j ≡ x
 told c {x} e = rw c.is_unstamped.ensures at e
 
 returns : tie.Need-returns-then-is_unstamped invariant-loop decreases-loop
@@ -89,9 +89,9 @@ hop-count-requires c κs = search rules
 
 returns-2 : tie.Need-returns invariant-loop decreases-loop
 returns-2 c =
-    let s = c.before.before.before.before.before.before.before.before in
+    let s = c in
     c.hop_count.ensures ∙
-    first_ends s.args.hops2.now s.args.stamps.now s.requires.0.ascending s.args.r.0 s.args.k (omega (arith, c.before.before.loop-j.invariant.0)) c.before.before.loop-j.invariant.3
+    first_ends s.args.hops2.now s.args.stamps.now s.requires.0.ascending s.args.r.0 s.args.k (omega (arith, c.loop-j.invariant.0)) c.loop-j.invariant.3
 
 pub first_unstamped_spec : {M : Type 1} → statement M
 first_unstamped_spec =

@@ -21,8 +21,8 @@ shared-slice-read-result c = search rules
 
 returns : tie.Need-returns
 returns c =
-    let at = c.before.before.before.before.before.before in
-    unstamped_hop _ _ _ _ _ at.before.before.new_from_at-from.ensures at.before.label_at-a.ensures at.new_to_at-q.ensures
+    let at = c in
+    unstamped_hop _ _ _ _ _ at.new_from_at-from.ensures at.label_at-a.ensures at.new_to_at-q.ensures
 
 pub is_unstamped_spec : {M : Type 1} → statement M
 is_unstamped_spec = tie.close (tie.spec new-from-at-requires label-at-requires new-to-at-requires mul-result shared-slice-read-result returns)

@@ -12,7 +12,7 @@ no-fault-requires : tie.Need-no_fault-requires
 no-fault-requires c κs = search rules
 
 returns-2 : tie.Need-returns
-returns-2 c = (refl, rw (le-ltb _ _ c.before.if-place-none.false) c.no_fault.ensures)
+returns-2 c = (refl, rw (le-ltb _ _ c.if-place-none.false) c.no_fault.ensures)
 
 pub share_of_spec : {M : Type 1} → statement M
 share_of_spec = tie.close (tie.spec returns no-fault-requires returns-2)

@@ -32,7 +32,7 @@ hop-count-requires c κs = search rules
 
 loop-holds : tie.Need-loop-s-init invariant-loop decreases-loop
 loop-holds c =
-    let s = c.before.before.before.before.before.before.before.before.before in (
+    let s = c in (
       search rules,
       search rules,
       search rules,
@@ -49,12 +49,12 @@ cast-t20 c = search rules
 
 unmatched-of-requires : tie.Need-unmatched_of-of-requires invariant-loop decreases-loop
 unmatched-of-requires c κs =
-    let s = c.before.before.before.before.before.before.before.before.before.before.before.before.before.before in
-    let v = c.before.before.before.before.loop-s.invariant in
+    let s = c in
+    let v = c.loop-s.invariant in
     let p = s.requires.1.0 in (
       s.requires.0,
       (
-        omega (arith, v.0, c.before.before.before.loop-s-test.true),
+        omega (arith, v.0, c.loop-s-test.true),
         (
           record {
             search = record { seen_capacity = omega (arith, v.2, p.search.seen_capacity); queue_capacity = omega (arith, v.3, p.search.queue_capacity) };
@@ -67,21 +67,21 @@ unmatched-of-requires c κs =
 
 add-faults : tie.Need-overflow_add-faults invariant-loop decreases-loop
 add-faults c =
-    let s = c.before.before.before.before.before.before.before.before.before.before.before.before.before.before.before.before.before.before.before.before.before.before in
-    let l = c.before.before.before.before.before.before.before.before.before.before.before.before.loop-s in
+    let s = c in
+    let l = c.loop-s in
     let a = s.requires.0.stamping.auditable in
     let few : l.s ≤ most_states = omega (arith, a.admitted.states_most, l.invariant.0, l.invariant.1) in
     omega (
       arith,
       l.invariant.6,
-      c.before.before.before.before.before.before.before.unmatched_of-of.ensures.0,
+      c.unmatched_of-of.ensures.0,
       partial_most s.args.shape1 s.args.hops1.now s.args.hops2.now s.args.map.now l.s few a.ready.hops_most,
     )
 
 cast-state : tie.Need-overflow_cast-state invariant-loop decreases-loop
 cast-state c =
-    let a = c.before.before.before.before.before.before.before.before.before.before.before.before.before.before.before.before.before.before.before.before.before.before.before.before.requires.0.stamping.auditable in
-    omega (arith, a.admitted.states_most, c.before.before.before.before.before.before.before.before.before.before.before.before.before.before.loop-s.invariant.0, c.before.before.before.before.before.before.before.before.before.before.before.before.before.loop-s-test.true)
+    let a = c.requires.0.stamping.auditable in
+    omega (arith, a.admitted.states_most, c.loop-s.invariant.0, c.loop-s-test.true)
 
 add-s : tie.Need-overflow_add-s invariant-loop decreases-loop
 add-s c = search rules
@@ -91,15 +91,15 @@ loop-less c = search rules
 
 loop-again : tie.Need-loop-s-preserved invariant-loop decreases-loop
 loop-again c =
-    let s = c.before.before.before.before.before.before.before.before.before.before.before.before.before.before.before.before.before.before.before.before.before.before.before.before in
-    let l = c.before.before.before.before.before.before.before.before.before.before.before.before.before.before.loop-s in
-    let m = c.before.before.before.before.before.before.before.before.before.unmatched_of-of in
+    let s = c in
+    let l = c.loop-s in
+    let m = c.unmatched_of-of in
     let h = s.args in (
       search rules,
-      omega (arith, l.invariant.0, c.before.before.before.before.before.before.before.before.before.before.before.before.before.loop-s-test.true),
-      omega (arith, l.invariant.2, c.before.before.before.before.before.before.before.before.seen-1),
-      omega (arith, l.invariant.3, c.before.before.before.before.before.before.queue-1),
-      omega (arith, l.invariant.4, c.before.before.before.before.stamps-1),
+      omega (arith, l.invariant.0, c.loop-s-test.true),
+      omega (arith, l.invariant.2, c.seen-1),
+      omega (arith, l.invariant.3, c.queue-1),
+      omega (arith, l.invariant.4, c.stamps-1),
       m.ensures.1.1,
       total_more _ _ l.invariant.6 m.ensures.0,
       l.invariant.7,
@@ -123,8 +123,8 @@ same-length-3 c = omega arith
 
 returns : tie.Need-returns invariant-loop decreases-loop
 returns c =
-    let h = c.before.before.before.before.before.before.before.before.before.before.before.before.args in
-    let v = c.before.before.loop-s.invariant in (
+    let h = c.args in
+    let v = c.loop-s.invariant in (
       c.share_of.ensures.0 ∙ total_done _ (omega arith) (omega arith) v.6 ∙ by_states _ _ _ _,
       kept_first h.shape1 h.hops1.now h.hops2.now h.map.now v.8 (omega arith) v.7 c.share_of.ensures.1,
     )

@@ -14,28 +14,28 @@ add-k : tie.Need-overflow_add-k
 add-k c = search rules
 
 reach-requires : tie.Need-reach-requires
-reach-requires c κs = let s = c.before.before.before.before.before.before.before.before.before.before.before in (s.requires.0.silent.chosen, (s.requires.1.0, s.requires.1.1.0.search))
+reach-requires c κs = let s = c in (s.requires.0.silent.chosen, (s.requires.1.0, s.requires.1.1.0.search))
 
 stamp-all-requires : tie.Need-stamp_all-requires
 stamp-all-requires c κs =
-    let s = c.before.before.before.before.before.before.before.before.before.before.before.before.before.before.before.before.before.before in (s.requires.0.stamping, (omega (arith, s.requires.1.1.0.search.seen_capacity), s.requires.1.1.0.stamp_a_hop))
+    let s = c in (s.requires.0.stamping, (omega (arith, s.requires.1.1.0.search.seen_capacity), s.requires.1.1.0.stamp_a_hop))
 
 first-unstamped-requires : tie.Need-first_unstamped-place-requires
 first-unstamped-requires c κs =
-    let s = c.before.before.before.before.before.before.before.before.before.before.before.before.before.before.before.before.before.before.before.before.before.before in
+    let s = c in
     let a = s.requires.0.stamping.auditable in
-    (a.ready, (s.requires.0.table, (omega (arith, s.requires.1.1.0.stamp_a_hop), omega (arith, c.before.before.before.before.before.before.before.before.before.before.before.before.before.before.map_at-r.ensures, a.entries_in s.args.s.0 s.requires.1.0))))
+    (a.ready, (s.requires.0.table, (omega (arith, s.requires.1.1.0.stamp_a_hop), omega (arith, c.map_at-r.ensures, a.entries_in s.args.s.0 s.requires.1.0))))
 
 unstamped-from-requires : tie.Need-unstamped_from-faults-requires
 unstamped-from-requires c κs =
-    let s = c.before.before.before.before.before.before.before.before.before.before.before.before.before.before.before.before.before.before.before.before.before.before.before.before in
+    let s = c in
     let a = s.requires.0.stamping.auditable in (
       a.ready,
       (
         s.requires.0.table,
         (
           omega (arith, s.requires.1.1.0.stamp_a_hop),
-          (omega (arith, c.before.before.before.before.before.before.before.before.before.before.before.before.before.before.before.before.map_at-r.ensures, a.entries_in s.args.s.0 s.requires.1.0), c.before.first_unstamped-place.ensures),
+          (omega (arith, c.map_at-r.ensures, a.entries_in s.args.s.0 s.requires.1.0), c.first_unstamped-place.ensures),
         ),
       ),
     )
@@ -53,20 +53,20 @@ same-length-3 c = omega arith
 -- ask
 returns : tie.Need-returns
 returns c =
-    let s = c.before.before.before.before.before.before.before.before.before.before.before.before.before.before.before.before.before.before.before.before.before.before.before.before.before in
-    let r = c.before.before.before.before.before.before.before.before.before.before.before.before.before.before.before.before.before.map_at-r.ensures in
-    let e = c.before.before.before.before.before.before.before.before.before.before.before.before.before.reach.ensures in
-    let t = c.before.before.before.before.before.before.stamp_all.ensures in
+    let s = c in
+    let r = c.map_at-r.ensures in
+    let e = c.reach.ensures in
+    let t = c.stamp_all.ensures in
     let p = s.requires.0 in
     let h = s.args in
-    let past = drop h.shape1.states h.seen-1.now in (
+    let past = drop h.shape1.states h.seen.now in (
       counted_unmatched h.shape1 h.hops1.now h.hops2.now h.map.now p.stamping.auditable.admitted.range h.silent.now p.silent.silent h.s.0
-          past r e h.stamps-1.now _ t s.requires.1.1.1 c.unstamped_from-faults.ensures,
+          past r e h.stamps.now _ t s.requires.1.1.1 c.unstamped_from-faults.ensures,
       (
         first_unmatched_lem h.shape1 h.hops1.now h.hops2.now h.map.now p.stamping.auditable.admitted.range h.silent.now p.silent.silent h.s.0
-            past r e h.stamps-1.now _ t s.requires.1.1.1 c.before.before.first_unstamped-place.ensures,
+            past r e h.stamps.now _ t s.requires.1.1.1 c.first_unstamped-place.ensures,
         fresh_next h.shape1 h.hops1.now h.hops2.now h.map.now p.stamping.auditable.admitted.range h.silent.now p.silent.silent h.s.0
-            past r e h.stamps-1.now _ t s.requires.1.1.1,
+            past r e h.stamps.now _ t s.requires.1.1.1,
       ),
     )
 

@@ -36,10 +36,10 @@ start-of-requires c κs = search rules
 
 loop-holds : tie.Need-loop-j-init invariant-loop decreases-loop
 loop-holds c =
-    let s = c.before.before.before.before in
+    let s = c in
     let hs = s.args.hops2.now in
     let test : ℕ → Bool = unstamped hs s.args.stamps.now s.args.r.0 s.args.k in
-    let w : c.before.wide.result ≡ s.args.r.0 = omega arith in
+    let w : c.wide.result ≡ s.args.r.0 = omega arith in
     let p : c.start_of-past.result ≡ first_of hs (s.args.r.0 + 1) =
     start_is hs s.args.starts2.now s.requires.1.0 _ (ap (λ (x : ℕ). x + 1) w) (omega arith) c.start_of-past.ensures in
     let at = s.requires.1.1.1.1 in (
@@ -70,7 +70,7 @@ loop-less : tie.Need-loop-j-smaller invariant-loop decreases-loop
 loop-less c = search rules
 
 -- the test at the place that was looked at
-told : (c : tie.After-is_unstamped invariant-loop decreases-loop) {x : Bool} → c.is_unstamped.result ≡ x → test c.before.before c.before.before.loop-j.j ≡ x
+told : (c : tie.After-is_unstamped invariant-loop decreases-loop) {x : Bool} → c.is_unstamped.result ≡ x → test c.before.before c.loop-j.j ≡ x
 told c {x} e = rw c.is_unstamped.ensures at e
 
 loop-again : tie.Need-loop-j-preserved invariant-loop decreases-loop
@@ -84,8 +84,8 @@ loop-again c = let a = c.before.before.before in (
 
 returns : tie.Need-returns invariant-loop decreases-loop
 returns c =
-    let s = c.before.before.before.before.before.before in
-    let v = c.before.loop-j.invariant in
+    let s = c in
+    let v = c.loop-j.invariant in
     count_ends s.args.hops2.now s.args.stamps.now s.requires.0.ascending s.args.r.0 s.args.k (omega (arith, v.0)) v.2 v.3
 
 pub unstamped_from_spec : {M : Type 1} → statement M

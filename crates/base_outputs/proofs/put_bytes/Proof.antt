@@ -35,13 +35,13 @@ loop-less : tie.Need-loop-i-smaller invariant-loop decreases-loop
 loop-less c = omega arith
 
 loop-again : tie.Need-loop-i-preserved invariant-loop decreases-loop
-loop-again c = (bytes_more c.before.before.before.args.at c.before.before.before.args.out.now c.before.before.before.args.bytes.now c.before.before.loop-i.invariant.0 (omega arith) c.before.before.loop-i.invariant.3, simp length-set (omega arith), omega arith, omega arith)
+loop-again c = (bytes_more c.args.at c.args.out.now c.args.bytes.now c.loop-i.invariant.0 (omega arith) c.loop-i.invariant.3, simp length-set (omega arith), omega arith, omega arith)
 
 same_length : tie.Need-shape_of-out invariant-loop decreases-loop
 same_length c = omega arith
 
 returns : tie.Need-returns invariant-loop decreases-loop
-returns c = bytes_done c.before.before.args.at c.before.before.args.out.now c.before.before.args.bytes.now {i = c.before.loop-i.i} c.before.loop-i.invariant.0 (omega arith) (omega arith)
+returns c = bytes_done c.args.at c.args.out.now c.args.bytes.now {i = c.loop-i.i} c.loop-i.invariant.0 (omega arith) (omega arith)
 
 pub put_bytes_spec : {M : Type 1} → statement M
 put_bytes_spec =

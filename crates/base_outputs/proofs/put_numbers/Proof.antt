@@ -39,8 +39,8 @@ loop-less c = omega arith
 
 loop-again : tie.Need-loop-i-preserved invariant-loop decreases-loop
 loop-again c =
-    let s = c.before.before.before.args in (
-      numbers_more s.out.now s.numbers.now c.before.before.loop-i.invariant.0 (omega arith) c.before.before.loop-i.invariant.3,
+    let s = c.args in (
+      numbers_more s.out.now s.numbers.now c.loop-i.invariant.0 (omega arith) c.loop-i.invariant.3,
       simp length-set (omega arith),
       omega arith,
       omega arith,
@@ -50,7 +50,7 @@ same_length : tie.Need-shape_of-out invariant-loop decreases-loop
 same_length c = omega arith
 
 returns : tie.Need-returns invariant-loop decreases-loop
-returns c = numbers_done c.before.before.args.out.now c.before.before.args.numbers.now {i = c.before.loop-i.i} c.before.loop-i.invariant.0 (omega arith)
+returns c = numbers_done c.args.out.now c.args.numbers.now {i = c.loop-i.i} c.loop-i.invariant.0 (omega arith)
 
 pub put_numbers_spec : {M : Type 1} → statement M
 put_numbers_spec =

@@ -18,7 +18,7 @@ short-number-requires : tie.Need-short_number-requires
 short-number-requires c κs = search rules
 
 returns : tie.Need-returns-then-out-n
-returns c = (c.short_number.ensures, short_answer_after _ _ _ c.before.if-out-n.true)
+returns c = (c.short_number.ensures, short_answer_after _ _ _ c.if-out-n.true)
 
 cast-t9 : tie.Need-overflow_cast-numbers
 cast-t9 c = search rules
@@ -40,10 +40,10 @@ same_length c = search rules
 
 returns-2 : tie.Need-returns
 returns-2 c =
-    let first = c.before.before.before.before.before.before in
-    let l = first.before.before.before.before.before.if-out-n.false in
-    let s = first.before.before.before.before.before.before.before.before.args in
-    let e = front_next s.out-1.now (numbers_of s.a []) s.figures.now first.put_figures.ensures c.before.before.put_figures-2.ensures refl in
+    let first = c in
+    let l = first.if-out-n.false in
+    let s = first.args in
+    let e = front_next s.out.now (numbers_of s.a []) s.figures.now first.put_figures.ensures c.put_figures-2.ensures refl in
     (long_returns _ _ _ l, long_answer_after _ (numbers_of s.a s.figures.now) _ (omega arith) l e)
 
 pub put_answer_spec : {M : Type 1} → statement M

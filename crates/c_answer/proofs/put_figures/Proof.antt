@@ -42,8 +42,8 @@ loop-less c = omega arith
 
 loop-again : tie.Need-loop-i-preserved invariant-loop decreases-loop
 loop-again c =
-    let s = c.before.before.before.args in (
-      bytes_more s.at s.out.now s.figures.now c.before.before.loop-i.invariant.0 (omega arith) c.before.before.loop-i.invariant.3,
+    let s = c.args in (
+      bytes_more s.at s.out.now s.figures.now c.loop-i.invariant.0 (omega arith) c.loop-i.invariant.3,
       simp length-set (omega arith),
       omega arith,
       omega arith,
@@ -54,8 +54,8 @@ same_length c = omega arith
 
 returns : tie.Need-returns invariant-loop decreases-loop
 returns c =
-    let s = c.before.before.args in
-    bytes_done s.at s.out.now s.figures.now {i = c.before.loop-i.i} c.before.loop-i.invariant.0 (omega arith) (omega arith)
+    let s = c.args in
+    bytes_done s.at s.out.now s.figures.now {i = c.loop-i.i} c.loop-i.invariant.0 (omega arith) (omega arith)
 
 pub put_figures_spec : {M : Type 1} → statement M
 put_figures_spec =

@@ -4,7 +4,7 @@ use Rattle.c_answer.proofs.short_number.Statement.{statement}
 use Rattle.c_answer.proofs.short_number.Tie as tie
 
 returns : tie.Need-returns-then-number-eq0
-returns c = short_six _ _ _ c.before.requires c.if-number-eq0.true
+returns c = short_six _ _ _ c.requires c.if-number-eq0.true
 
 returns-2 : tie.Need-returns
 returns-2 c = refusal_returns _ _ _ c.if-number-eq0.false

@@ -16,7 +16,7 @@ same_length c = search rules
 
 returns : tie.Need-returns
 unfolding audit_of
-returns c = rw c.before.before.before.before.audit-audited.ensures at c.before.before.put_audit.ensures
+returns c = rw c.audit-audited.ensures at c.put_audit.ensures
 
 pub audit_into_spec : {M : Type 1} → statement M
 audit_into_spec = tie.close (tie.spec audit-requires put-audit-requires same_length returns)

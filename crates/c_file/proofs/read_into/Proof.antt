@@ -14,8 +14,8 @@ short-number-requires c κs = search rules
 
 returns : tie.Need-returns-then-answer-lt9
 returns c =
-    let l = c.before.before.if-answer-lt9.true in
-    (rw c.before.read_answer-unwritten.ensures at c.short_number.ensures, (short_kept 9 _ _ _ l, short_answer_after 9 _ _ l))
+    let l = c.if-answer-lt9.true in
+    (rw c.read_answer-unwritten.ensures at c.short_number.ensures, (short_kept 9 _ _ _ l, short_answer_after 9 _ _ l))
 
 read-requires : tie.Need-read-contents-requires
 read-requires c κs = search rules
@@ -31,9 +31,9 @@ same-length-2 c = search rules
 
 returns-2 : tie.Need-returns
 returns-2 c =
-    let w = c.before.before.before.before.before.before.read-contents.ensures in
-    let l = c.before.before.before.before.before.before.before.before.if-answer-lt9.false in
-    let t = rw w.0 at c.before.before.put_contents.ensures in
+    let w = c.read-contents.ensures in
+    let l = c.if-answer-lt9.false in
+    let t = rw w.0 at c.put_contents.ensures in
     rw long_left (rw found_answer at t.0, (w.1, t.1))
 
 pub read_into_spec : {M : Type 1} → statement M

@@ -14,8 +14,8 @@ short-number-requires c κs = search rules
 
 returns : tie.Need-returns-then-answer-lt4
 returns c =
-    let l = c.before.before.if-answer-lt4.true in
-    (rw c.before.write_answer-unwritten.ensures at c.short_number.ensures, (short_kept 4 _ _ _ l, short_answer_after 4 _ _ l))
+    let l = c.if-answer-lt4.true in
+    (rw c.write_answer-unwritten.ensures at c.short_number.ensures, (short_kept 4 _ _ _ l, short_answer_after 4 _ _ l))
 
 write-requires : tie.Need-write-written-requires
 write-requires c κs = search rules
@@ -31,9 +31,9 @@ same-length-2 c = search rules
 
 returns-2 : tie.Need-returns
 returns-2 c =
-    let w = c.before.before.before.before.before.before.write-written.ensures in
-    let l = c.before.before.before.before.before.before.before.before.if-answer-lt4.false in
-    let t = rw w.0 at c.before.before.put_figure_answer.ensures in
+    let w = c.write-written.ensures in
+    let l = c.if-answer-lt4.false in
+    let t = rw w.0 at c.put_figure_answer.ensures in
     rw long_left (rw written_answer at t.0, (w.1, t.1))
 
 pub write_into_spec : {M : Type 1} → statement M

@@ -16,7 +16,7 @@ same_length c = search rules
 
 returns : tie.Need-returns
 unfolding find_of
-returns c = rw c.before.before.before.before.find-finding.ensures at c.before.before.put_finding.ensures
+returns c = rw c.find-finding.ensures at c.put_finding.ensures
 
 pub find_into_spec : {M : Type 1} → statement M
 find_into_spec = tie.close (tie.spec find-requires put-finding-requires same_length returns)

@@ -26,10 +26,10 @@ same_length c = search rules
 
 returns-2 : tie.Need-returns
 returns-2 c =
-    let w = c.before.before in
-    let part = w.before.before.before.span_of-span in
-    let l = w.before.before.before.before.if-answer-lt2.false in
-    let old = w.before.before.before.before.before.before.before.before.args.answer.now in
+    let w = c in
+    let part = w.span_of-span in
+    let l = w.if-answer-lt2.false in
+    let old = w.args.answer.now in
     (long_returns accepted 2 _ l, rw part.ensures at (long_answer_after 2 (span_numbers part.result) old refl l w.put_figures.ensures))
 
 pub hops_of_into_spec : {M : Type 1} → statement M

@@ -14,7 +14,7 @@ same_length : tie.Need-shape_of-answer
 same_length c = search rules
 
 returns : tie.Need-returns
-returns c = rw c.before.before.before.before.check-a.ensures at c.before.before.put_plain_answer.ensures
+returns c = rw c.check-a.ensures at c.put_plain_answer.ensures
 
 pub check_into_spec : {M : Type 1} → statement M
 check_into_spec = tie.close (tie.spec check-requires put-plain-answer-requires same_length returns)

@@ -17,8 +17,8 @@ same_length c = search rules
 
 returns : tie.Need-returns-then-answer-lt4
 returns c =
-    let l = c.before.before.before.if-answer-lt4.true in
-    (rw c.before.mark_answer-unwritten.ensures at c.short_number.ensures, (short_kept 4 _ _ _ l, short_answer_after 4 _ _ l))
+    let l = c.if-answer-lt4.true in
+    (rw c.mark_answer-unwritten.ensures at c.short_number.ensures, (short_kept 4 _ _ _ l, short_answer_after 4 _ _ l))
 
 mark-fast-requires : tie.Need-mark_fast-counted-requires
 mark-fast-requires c κs = search rules
@@ -35,9 +35,9 @@ same-length-3 c = search rules
 returns-2 : tie.Need-returns
 unfolding mark_fast_of
 returns-2 c =
-    let m = c.before.before.before.before.before.before.mark_fast-counted.ensures in
-    let l = c.before.before.before.before.before.before.before.before.if-answer-lt4.false in
-    let t = rw m.0 at c.before.before.put_figure_answer.ensures in
+    let m = c.mark_fast-counted.ensures in
+    let l = c.if-answer-lt4.false in
+    let t = rw m.0 at c.put_figure_answer.ensures in
     rw long_left (t.0, (m.1, t.1))
 
 pub mark_fast_into_spec : {M : Type 1} → statement M

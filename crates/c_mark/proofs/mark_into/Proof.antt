@@ -16,8 +16,8 @@ same_length c = search rules
 
 returns : tie.Need-returns-then-answer-lt3
 returns c =
-    let l = c.before.before.before.if-answer-lt3.true in
-    (rw c.before.mark_answer-unwritten.ensures at c.short_number.ensures, (short_kept 3 _ _ _ l, short_answer_after 3 _ _ l))
+    let l = c.if-answer-lt3.true in
+    (rw c.mark_answer-unwritten.ensures at c.short_number.ensures, (short_kept 3 _ _ _ l, short_answer_after 3 _ _ l))
 
 mark-requires : tie.Need-mark-a-requires
 mark-requires c κs = search rules
@@ -33,9 +33,9 @@ same-length-3 c = search rules
 
 returns-2 : tie.Need-returns
 returns-2 c =
-    let m = c.before.before.before.before.before.before.mark-a.ensures in
-    let l = c.before.before.before.before.before.before.before.before.if-answer-lt3.false in
-    let t = rw m.0 at c.before.before.put_plain_answer.ensures in
+    let m = c.mark-a.ensures in
+    let l = c.if-answer-lt3.false in
+    let t = rw m.0 at c.put_plain_answer.ensures in
     rw long_left (t.0, (m.1, t.1))
 
 pub mark_into_spec : {M : Type 1} → statement M

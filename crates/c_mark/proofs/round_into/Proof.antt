@@ -19,7 +19,7 @@ same_length c = search rules
 
 returns : tie.Need-returns
 unfolding question_of
-returns c = rw c.before.before.before.before.before.round_question-question.ensures at c.before.before.put_figure_answer.ensures
+returns c = rw c.round_question-question.ensures at c.put_figure_answer.ensures
 
 pub round_into_spec : {M : Type 1} → statement M
 round_into_spec =

@@ -14,8 +14,8 @@ short-number-requires c κs = search rules
 
 returns : tie.Need-returns-then-answer-lt7
 returns c =
-    let l = c.before.before.if-answer-lt7.true in
-    (rw c.before.reduce_answer-unwritten.ensures at c.short_number.ensures, (short_kept 7 _ _ _ l, (short_kept 7 _ _ _ l, short_answer_after 7 _ _ l)))
+    let l = c.if-answer-lt7.true in
+    (rw c.reduce_answer-unwritten.ensures at c.short_number.ensures, (short_kept 7 _ _ _ l, (short_kept 7 _ _ _ l, short_answer_after 7 _ _ l)))
 
 reduce-requires : tie.Need-reduce-reduction-requires
 reduce-requires c κs = search rules
@@ -34,9 +34,9 @@ same-length-3 c = search rules
 
 returns-2 : tie.Need-returns
 returns-2 c =
-    let w = c.before.before.before.before.before.before.before.before.reduce-reduction.ensures in
-    let l = c.before.before.before.before.before.before.before.before.before.before.before.if-answer-lt7.false in
-    let t = rw w.0 at c.before.before.put_reduction.ensures in
+    let w = c.reduce-reduction.ensures in
+    let l = c.if-answer-lt7.false in
+    let t = rw w.0 at c.put_reduction.ensures in
     rw (long_left, long_left) (rw reduced_answer at t.0, (w.1.0, (w.1.1, t.1)))
 
 pub reduce_into_spec : {M : Type 1} → statement M

@@ -14,8 +14,8 @@ short-number-requires c κs = search rules
 
 returns : tie.Need-returns-then-answer-lt8
 returns c =
-    let l = c.before.before.if-answer-lt8.true in
-    (rw c.before.reduce_answer-unwritten.ensures at c.short_number.ensures, (short_kept 8 _ _ _ l, (short_kept 8 _ _ _ l, short_answer_after 8 _ _ l)))
+    let l = c.if-answer-lt8.true in
+    (rw c.reduce_answer-unwritten.ensures at c.short_number.ensures, (short_kept 8 _ _ _ l, (short_kept 8 _ _ _ l, short_answer_after 8 _ _ l)))
 
 shrink-requires : tie.Need-shrink-shrinking-requires
 shrink-requires c κs = search rules
@@ -34,9 +34,9 @@ same-length-3 c = search rules
 
 returns-2 : tie.Need-returns
 returns-2 c =
-    let w = c.before.before.before.before.before.before.before.before.shrink-shrinking.ensures in
-    let l = c.before.before.before.before.before.before.before.before.before.before.before.if-answer-lt8.false in
-    let t = rw w.0 at c.before.before.put_shrinking.ensures in
+    let w = c.shrink-shrinking.ensures in
+    let l = c.if-answer-lt8.false in
+    let t = rw w.0 at c.put_shrinking.ensures in
     rw (long_left, long_left) (rw shrunk_answer at t.0, (w.1.0, (w.1.1, t.1)))
 
 pub shrink_into_spec : {M : Type 1} → statement M

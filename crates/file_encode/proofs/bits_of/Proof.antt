@@ -30,8 +30,8 @@ add-result-3 c = search rules
 
 returns : tie.Need-returns
 returns c =
-    let st = c.before.before.before.before.before.before.before.before in
-    bits_sum st.args.shape st.args.hops.now st.args.names.now c.before.before.before.before.before.hop_count-count.ensures c.before.before.before.bit_of-initial_bit.ensures.0 c.before.before.bit_of-hops_bit.ensures.0 c.before.bit_of-names_bit.ensures.0 c.bit_of-lines_bit.ensures.0 st.requires
+    let st = c in
+    bits_sum st.args.shape st.args.hops.now st.args.names.now c.hop_count-count.ensures c.bit_of-initial_bit.ensures.0 c.bit_of-hops_bit.ensures.0 c.bit_of-names_bit.ensures.0 c.bit_of-lines_bit.ensures.0 st.requires
 
 pub bits_of_spec : {M : Type 1} → statement M
 bits_of_spec =

@@ -12,7 +12,7 @@ hop-count-requires : tie.Need-hop_count-n-requires
 hop-count-requires c κs = search rules
 
 returns : tie.Need-returns-then-n-eq0
-returns c = sym (ap length (hops_none c.before.before.before.args.hops.now (sym c.before.hop_count-n.ensures ∙ c.if-n-eq0.true)))
+returns c = sym (ap length (hops_none c.args.hops.now (sym c.hop_count-n.ensures ∙ c.if-n-eq0.true)))
 
 cast-field-length : tie.Need-overflow_cast-n
 cast-field-length c = search rules
@@ -22,8 +22,8 @@ field-length-requires c κs = search rules
 
 returns-2 : tie.Need-returns
 returns-2 c =
-    c.field_length.ensures ∙ ap field_length c.before.before.hop_count-n.ensures ∙
-    sym (length_hops_some c.before.before.before.before.args.hops.now (λ z. c.before.if-n-eq0.false (c.before.before.hop_count-n.ensures ∙ z)))
+    c.field_length.ensures ∙ ap field_length c.hop_count-n.ensures ∙
+    sym (length_hops_some c.args.hops.now (λ z. c.if-n-eq0.false (c.hop_count-n.ensures ∙ z)))
 
 pub hops_length_spec : {M : Type 1} → statement M
 hops_length_spec =

@@ -22,12 +22,12 @@ lines-length-requires c κs = search rules
 
 returns : tie.Need-returns-then-has_line
 returns c =
-    let t = c.before.before in
-    c.lines_length.ensures ∙ ap lines_length c.before.hop_count.ensures ∙
-    sym (length_lines_some t.before.before.before.args.hops.now (sym t.before.has_line.ensures ∙ t.if-has_line.true))
+    let t = c in
+    c.lines_length.ensures ∙ ap lines_length c.hop_count.ensures ∙
+    sym (length_lines_some t.args.hops.now (sym t.has_line.ensures ∙ t.if-has_line.true))
 
 returns-2 : tie.Need-returns
-returns-2 c = sym (ap length (lines_none c.before.before.before.args.hops.now (sym c.before.has_line.ensures ∙ c.if-has_line.false)))
+returns-2 c = sym (ap length (lines_none c.args.hops.now (sym c.has_line.ensures ∙ c.if-has_line.false)))
 
 pub lines_bytes_spec : {M : Type 1} → statement M
 lines_bytes_spec =

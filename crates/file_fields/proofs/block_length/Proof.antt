@@ -19,15 +19,15 @@ names-place-requires : tie.Need-names_place-requires
 names-place-requires c κs = search rules
 
 sub-result : tie.Need-overflow_sub-result
-sub-result c = omega (arith, names_before_lines c.before.before.before.before.before.args.file.now)
+sub-result c = omega (arith, names_before_lines c.args.file.now)
 
 returns : tie.Need-returns-then-has_names
 unfolding block_length
-returns c = chosen c.before.before.before.has_names.ensures c.before.before.if-has_names.true _ _ (cc)
+returns c = chosen c.has_names.ensures c.if-has_names.true _ _ (cc)
 
 returns-2 : tie.Need-returns
 unfolding block_length
-returns-2 c = other c.before.has_names.ensures c.if-has_names.false _ _ refl
+returns-2 c = other c.has_names.ensures c.if-has_names.false _ _ refl
 
 pub block_length_spec : {M : Type 1} → statement M
 block_length_spec =

@@ -15,11 +15,11 @@ names-place-requires c κs = search rules
 
 returns : tie.Need-returns-then-has_names
 unfolding block_place
-returns c = chosen c.before.before.has_names.ensures c.before.if-has_names.true _ _ c.names_place.ensures
+returns c = chosen c.has_names.ensures c.if-has_names.true _ _ c.names_place.ensures
 
 returns-2 : tie.Need-returns
 unfolding block_place
-returns-2 c = other c.before.has_names.ensures c.if-has_names.false _ _ refl
+returns-2 c = other c.has_names.ensures c.if-has_names.false _ _ refl
 
 pub block_place_spec : {M : Type 1} → statement M
 block_place_spec = tie.close (tie.spec has-names-requires names-place-requires returns returns-2)

@@ -16,15 +16,15 @@ hops-place-requires : tie.Need-hops_place-requires
 hops-place-requires c κs = search rules
 
 number-at-requires : tie.Need-number_at-requires
-number-at-requires c κs = omega (arith, hops_place_most c.before.before.before.before.args.file.now)
+number-at-requires c κs = omega (arith, hops_place_most c.args.file.now)
 
 returns : tie.Need-returns-then-has_hops
 unfolding hops_in
-returns c = chosen c.before.before.before.has_hops.ensures c.before.before.if-has_hops.true _ _ (rw (← c.before.hops_place.ensures) c.number_at.ensures)
+returns c = chosen c.has_hops.ensures c.if-has_hops.true _ _ (rw (← c.hops_place.ensures) c.number_at.ensures)
 
 returns-2 : tie.Need-returns
 unfolding hops_in
-returns-2 c = other c.before.has_hops.ensures c.if-has_hops.false _ _ refl
+returns-2 c = other c.has_hops.ensures c.if-has_hops.false _ _ refl
 
 pub hops_in_spec : {M : Type 1} → statement M
 hops_in_spec =

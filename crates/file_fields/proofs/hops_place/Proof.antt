@@ -15,11 +15,11 @@ add-result c = search rules
 
 returns : tie.Need-returns-then-has_initial
 unfolding hops_place
-returns c = chosen c.before.has_initial.ensures c.if-has_initial.true _ _ refl
+returns c = chosen c.has_initial.ensures c.if-has_initial.true _ _ refl
 
 returns-2 : tie.Need-returns
 unfolding hops_place
-returns-2 c = other c.before.has_initial.ensures c.if-has_initial.false _ _ refl
+returns-2 c = other c.has_initial.ensures c.if-has_initial.false _ _ refl
 
 pub hops_place_spec : {M : Type 1} → statement M
 hops_place_spec = tie.close (tie.spec has-initial-requires add-result returns returns-2)

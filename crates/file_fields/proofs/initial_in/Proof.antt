@@ -15,11 +15,11 @@ number-at-requires c κs = search rules
 
 returns : tie.Need-returns-then-has_initial
 unfolding initial_in
-returns c = chosen c.before.before.has_initial.ensures c.before.if-has_initial.true _ _ c.number_at.ensures
+returns c = chosen c.has_initial.ensures c.if-has_initial.true _ _ c.number_at.ensures
 
 returns-2 : tie.Need-returns
 unfolding initial_in
-returns-2 c = other c.before.has_initial.ensures c.if-has_initial.false _ _ refl
+returns-2 c = other c.has_initial.ensures c.if-has_initial.false _ _ refl
 
 pub initial_in_spec : {M : Type 1} → statement M
 initial_in_spec = tie.close (tie.spec has-initial-requires number-at-requires returns returns-2)

@@ -18,11 +18,11 @@ lines-length-requires c κs = search rules
 
 returns : tie.Need-returns-then-has_lines
 unfolding line_bytes_in
-returns c = chosen c.before.before.before.has_lines.ensures c.before.before.if-has_lines.true _ _ (cc)
+returns c = chosen c.has_lines.ensures c.if-has_lines.true _ _ (cc)
 
 returns-2 : tie.Need-returns
 unfolding line_bytes_in
-returns-2 c = other c.before.has_lines.ensures c.if-has_lines.false _ _ refl
+returns-2 c = other c.has_lines.ensures c.if-has_lines.false _ _ refl
 
 pub line_bytes_in_spec : {M : Type 1} → statement M
 line_bytes_in_spec =

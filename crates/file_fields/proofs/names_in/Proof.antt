@@ -16,15 +16,15 @@ has-names-requires c κs = search rules
 
 returns : tie.Need-returns-then-labels-ge1
 unfolding names_in
-returns c = chosen c.before.before.has_names.ensures c.before.if-has_names.true _ _ (omega arith)
+returns c = chosen c.has_names.ensures c.if-has_names.true _ _ (omega arith)
 
 returns-2 : tie.Need-returns-else-labels-ge1
 unfolding names_in
-returns-2 c = chosen c.before.before.has_names.ensures c.before.if-has_names.true _ _ (omega arith)
+returns-2 c = chosen c.has_names.ensures c.if-has_names.true _ _ (omega arith)
 
 returns-3 : tie.Need-returns-else-has_names
 unfolding names_in
-returns-3 c = other c.before.has_names.ensures c.if-has_names.false _ _ refl
+returns-3 c = other c.has_names.ensures c.if-has_names.false _ _ refl
 
 pub names_in_spec : {M : Type 1} → statement M
 names_in_spec =

@@ -19,13 +19,13 @@ field-length-requires : tie.Need-field_length-requires
 field-length-requires c κs = search rules
 
 add-result : tie.Need-overflow_add-result
-add-result c = omega (arith, c.before.before.before.before.hops_place-place.ensures, hops_place_most c.before.before.before.before.before.before.args.file.now, c.field_length.ensures)
+add-result c = omega (arith, c.hops_place-place.ensures, hops_place_most c.args.file.now, c.field_length.ensures)
 
 returns : tie.Need-returns-then-has_hops
-returns c = place_with_hops _ c.before.before.before.before.hops_place-place.ensures c.before.before.before.has_hops.ensures c.before.before.if-has_hops.true c.before.hops_in.ensures c.field_length.ensures
+returns c = place_with_hops _ c.hops_place-place.ensures c.has_hops.ensures c.if-has_hops.true c.hops_in.ensures c.field_length.ensures
 
 returns-2 : tie.Need-returns
-returns-2 c = place_without _ c.before.before.hops_place-place.ensures c.before.has_hops.ensures c.if-has_hops.false
+returns-2 c = place_without _ c.hops_place-place.ensures c.has_hops.ensures c.if-has_hops.false
 
 pub names_place_spec : {M : Type 1} → statement M
 names_place_spec =

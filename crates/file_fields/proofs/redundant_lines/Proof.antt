@@ -22,13 +22,13 @@ cast-are-zero c = search rules
 
 are-zero-requires : tie.Need-are_zero-requires
 unfolding needed_length
-are-zero-requires c κs = omega (arith, lines_on c.before.before.before.before.before.args.file.now (sym c.before.before.before.has_lines.ensures ∙ c.before.before.if-has_lines.true))
+are-zero-requires c κs = omega (arith, lines_on c.args.file.now (sym c.has_lines.ensures ∙ c.if-has_lines.true))
 
 returns : tie.Need-returns-then-has_lines
-returns c = rw (sym c.before.before.before.before.has_lines.ensures ∙ c.before.before.before.if-has_lines.true) (cc)
+returns c = rw (sym c.has_lines.ensures ∙ c.if-has_lines.true) (cc)
 
 returns-2 : tie.Need-returns
-returns-2 c = rw (sym c.before.has_lines.ensures ∙ c.if-has_lines.false)
+returns-2 c = rw (sym c.has_lines.ensures ∙ c.if-has_lines.false)
 
 pub redundant_lines_spec : {M : Type 1} → statement M
 redundant_lines_spec =

@@ -12,7 +12,7 @@ refuse-requires : tie.Need-refuse-requires
 refuse-requires c κs = search rules
 
 returns : tie.Need-returns-then-file-gt-MOST_BYTES
-returns c = c.refuse.ensures ∙ over_length _ c.before.if-file-gt-MOST_BYTES.true
+returns c = c.refuse.ensures ∙ over_length _ c.if-file-gt-MOST_BYTES.true
 
 byte-at-requires : tie.Need-byte_at-requires
 byte-at-requires c κs = search rules
@@ -30,7 +30,7 @@ refuse-requires-3 : tie.Need-refuse-requires-then-file-place
 refuse-requires-3 c κs = search rules
 
 returns-3 : tie.Need-returns-then-file-place
-returns-3 c = c.refuse-then-file-place.ensures ∙ place_early _ (omega arith) (omega arith) c.before.before.names_place-place.ensures c.before.if-file-place.true
+returns-3 c = c.refuse-then-file-place.ensures ∙ place_early _ (omega arith) (omega arith) c.names_place-place.ensures c.if-file-place.true
 
 sub-rest-answer : tie.Need-slice_bounds-rest_answer-count
 sub-rest-answer c = search rules
@@ -42,7 +42,7 @@ part-rest-answer-end : tie.Need-slice_bounds-rest_answer-end
 part-rest-answer-end c = search rules
 
 rest-answer-requires : tie.Need-rest_answer-requires
-rest-answer-requires c κs = record { short = omega arith; low = omega arith; begins = c.before.before.names_place-place.ensures; follows = rest_part _ c.before.before.names_place-place.ensures; within = omega arith }
+rest-answer-requires c κs = record { short = omega arith; low = omega arith; begins = c.names_place-place.ensures; follows = rest_part _ c.names_place-place.ensures; within = omega arith }
 
 returns-4 : tie.Need-returns
 returns-4 c = c.rest_answer.ensures

@@ -20,7 +20,7 @@ abbrev decreases-loop : tie.decreases-loop-i
 decreases-loop file at n i₀ i = n - i
 
 loop-holds : tie.Need-loop-i-init invariant-loop decreases-loop
-loop-holds c = (all_none (zero_line c.before.args.file.now c.before.args.at), omega arith, c.before.requires)
+loop-holds c = (all_none (zero_line c.args.file.now c.args.at), omega arith, c.requires)
 
 mul-number-in : tie.Need-overflow_mul-i invariant-loop decreases-loop
 mul-number-in c = search rules
@@ -34,8 +34,8 @@ number-in-requires c κs = search rules
 returns : tie.Need-returns-then-number_in-ne0 invariant-loop decreases-loop
 unfolding zero_lines
 returns c =
-    let a = c.before.before.before.before.before.args in
-    sym (all_fails (zero_line a.file.now a.at) a.n c.before.before.loop-i-test.true (ne_eqb _ _ (λ e. c.if-number_in-ne0.true (c.before.number_in.ensures ∙ e))))
+    let a = c.args in
+    sym (all_fails (zero_line a.file.now a.at) a.n c.loop-i-test.true (ne_eqb _ _ (λ e. c.if-number_in-ne0.true (c.number_in.ensures ∙ e))))
 
 add-i : tie.Need-overflow_add-i invariant-loop decreases-loop
 add-i c = search rules
@@ -45,15 +45,15 @@ loop-less c = search rules
 
 loop-again : tie.Need-loop-i-preserved invariant-loop decreases-loop
 loop-again c =
-    let a = c.before.before.before.before.before.args in
-    let v = c.before.before.before.loop-i in
-    (all_more (zero_line a.file.now a.at) v.i v.invariant.0 (eq-eqb _ _ (sym c.before.number_in.ensures ∙ c.if-number_in-ne0.false)), omega arith, v.invariant.2)
+    let a = c.args in
+    let v = c.loop-i in
+    (all_more (zero_line a.file.now a.at) v.i v.invariant.0 (eq-eqb _ _ (sym c.number_in.ensures ∙ c.if-number_in-ne0.false)), omega arith, v.invariant.2)
 
 returns-2 : tie.Need-returns invariant-loop decreases-loop
 unfolding zero_lines
 returns-2 c =
-    let a = c.before.before.before.args in
-    sym (all_done (zero_line a.file.now a.at) c.before.loop-i.invariant.1 (omega arith) c.before.loop-i.invariant.0)
+    let a = c.args in
+    sym (all_done (zero_line a.file.now a.at) c.loop-i.invariant.1 (omega arith) c.loop-i.invariant.0)
 
 pub are_zero_spec : {M : Type 1} → statement M
 are_zero_spec =

@@ -24,7 +24,7 @@ hop-count-requires : tie.Need-hop_count-n-requires invariant-loop decreases-loop
 hop-count-requires c κs = search rules
 
 loop-holds : tie.Need-loop-i-init invariant-loop decreases-loop
-loop-holds c = (any_none (lined c.before.before.args.hops.now), omega arith, c.hop_count-n.ensures)
+loop-holds c = (any_none (lined c.args.hops.now), omega arith, c.hop_count-n.ensures)
 
 line-at-requires : tie.Need-line_at-requires invariant-loop decreases-loop
 line-at-requires c κs = search rules
@@ -32,8 +32,8 @@ line-at-requires c κs = search rules
 returns : tie.Need-returns-then-line_at-ne0 invariant-loop decreases-loop
 unfolding any_line
 returns c =
-    let hs = c.before.before.before.before.before.before.args.hops.now in
-    sym (any_found (lined hs) (count hs) (omega arith) (not_no (ne_eqb _ _ (λ e. c.if-line_at-ne0.true (c.before.line_at.ensures ∙ e)))))
+    let hs = c.args.hops.now in
+    sym (any_found (lined hs) (count hs) (omega arith) (not_no (ne_eqb _ _ (λ e. c.if-line_at-ne0.true (c.line_at.ensures ∙ e)))))
 
 add-i : tie.Need-overflow_add-i invariant-loop decreases-loop
 add-i c = search rules
@@ -43,15 +43,15 @@ loop-less c = search rules
 
 loop-again : tie.Need-loop-i-preserved invariant-loop decreases-loop
 loop-again c =
-    let hs = c.before.before.before.before.before.before.args.hops.now in
-    let v = c.before.before.before.loop-i in
-    (any_more (lined hs) v.i v.invariant.0 (not_yes (eq-eqb _ _ (sym c.before.line_at.ensures ∙ c.if-line_at-ne0.false))), omega arith, v.invariant.2)
+    let hs = c.args.hops.now in
+    let v = c.loop-i in
+    (any_more (lined hs) v.i v.invariant.0 (not_yes (eq-eqb _ _ (sym c.line_at.ensures ∙ c.if-line_at-ne0.false))), omega arith, v.invariant.2)
 
 returns-2 : tie.Need-returns invariant-loop decreases-loop
 unfolding any_line
 returns-2 c =
-    let hs = c.before.before.before.before.args.hops.now in
-    sym (any_done (lined hs) (omega arith) (omega arith) c.before.loop-i.invariant.0)
+    let hs = c.args.hops.now in
+    sym (any_done (lined hs) (omega arith) (omega arith) c.loop-i.invariant.0)
 
 pub has_line_spec : {M : Type 1} → statement M
 has_line_spec =

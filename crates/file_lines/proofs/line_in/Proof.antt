@@ -6,17 +6,17 @@ use Rattle.file_lines.proofs.line_in.Statement.{statement}
 use Rattle.file_lines.proofs.line_in.Tie as tie
 
 mul-number-in : tie.Need-overflow_mul-i
-mul-number-in c = omega (arith, c.before.before.requires c.if-lines.true)
+mul-number-in c = omega (arith, c.requires c.if-lines.true)
 
 add-number-in : tie.Need-overflow_add-lines
-add-number-in c = omega (arith, c.before.before.before.requires c.before.if-lines.true)
+add-number-in c = omega (arith, c.requires c.if-lines.true)
 
 number-in-requires : tie.Need-number_in-requires
-number-in-requires c κs = omega (arith, c.before.before.before.requires c.before.if-lines.true)
+number-in-requires c κs = omega (arith, c.requires c.if-lines.true)
 
 returns : tie.Need-returns-then-lines
 unfolding line_in
-returns c = rw c.before.before.if-lines.true c.number_in.ensures
+returns c = rw c.if-lines.true c.number_in.ensures
 
 returns-2 : tie.Need-returns
 unfolding line_in

@@ -25,8 +25,8 @@ hop-count-requires c κs = search rules
 
 loop-holds : tie.Need-loop-i-init invariant-loop decreases-loop
 loop-holds c =
-    let a = c.before.before.before.args in
-    (lines_none a.hops.now a.at a.out-1.now, refl, omega arith, c.hop_count-n.ensures, c.before.before.before.requires)
+    let a = c.args in
+    (lines_none a.hops.now a.at a.out.now, refl, omega arith, c.hop_count-n.ensures, c.requires)
 
 mul-put-number : tie.Need-overflow_mul-i invariant-loop decreases-loop
 mul-put-number c = search rules
@@ -48,17 +48,17 @@ loop-less c = search rules
 
 loop-again : tie.Need-loop-i-preserved invariant-loop decreases-loop
 loop-again c =
-    let a = c.before.before.before.before.before.before.before.before.before.before.args in
-    let v = c.before.before.before.before.before.before.loop-i.invariant in
-    (lines_more a.hops.now a.at a.out-1.now v.0 c.before.before.before.line_at.ensures c.before.before.put_number.ensures (omega arith) v.4, omega arith, omega arith, v.3, v.4)
+    let a = c.args in
+    let v = c.loop-i.invariant in
+    (lines_more a.hops.now a.at a.out.now v.0 c.line_at.ensures c.put_number.ensures (omega arith) v.4, omega arith, omega arith, v.3, v.4)
 
 same_length : tie.Need-shape_of-out invariant-loop decreases-loop
 same_length c = search rules
 
 returns : tie.Need-returns invariant-loop decreases-loop
 returns c =
-    let a = c.before.before.before.before.before.args in
-    lines_done a.hops.now a.at a.out-1.now c.before.loop-i.invariant.0 c.before.loop-i.invariant.3 (omega arith) (omega arith)
+    let a = c.args in
+    lines_done a.hops.now a.at a.out.now c.loop-i.invariant.0 c.loop-i.invariant.3 (omega arith) (omega arith)
 
 pub put_lines_spec : {M : Type 1} → statement M
 put_lines_spec =

@@ -61,16 +61,16 @@ loop-less c = omega arith
 
 loop-again : tie.Need-loop-i-preserved invariant-loop decreases-loop
 loop-again c =
-    let at = c.before.before.before.before in
+    let at = c in
     let v = at.loop-i.invariant in
-    let st = at.before.before.before.before.before in (
+    let st = at in (
       search rules,
       search rules,
       omega arith,
       search rules,
       search rules,
-      agree_more st.args.block.now (λ j. (at.before.before.shared_slice_known-3-1.given j).fits) st.args.p st.args.q at.loop-i.i v.5
-          (sym c.before.before.four_in.ensures ∙ c.if-four_in.false ∙ c.before.four_in-in-loop-i.ensures),
+      agree_more st.args.block.now (λ j. (at.shared_slice_known-3-1.given j).fits) st.args.p st.args.q at.loop-i.i v.5
+          (sym c.four_in.ensures ∙ c.if-four_in.false ∙ c.four_in-in-loop-i.ensures),
     )
 
 returns-3 : tie.Need-returns invariant-loop decreases-loop

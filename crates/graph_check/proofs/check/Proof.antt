@@ -14,13 +14,13 @@ refuse-requires : tie.Need-refuse-requires
 refuse-requires c κs = search rules
 
 returns : tie.Need-returns-then-not-counts_fit
-returns c = c.refuse.ensures ∙ check_counts _ _ c.before.before.counts_fit.ensures c.before.if-not-counts_fit.true-raw
+returns c = c.refuse.ensures ∙ check_counts _ _ c.counts_fit.ensures c.if-not-counts_fit.true-raw
 
 refuse-requires-2 : tie.Need-refuse-requires-then-shape
 refuse-requires-2 c κs = search rules
 
 returns-2 : tie.Need-returns-then-shape
-returns-2 c = c.refuse-then-shape.ensures ∙ check_initial _ _ c.before.before.before.before.counts_fit.ensures c.before.before.before.if-not-counts_fit.false-raw c.before.if-shape.true
+returns-2 c = c.refuse-then-shape.ensures ∙ check_initial _ _ c.counts_fit.ensures c.if-not-counts_fit.false-raw c.if-shape.true
 
 hop-count-requires : tie.Need-hop_count-n-requires
 hop-count-requires c κs = search rules
@@ -34,7 +34,7 @@ refuse-requires-3 c κs = search rules
 returns-3 : tie.Need-returns-then-outside-n
 returns-3 c =
     c.refuse-then-outside-n.ensures ∙
-    check_range _ _ c.before.before.before.before.before.before.before.counts_fit.ensures c.before.before.before.before.before.before.if-not-counts_fit.false-raw c.before.before.before.before.if-shape.false c.before.before.first_outside-outside.ensures (omega arith)
+    check_range _ _ c.counts_fit.ensures c.if-not-counts_fit.false-raw c.if-shape.false c.first_outside-outside.ensures (omega arith)
 
 first-not-ascending-requires : tie.Need-first_not_ascending-falling-requires
 first-not-ascending-requires c κs = search rules
@@ -45,8 +45,8 @@ refuse-requires-4 c κs = search rules
 returns-4 : tie.Need-returns-then-falling-n
 returns-4 c =
     c.refuse-then-falling-n.ensures ∙
-    check_order _ _ c.before.before.before.before.before.before.before.before.before.counts_fit.ensures c.before.before.before.before.before.before.before.before.if-not-counts_fit.false-raw c.before.before.before.before.before.before.if-shape.false c.before.before.before.before.first_outside-outside.ensures (omega arith)
-    c.before.before.first_not_ascending-falling.ensures (omega arith)
+    check_order _ _ c.counts_fit.ensures c.if-not-counts_fit.false-raw c.if-shape.false c.first_outside-outside.ensures (omega arith)
+    c.first_not_ascending-falling.ensures (omega arith)
 
 accept-requires : tie.Need-accept-requires
 accept-requires c κs = search rules
@@ -54,8 +54,8 @@ accept-requires c κs = search rules
 returns-5 : tie.Need-returns
 returns-5 c =
     c.accept.ensures ∙
-    check_accepts _ _ c.before.before.before.before.before.before.before.before.before.counts_fit.ensures c.before.before.before.before.before.before.before.before.if-not-counts_fit.false-raw c.before.before.before.before.before.before.if-shape.false c.before.before.before.before.first_outside-outside.ensures (omega arith)
-    c.before.before.first_not_ascending-falling.ensures (omega arith)
+    check_accepts _ _ c.counts_fit.ensures c.if-not-counts_fit.false-raw c.if-shape.false c.first_outside-outside.ensures (omega arith)
+    c.first_not_ascending-falling.ensures (omega arith)
 
 pub check_spec : {M : Type 1} → statement M
 check_spec =

@@ -19,7 +19,7 @@ hop-count-requires : tie.Need-hop_count-n-requires invariant-loop decreases-loop
 hop-count-requires c κs = search rules
 
 returns : tie.Need-returns-then-n-eq0 invariant-loop decreases-loop
-returns c = empty _ (sym c.before.hop_count-n.ensures ∙ c.if-n-eq0.true)
+returns c = empty _ (sym c.hop_count-n.ensures ∙ c.if-n-eq0.true)
 
 hop-at-requires : tie.Need-hop_at-requires invariant-loop decreases-loop
 hop-at-requires c κs = search rules
@@ -28,7 +28,7 @@ sum-of-requires : tie.Need-sum_of-last-requires invariant-loop decreases-loop
 sum-of-requires c κs = search rules
 
 loop-holds : tie.Need-loop-i-init invariant-loop decreases-loop
-loop-holds c = (c.before.before.before.hop_count-n.ensures, omega arith, begins _ (sum_at _ 0 c.before.hop_at.ensures c.sum_of-last.ensures))
+loop-holds c = (c.hop_count-n.ensures, omega arith, begins _ (sum_at _ 0 c.hop_at.ensures c.sum_of-last.ensures))
 
 hop-at-requires-2 : tie.Need-hop_at-requires-in-loop-i invariant-loop decreases-loop
 hop-at-requires-2 c κs = search rules
@@ -41,8 +41,8 @@ is-below-requires c κs = search rules
 
 returns-2 : tie.Need-returns-then-not-is_below invariant-loop decreases-loop
 returns-2 c =
-    falls _ _ c.before.before.before.before.before.loop-i.invariant.2
-    (sum_at _ _ c.before.before.before.hop_at-in-loop-i.ensures c.before.before.sum_of-sum.ensures) c.before.is_below.ensures (omega arith)
+    falls _ _ c.loop-i.invariant.2
+    (sum_at _ _ c.hop_at-in-loop-i.ensures c.sum_of-sum.ensures) c.is_below.ensures (omega arith)
     c.if-not-is_below.true-raw
 
 add-i : tie.Need-overflow_add-i invariant-loop decreases-loop
@@ -55,12 +55,12 @@ loop-again : tie.Need-loop-i-preserved invariant-loop decreases-loop
 loop-again c = (
   search rules,
   omega arith,
-  goes_on _ _ c.before.before.before.before.before.loop-i.invariant.2
-      (sum_at _ _ c.before.before.before.hop_at-in-loop-i.ensures c.before.before.sum_of-sum.ensures) c.before.is_below.ensures c.if-not-is_below.false-raw,
+  goes_on _ _ c.loop-i.invariant.2
+      (sum_at _ _ c.hop_at-in-loop-i.ensures c.sum_of-sum.ensures) c.is_below.ensures c.if-not-is_below.false-raw,
 )
 
 returns-3 : tie.Need-returns invariant-loop decreases-loop
-returns-3 c = ends _ c.before.loop-i.invariant.0 (omega arith) (omega arith) c.before.loop-i.invariant.2
+returns-3 c = ends _ c.loop-i.invariant.0 (omega arith) (omega arith) c.loop-i.invariant.2
 
 pub first_not_ascending_spec : {M : Type 1} → statement M
 first_not_ascending_spec =

@@ -30,7 +30,7 @@ is-inside-requires c κs = search rules
 returns : tie.Need-returns-then-not-is_inside invariant-loop decreases-loop
 unfolding first_outside
 returns c =
-    sym (least_found _ _ (omega arith) c.before.before.before.loop-i.invariant.2 (ap not (sym c.before.is_inside.ensures) ∙ c.if-not-is_inside.true-raw))
+    sym (least_found _ _ (omega arith) c.loop-i.invariant.2 (ap not (sym c.is_inside.ensures) ∙ c.if-not-is_inside.true-raw))
 
 add-i : tie.Need-overflow_add-i invariant-loop decreases-loop
 add-i c = search rules
@@ -40,11 +40,11 @@ loop-less c = search rules
 
 loop-again : tie.Need-loop-i-preserved invariant-loop decreases-loop
 loop-again c =
-    (search rules, omega arith, least_more _ _ c.before.before.before.loop-i.invariant.2 (ap not (sym c.before.is_inside.ensures) ∙ c.if-not-is_inside.false-raw))
+    (search rules, omega arith, least_more _ _ c.loop-i.invariant.2 (ap not (sym c.is_inside.ensures) ∙ c.if-not-is_inside.false-raw))
 
 returns-2 : tie.Need-returns invariant-loop decreases-loop
 unfolding first_outside
-returns-2 c = c.before.before.hop_count-n.ensures ∙ sym (least_done _ (omega arith) (omega arith) c.before.loop-i.invariant.2)
+returns-2 c = c.hop_count-n.ensures ∙ sym (least_done _ (omega arith) (omega arith) c.loop-i.invariant.2)
 
 pub first_outside_spec : {M : Type 1} → statement M
 first_outside_spec =

@@ -17,7 +17,7 @@ cast-result-3 : tie.Need-overflow_cast-result-3
 cast-result-3 c = search rules
 
 returns : tie.Need-returns
-returns c = inside_hop _ _ _ c.before.before.before.before.before.before.hop_at-hop.ensures
+returns c = inside_hop _ _ _ c.hop_at-hop.ensures
 
 pub is_inside_spec : {M : Type 1} → statement M
 is_inside_spec =

@@ -13,7 +13,7 @@ check-requires : tie.Need-check-answer-requires
 check-requires c κs = search rules
 
 returns : tie.Need-returns-then-answer-ne0
-returns c = find_refused _ _ c.before.before.check-answer.ensures _ _ _ c.if-answer-ne0.true
+returns c = find_refused _ _ c.check-answer.ensures _ _ _ c.if-answer-ne0.true
 
 saturate-requires : tie.Need-saturate-requires
 saturate-requires c κs = search rules
@@ -29,8 +29,8 @@ hop-of-requires c κs = search rules
 
 find-requires : tie.Need-find-found-requires
 find-requires c κs =
-    let n = c.before.before.before in
-    (find_admitted _ _ n.before.before.before.check-answer.ensures n.before.if-answer-ne0.false).ascending
+    let n = c in
+    (find_admitted _ _ n.check-answer.ensures n.if-answer-ne0.false).ascending
 
 -- what is returned for what the search answered
 module _ (c : tie.After-find-found) where
@@ -43,9 +43,9 @@ module _ (c : tie.After-find-found) where
   searched : (r : Found) → c.find-found.result ≡ r →
       finding_of checked.check-answer.result r ≡ find_of start.args.shape start.args.hops.now start.args.from start.args.label start.args.to
   searched r d =
-      let n = c.before.before.before.before in
-      find_found _ _ checked.check-answer.ensures _ _ _ n.before.if-answer-ne0.false n.saturate.ensures c.before.before.before.saturate-2.ensures
-      c.before.before.saturate-3.ensures c.before.hop_of-sought.ensures c.find-found.ensures d
+      let n = c in
+      find_found _ _ checked.check-answer.ensures _ _ _ n.if-answer-ne0.false n.saturate.ensures c.saturate-2.ensures
+      c.saturate-3.ensures c.hop_of-sought.ensures c.find-found.ensures d
 
 enum-known-found : tie.Need-enum_known-found
 enum-known-found c = search rules

@@ -11,7 +11,7 @@ check-requires-2 : tie.Need-check-second-requires
 check-requires-2 c κs = search rules
 
 returns : tie.Need-returns
-returns c = both_answers _ _ _ _ c.before.before.before.check-first.ensures c.before.before.check-second.ensures
+returns c = both_answers _ _ _ _ c.check-first.ensures c.check-second.ensures
 
 pub both_pass_spec : {M : Type 1} → statement M
 both_pass_spec = tie.close (tie.spec check-requires check-requires-2 returns)

@@ -16,15 +16,15 @@ past_of-requires c κs = search rules
 
 part-requires : tie.Need-part-requires
 part-requires c κs =
-    let s = c.before.before.before in
+    let s = c in
     let hs = s.args.hops.now in (
-      rw (c.before.first_of-first.ensures, c.past_of-past.ensures) (first_past hs s.requires.0 s.args.state),
+      rw (c.first_of-first.ensures, c.past_of-past.ensures) (first_past hs s.requires.0 s.args.state),
       rw c.past_of-past.ensures (past_within hs s.requires.0 s.args.state),
     )
 
 returns : tie.Need-returns
 returns c =
-    (c.part.ensures.0 ∙ rw (c.before.before.first_of-first.ensures, c.before.past_of-past.ensures), c.part.ensures.1 ∙ rw c.before.before.first_of-first.ensures)
+    (c.part.ensures.0 ∙ rw (c.first_of-first.ensures, c.past_of-past.ensures), c.part.ensures.1 ∙ rw c.first_of-first.ensures)
 
 pub out_of_spec : {M : Type 1} → statement M
 out_of_spec = tie.close (tie.spec cast-s first-of-requires past_of-requires part-requires returns)

@@ -17,12 +17,12 @@ slice-aggregate-fill c = search rules
 fill-requires : tie.Need-fill-requires
 unfolding KeyStarts PredecessorStarts
 fill-requires c κs =
-    let st = c.before.before.before.before in
-    let e = c.before.before.hop_count-n.ensures in
+    let st = c in
+    let e = c.hop_count-n.ensures in
     (targets_column _ st.requires.0 e, λ s l. rw e (st.requires.1 s l))
 
 returns : tie.Need-returns
-returns c = places_filled _ c.before.before.before.hop_count-n.ensures _ _ (omega arith) c.fill.ensures
+returns c = places_filled _ c.hop_count-n.ensures _ _ (omega arith) c.fill.ensures
 
 pub places_of_spec : {M : Type 1} → statement M
 places_of_spec = tie.close (tie.spec hop-count-requires slice-aggregate-fill fill-requires returns)

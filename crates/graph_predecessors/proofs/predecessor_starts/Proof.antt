@@ -11,11 +11,11 @@ hop-count-requires : tie.Need-hop_count-n-requires
 hop-count-requires c κs = search rules
 
 key-starts-requires : tie.Need-key_starts-requires
-key-starts-requires c κs = targets_column _ c.before.before.requires c.hop_count-n.ensures
+key-starts-requires c κs = targets_column _ c.requires c.hop_count-n.ensures
 
 returns : tie.Need-returns
 unfolding KeyStarts PredecessorStarts
-returns c = rw c.before.hop_count-n.ensures at c.key_starts.ensures
+returns c = rw c.hop_count-n.ensures at c.key_starts.ensures
 
 pub predecessor_starts_spec : {M : Type 1} → statement M
 predecessor_starts_spec = tie.close (tie.spec hop-count-requires key-starts-requires returns)

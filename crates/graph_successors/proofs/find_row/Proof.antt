@@ -19,11 +19,11 @@ start-of-requires-2 c κs = search rules
 
 find-between-requires : tie.Need-find_between-requires
 find-between-requires c κs =
-    let st = c.before.before.before.before in
-    let s = c.before.before.wide-s.ensures in (
+    let st = c in
+    let s = c.wide-s.ensures in (
       st.requires.0.ascending,
       (
-        index_bracket _ _ st.requires.0.ascending st.requires.1.0 _ s st.requires.1.1 c.before.start_of.ensures c.start_of-2.ensures,
+        index_bracket _ _ st.requires.0.ascending st.requires.1.0 _ s st.requires.1.1 c.start_of.ensures c.start_of-2.ensures,
         index_absent _ _ st.requires.0.ascending st.requires.1.0 _ s st.requires.1.1 c.start_of-2.ensures,
       ),
     )

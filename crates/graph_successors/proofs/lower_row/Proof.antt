@@ -19,8 +19,8 @@ start-of-requires-2 c κs = search rules
 
 lower-between-requires : tie.Need-lower_between-requires
 lower-between-requires c κs =
-    let st = c.before.before.before.before in
-    (st.requires.0.ascending, index_bracket _ _ st.requires.0.ascending st.requires.1.0 _ c.before.before.wide-s.ensures st.requires.1.1 c.before.start_of.ensures c.start_of-2.ensures)
+    let st = c in
+    (st.requires.0.ascending, index_bracket _ _ st.requires.0.ascending st.requires.1.0 _ c.wide-s.ensures st.requires.1.1 c.start_of.ensures c.start_of-2.ensures)
 
 returns : tie.Need-returns
 returns c = search rules

@@ -23,7 +23,7 @@ hop-count-requires c κs = search rules
 
 loop-holds : tie.Need-loop-i-init invariant-loop decreases-loop
 loop-holds c =
-    let st = c.before.before in (
+    let st = c in (
       c.hop_count-n.ensures,
       omega (arith, first_within st.args.hops.now st.requires.0.ascending st.args.s),
       λ j l. omega (arith, first_below st.args.hops.now st.requires.0.ascending st.args.s {j = j} (omega (arith, l, st.requires.1))),
@@ -37,9 +37,9 @@ wide-requires c κs = search rules
 
 returns : tie.Need-returns-then-wide-s invariant-loop decreases-loop
 returns c =
-    let st = c.before.before.before.before.before.before.before in
-    first_is st.args.hops.now st.requires.0.ascending (st.args.s + 1) (omega arith) c.before.before.before.before.loop-i.invariant.2
-    (λ l. omega (arith, ap (λ (h : Hop). h.from) c.before.before.hop_at.ensures))
+    let st = c in
+    first_is st.args.hops.now st.requires.0.ascending (st.args.s + 1) (omega arith) c.loop-i.invariant.2
+    (λ l. omega (arith, ap (λ (h : Hop). h.from) c.hop_at.ensures))
 
 add-i : tie.Need-overflow_add-i invariant-loop decreases-loop
 add-i c = search rules
@@ -49,12 +49,12 @@ loop-less c = search rules
 
 loop-again : tie.Need-loop-i-preserved invariant-loop decreases-loop
 loop-again c =
-    (omega arith, omega arith, below_more _ _ c.before.before.before.before.loop-i.invariant.2 (omega (arith, ap (λ (h : Hop). h.from) c.before.before.hop_at.ensures)))
+    (omega arith, omega arith, below_more _ _ c.loop-i.invariant.2 (omega (arith, ap (λ (h : Hop). h.from) c.hop_at.ensures)))
 
 returns-2 : tie.Need-returns invariant-loop decreases-loop
 returns-2 c =
-    let st = c.before.before.before.before in
-    first_is st.args.hops.now st.requires.0.ascending (st.args.s + 1) (omega arith) c.before.loop-i.invariant.2 (λ l. absurd (omega arith))
+    let st = c in
+    first_is st.args.hops.now st.requires.0.ascending (st.args.s + 1) (omega arith) c.loop-i.invariant.2 (λ l. absurd (omega arith))
 
 pub pass_spec : {M : Type 1} → statement M
 pass_spec =

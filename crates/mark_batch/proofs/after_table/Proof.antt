@@ -6,13 +6,13 @@ use Rattle.mark_batch.proofs.after_table.Statement.{statement}
 use Rattle.mark_batch.proofs.after_table.Tie as tie
 
 returns : tie.Need-returns-then-sense
-returns c = rw (after_nowhere c.before.before.before.args.sense c.if-sense.true) (back_nowhere _ _)
+returns c = rw (after_nowhere c.args.sense c.if-sense.true) (back_nowhere _ _)
 
 gather-requires : tie.Need-gather-requires
 gather-requires c κs = search rules
 
 returns-2 : tie.Need-returns
-returns-2 c = rw (after_walks c.before.before.before.before.before.args.sense c.before.before.if-sense.false) c.gather.ensures
+returns-2 c = rw (after_walks c.args.sense c.if-sense.false) c.gather.ensures
 
 pub after_table_spec : {M : Type 1} → statement M
 after_table_spec = tie.close (tie.spec returns gather-requires returns-2)

@@ -8,13 +8,13 @@ pass-once-requires : tie.Need-pass_once-requires
 pass-once-requires c κs = search rules
 
 returns : tie.Need-returns-then-sense
-returns c = rw (closing_single c.before.before.before.before.before.args.sense c.before.before.if-sense.true) c.pass_once.ensures
+returns c = rw (closing_single c.args.sense c.if-sense.true) c.pass_once.ensures
 
 pass-on-requires : tie.Need-pass_on-requires
 pass-on-requires c κs = search rules
 
 returns-2 : tie.Need-returns-else-sense
-returns-2 c = rw (closing_walks c.before.before.before.before.before.args.sense c.before.before.if-sense.false) c.pass_on.ensures
+returns-2 c = rw (closing_walks c.args.sense c.if-sense.false) c.pass_on.ensures
 
 pub closing_table_spec : {M : Type 1} → statement M
 closing_table_spec = tie.close (tie.spec pass-once-requires pass-on-requires returns returns-2)

@@ -8,22 +8,22 @@ use Rattle.mark_batch.proofs.try_batch.Statement.{statement}
 use Rattle.mark_batch.proofs.try_batch.Tie as tie
 
 put-keys-requires : tie.Need-put_keys-requires
-put-keys-requires c κs = let st = c.before.before.before in (st.requires.0.admitted, (st.requires.1.1.0, (st.requires.1.1.1, refl)))
+put-keys-requires c κs = let st = c in (st.requires.0.admitted, (st.requires.1.1.0, (st.requires.1.1.1, refl)))
 
 closing-table-requires : tie.Need-closing_table-requires
-closing-table-requires c κs = let st = c.before.before.before.before.before.before in (st.requires.0.ready, (st.requires.0.ordered, st.requires.1.0.capacity))
+closing-table-requires c κs = let st = c in (st.requires.0.ready, (st.requires.0.ordered, st.requires.1.0.capacity))
 
 after-table-requires : tie.Need-after_table-requires
-after-table-requires c κs = let st = c.before.before.before.before.before.before.before.before.before in (st.requires.0.ready, (st.requires.0.ordered, st.requires.1.0.capacity))
+after-table-requires c κs = let st = c in (st.requires.0.ready, (st.requires.0.ordered, st.requires.1.0.capacity))
 
 put-keys-requires-2 : tie.Need-put_keys-requires-2
-put-keys-requires-2 c κs = let st = c.before.before.before.before.before.before.before.before.before.before.before in (st.requires.0.admitted, (st.requires.1.1.0, (st.requires.1.1.1, refl)))
+put-keys-requires-2 c κs = let st = c in (st.requires.0.admitted, (st.requires.1.1.0, (st.requires.1.1.1, refl)))
 
 put-answers-requires : tie.Need-put_answers-requires
-put-answers-requires c κs = let st = c.before.before.before.before.before.before.before.before.before.before.before.before.before.before.before in st.requires.0.admitted
+put-answers-requires c κs = let st = c in st.requires.0.admitted
 
 before-table-requires : tie.Need-before_table-requires
-before-table-requires c κs = let st = c.before.before.before.before.before.before.before.before.before.before.before.before.before.before.before.before.before.before in (st.requires.0.ready, (st.requires.0.ordered, st.requires.1.0.capacity))
+before-table-requires c κs = let st = c in (st.requires.0.ready, (st.requires.0.ordered, st.requires.1.0.capacity))
 
 record-touched-requires : tie.Need-record_touched-requires
 record-touched-requires c κs = search rules
@@ -32,10 +32,10 @@ clear-requires : tie.Need-clear-requires
 clear-requires c κs = search rules
 
 put-keys-requires-3 : tie.Need-put_keys-requires-3
-put-keys-requires-3 c κs = let st = c.before.before.before.before.before.before.before.before.before.before.before.before.before.before.before.before.before.before.before.before.before.before.before.before.before.before in (st.requires.0.admitted, (st.requires.1.1.0, (st.requires.1.1.1, c.before.clear.ensures)))
+put-keys-requires-3 c κs = let st = c in (st.requires.0.admitted, (st.requires.1.1.0, (st.requires.1.1.1, c.clear.ensures)))
 
 filter-requires : tie.Need-filter-requires
-filter-requires c κs = let st = c.before.before.before.before.before.before.before.before.before.before.before.before.before.before.before.before.before.before.before.before.before.before.before.before.before.before.before.before.before.before in (st.requires.0.ready, st.requires.1.0.capacity)
+filter-requires c κs = let st = c in (st.requires.0.ready, st.requires.1.0.capacity)
 
 same_length : tie.Need-shape_of-marks
 same_length c = search rules

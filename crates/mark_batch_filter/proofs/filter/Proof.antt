@@ -22,25 +22,25 @@ loop-holds c = (c.hop_count-n.ensures, omega arith, filtered_none _ _ _ _)
 
 filter-at-requires : tie.Need-filter_at-lost-requires invariant-loop decreases-loop
 filter-at-requires c κs =
-    let st = c.before.before.before.before.before.before in
-    let v = c.before.before.loop-i in
+    let st = c in
+    let v = c.loop-i in
     (st.requires.0, (omega (arith, v.invariant.2.long, st.requires.1), omega arith))
 
 -- the hop at hand is filtered too
 turn : (c : tie.After-slice_known-in-loop-i-1 invariant-loop decreases-loop) →
-    let st = c.before.before.before.before.before.before.before.before.before in
-    let v = c.before.before.before.before.before.loop-i in
+    let st = c in
+    let v = c.loop-i in
     FilteredTo st.args.hops.now st.args.marks.now st.args.froms.now st.args.answers.now (v.i + 1)
-    c.before.before.filter_at-lost.new.1.0 (v.lost + c.before.before.filter_at-lost.result)
+    c.filter_at-lost.new.marks (v.lost + c.filter_at-lost.result)
 turn c =
-    let st = c.before.before.before.before.before.before.before.before.before in
-    let v = c.before.before.before.before.before.loop-i in
-    let h = c.before.before.filter_at-lost.ensures in
+    let st = c in
+    let v = c.loop-i in
+    let h = c.filter_at-lost.ensures in
     filtered_more st.args.hops.now st.args.marks.now st.args.froms.now st.args.answers.now v.invariant.2 (omega arith) st.requires.1 h.0 h.1
 
 add-lost : tie.Need-overflow_add-lost invariant-loop decreases-loop
 add-lost c =
-    let st = c.before.before.before.before.before.before.before.before.before in
+    let st = c in
     omega (arith, filtered_most _ _ _ _ (turn c), st.requires.0.hops_most)
 
 add-i : tie.Need-overflow_add-i invariant-loop decreases-loop
@@ -51,16 +51,16 @@ loop-less c = omega arith
 
 loop-again : tie.Need-loop-i-preserved invariant-loop decreases-loop
 loop-again c =
-    let v = c.before.before.before.before.before.loop-i in
+    let v = c.loop-i in
     (v.invariant.0, omega arith, turn c)
 
 same_length : tie.Need-shape_of-marks invariant-loop decreases-loop
-same_length c = c.before.loop-i.invariant.2.long
+same_length c = c.loop-i.invariant.2.long
 
 returns : tie.Need-returns invariant-loop decreases-loop
 returns c =
-    let v = c.before.loop-i in
-    let e : v.i ≡ count c.before.before.before.before.before.args.hops.now = omega arith in
+    let v = c.loop-i in
+    let e : v.i ≡ count c.args.hops.now = omega arith in
     filtered_all _ _ _ _ (rw e at v.invariant.2)
 
 pub filter_spec : {M : Type 1} → statement M

@@ -13,7 +13,7 @@ slice-read-if1 c = search rules
 
 returns : tie.Need-returns-then-marks-i-ne1
 returns c =
-    let st = c.before.before.before.before in
+    let st = c in
     let e : fails st.args.hops.now st.args.marks.now st.args.froms.now st.args.answers.now st.args.i ≡ false = stays_unmarked _ _ _ _ _ c.if-marks-i-ne1.true in
     (rw e, rw e)
 
@@ -22,8 +22,8 @@ fits-at-requires c κs = search rules
 
 returns-2 : tie.Need-returns-then-fits_at
 returns-2 c =
-    let st = c.before.before.before.before.before.before in
-    let e : fails st.args.hops.now st.args.marks.now st.args.froms.now st.args.answers.now st.args.i ≡ false = stays_fitting _ _ _ _ _ c.before.fits_at.ensures c.if-fits_at.true in
+    let st = c in
+    let e : fails st.args.hops.now st.args.marks.now st.args.froms.now st.args.answers.now st.args.i ≡ false = stays_fitting _ _ _ _ _ c.fits_at.ensures c.if-fits_at.true in
     (rw e, rw e)
 
 slice-write-marks : tie.Need-bounds-marks-i-2
@@ -34,8 +34,8 @@ same_length c = search rules
 
 returns-3 : tie.Need-returns
 returns-3 c =
-    let st = c.before.before.before.before.before.before in
-    let e : fails st.args.hops.now st.args.marks.now st.args.froms.now st.args.answers.now st.args.i ≡ true = falls_here _ _ _ _ _ c.before.before.if-marks-i-ne1.false c.before.fits_at.ensures c.if-fits_at.false in
+    let st = c in
+    let e : fails st.args.hops.now st.args.marks.now st.args.froms.now st.args.answers.now st.args.i ≡ true = falls_here _ _ _ _ _ c.if-marks-i-ne1.false c.fits_at.ensures c.if-fits_at.false in
     (rw e, rw e)
 
 pub filter_at_spec : {M : Type 1} → statement M

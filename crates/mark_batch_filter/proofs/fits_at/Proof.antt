@@ -15,17 +15,17 @@ use Rattle.mark_batch_filter.proofs.fits_at.Statement.{statement}
 use Rattle.mark_batch_filter.proofs.fits_at.Tie as tie
 
 -- the two states of the hop, as they index the tables
-end : (c : tie.After-wide) → (c.wide.result ≡ to c.before.before.before.args.hops.now c.before.before.before.args.i) × (c.wide.result < most_states)
+end : (c : tie.After-wide) → (c.wide.result ≡ to c.args.hops.now c.args.i) × (c.wide.result < most_states)
 end c =
-    let st = c.before.before.before in
-    let e : c.wide.result ≡ to st.args.hops.now st.args.i = c.wide.ensures ∙ ap (λ (h : Hop). h.to) c.before.hop_at-h.ensures in
+    let st = c in
+    let e : c.wide.result ≡ to st.args.hops.now st.args.i = c.wide.ensures ∙ ap (λ (h : Hop). h.to) c.hop_at-h.ensures in
     (e, omega (arith, st.requires.0.to_in st.args.i st.requires.1))
 
 begin : (c : tie.After-wide-2) →
-    (c.wide-2.result ≡ from c.before.before.before.before.before.args.hops.now c.before.before.before.before.before.args.i) × (c.wide-2.result < most_states)
+    (c.wide-2.result ≡ from c.args.hops.now c.args.i) × (c.wide-2.result < most_states)
 begin c =
-    let st = c.before.before.before.before.before in
-    let e : c.wide-2.result ≡ from st.args.hops.now st.args.i = c.wide-2.ensures ∙ ap (λ (h : Hop). h.from) c.before.before.before.hop_at-h.ensures in
+    let st = c in
+    let e : c.wide-2.result ≡ from st.args.hops.now st.args.i = c.wide-2.ensures ∙ ap (λ (h : Hop). h.from) c.hop_at-h.ensures in
     (e, omega (arith, st.requires.0.from_in st.args.i st.requires.1))
 
 hop-at-requires : tie.Need-hop_at-h-requires
@@ -55,7 +55,7 @@ holds-requires c κs = search rules
 returns : tie.Need-returns
 unfolding fits bit_in
 returns c =
-    let st = c.before.before.before.before.before.before.before in
+    let st = c in
     c.holds.ensures ∙ ap₂ (λ (x y : ℕ). all word_bits (λ (b : ℕ). not (bit_at (get_or st.args.froms.now x 0) b) || bit_at (get_or st.args.answers.now y 0) b))
     (begin c.before.before).0 (end c.before.before.before.before).0
 

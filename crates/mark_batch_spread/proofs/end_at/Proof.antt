@@ -11,7 +11,7 @@ wide-requires : tie.Need-wide-requires
 wide-requires c κs = search rules
 
 returns : tie.Need-returns-then-back
-returns c = rw c.before.before.if-back.true (c.wide.ensures ∙ c.before.to_at.ensures)
+returns c = rw c.if-back.true (c.wide.ensures ∙ c.to_at.ensures)
 
 from-at-requires : tie.Need-from_at-requires
 from-at-requires c κs = search rules
@@ -20,7 +20,7 @@ wide-requires-2 : tie.Need-wide-requires-2
 wide-requires-2 c κs = search rules
 
 returns-2 : tie.Need-returns
-returns-2 c = rw c.before.before.if-back.false (c.wide-2.ensures ∙ c.before.from_at.ensures)
+returns-2 c = rw c.if-back.false (c.wide-2.ensures ∙ c.from_at.ensures)
 
 pub end_at_spec : {M : Type 1} → statement M
 end_at_spec = tie.close (tie.spec to-at-requires wide-requires returns from-at-requires wide-requires-2 returns-2)

@@ -9,7 +9,7 @@ spread-over-requires c κs = search rules
 
 returns : tie.Need-returns
 returns c =
-    let st = c.before.before.before.before in
+    let st = c in
     rw c.spread_over.ensures.1 (passed_once st.requires.1.0 st.args.marks.now st.requires.0 st.args.words.now c.spread_over.ensures.0)
 
 pub pass_once_spec : {M : Type 1} → statement M

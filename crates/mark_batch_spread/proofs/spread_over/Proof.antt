@@ -35,16 +35,16 @@ module _ (c : tie.After-visit_at invariant-loop decreases-loop) where
   start = c.before.before.before.before.before.before.before.before
 
   below : c.visit_at.result < start.args.n
-  below = omega (arith, c.visit_at.ensures, visit_below start.args.down c.before.loop-k-test.true)
+  below = omega (arith, c.visit_at.ensures, visit_below start.args.down c.loop-k-test.true)
 
 place-at-requires : tie.Need-place_at-requires invariant-loop decreases-loop
-place-at-requires c κs = omega (arith, below c, (start c).requires.1.0.capacity, c.before.before.before.sized_order.ensures)
+place-at-requires c κs = omega (arith, below c, (start c).requires.1.0.capacity, c.sized_order.ensures)
 
 step-at-requires : tie.Need-step_at-requires invariant-loop decreases-loop
 step-at-requires c κs =
-    let p = c.before in
+    let p = c in
     let r = (start p.before).requires in
-    (r.0, (r.1.1, omega (arith, p.place_at.ensures, r.1.0.within p.before.visit_at.result (below p.before))))
+    (r.0, (r.1.1, omega (arith, p.place_at.ensures, r.1.0.within p.visit_at.result (below p.before))))
 
 add-k : tie.Need-overflow_add-k invariant-loop decreases-loop
 add-k c = omega arith
@@ -54,10 +54,10 @@ loop-less c = omega arith
 
 loop-again : tie.Need-loop-k-preserved invariant-loop decreases-loop
 loop-again c =
-    let p = c.before.before in
+    let p = c in
     let v = p.before in
     let a = (start v).args in
-    let loop = v.before.before.loop-k in (
+    let loop = v.loop-k in (
       omega arith,
       along_more a.hops.now a.marks.now a.back (visited_hop a.sorted.now a.n a.down) a.words.now loop.k
           (p.place_at.ensures ∙ ap (λ (j : ℕ). get_or a.sorted.now j 0) v.visit_at.ensures) loop.invariant.1 c.step_at.ensures,
@@ -65,10 +65,10 @@ loop-again c =
 
 returns : tie.Need-returns invariant-loop decreases-loop
 returns c =
-    let a = c.before in
-    let st = a.before.before.before.before.before.before in
+    let a = c in
+    let st = a in
     let e : a.loop-k.k ≡ st.args.n = omega arith in
-    (a.before.before.sized.ensures, rw e at a.loop-k.invariant.1)
+    (a.sized.ensures, rw e at a.loop-k.invariant.1)
 
 pub spread_over_spec : {M : Type 1} → statement M
 spread_over_spec =

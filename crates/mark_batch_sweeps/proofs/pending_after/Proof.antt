@@ -27,10 +27,10 @@ module _ (c : tie.After-lost_mark-arg-1 invariant-loop decreases-loop) where
   start = c.before.before.before.before.before.before
 
   abbrev place : ℕ
-  place = c.before.before.loop-i.i
+  place = c.loop-i.i
 
   here : place < count start.args.hops.now
-  here = omega (arith, c.before.loop-i-test.true, c.before.before.loop-i.invariant.0)
+  here = omega (arith, c.loop-i-test.true, c.loop-i.invariant.0)
 
 lost-mark-requires : tie.Need-lost_mark-requires invariant-loop decreases-loop
 lost-mark-requires c κs = omega (arith, here c, (start c).requires.1)
@@ -74,7 +74,7 @@ loop-less : tie.Need-loop-i-smaller invariant-loop decreases-loop
 loop-less c = omega arith
 
 loop-again : tie.Need-loop-i-preserved invariant-loop decreases-loop
-loop-again c = (c.before.before.before.before.loop-i.invariant.0, omega arith)
+loop-again c = (c.loop-i.invariant.0, omega arith)
 
 returns : tie.Need-returns invariant-loop decreases-loop
 returns c = tt

@@ -19,9 +19,9 @@ batch-len-requires c κs = search rules
 
 run-to-fixpoint-requires : tie.Need-run_to_fixpoint-lost-requires
 run-to-fixpoint-requires c κs =
-    let st = c.before.before.before.before.before.before.before.before in
-    let b = c.before.before.batch_len-m.ensures in
-    (st.requires.0, (st.requires.1.0, (b.1.0, omega (arith, b.0, c.before.before.before.hop_count.ensures))))
+    let st = c in
+    let b = c.batch_len-m.ensures in
+    (st.requires.0, (st.requires.1.0, (b.1.0, omega (arith, b.0, c.hop_count.ensures))))
 
 pending-after-requires : tie.Need-pending_after-more-requires
 pending-after-requires c κs = search rules

@@ -23,31 +23,31 @@ batch-bit-requires : tie.Need-batch_bit-bit-requires invariant-loop decreases-lo
 batch-bit-requires c κs = search rules
 
 loop-holds : tie.Need-loop-lost-init invariant-loop decreases-loop
-loop-holds c = (refl, swept_none c.before.before.before.requires.1.0 tt)
+loop-holds c = (refl, swept_none c.requires.1.0 tt)
 
 try-batch-requires : tie.Need-try_batch-lost-requires invariant-loop decreases-loop
-try-batch-requires c κs = let st = c.before.before.before.before.before.before.before in (st.requires.0, (c.before.before.before.loop-lost.invariant.1.marking, st.requires.1.1))
+try-batch-requires c κs = let st = c in (st.requires.0, (c.loop-lost.invariant.1.marking, st.requires.1.1))
 
 add-all : tie.Need-overflow_add-all invariant-loop decreases-loop
 add-all c =
-    let st = c.before.before.before.before.before.before.before.before.before.before in
-    omega (arith, c.before.before.before.before.before.before.loop-lost.invariant.1.fewer, c.before.before.try_batch-lost.ensures.fewer, count_within st.args.hops.now st.args.marks.now, st.requires.0.ready.hops_most)
+    let st = c in
+    omega (arith, c.loop-lost.invariant.1.fewer, c.try_batch-lost.ensures.fewer, count_within st.args.hops.now st.args.marks.now, st.requires.0.ready.hops_most)
 
 loop-less : tie.Need-loop-lost-smaller invariant-loop decreases-loop
-loop-less c = omega (arith, c.before.before.try_batch-lost.ensures.fewer, c.before.before.before.before.before.loop-lost-test.true)
+loop-less c = omega (arith, c.try_batch-lost.ensures.fewer, c.loop-lost-test.true)
 
 loop-again : tie.Need-loop-lost-preserved invariant-loop decreases-loop
 loop-again c =
-    let st = c.before.before.before.before.before.before.before.before.before.before.args in
-    let v = c.before.before.before.before.before.before.loop-lost.invariant in
+    let st = c.args in
+    let v = c.loop-lost.invariant in
     let tried = TriedIn (sense_of st.sense) st.hops.now st.base (st.base + st.m) in
-    (c.before.before.try_batch-lost.auto.1.1.1.1.1.1.1.1.0 ∙ v.0, swept_then {B = tried} v.1 c.before.before.try_batch-lost.ensures (λ a b. tt))
+    (c.try_batch-lost.auto.marks ∙ v.0, swept_then {B = tried} v.1 c.try_batch-lost.ensures (λ a b. tt))
 
 same_length : tie.Need-shape_of-marks invariant-loop decreases-loop
-same_length c = c.before.loop-lost.invariant.0
+same_length c = c.loop-lost.invariant.0
 
 returns : tie.Need-returns invariant-loop decreases-loop
-returns c = c.before.loop-lost.invariant.1
+returns c = c.loop-lost.invariant.1
 
 pub run_to_fixpoint_spec : {M : Type 1} → statement M
 run_to_fixpoint_spec =

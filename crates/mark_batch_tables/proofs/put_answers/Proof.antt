@@ -28,7 +28,7 @@ hop-count-requires : tie.Need-hop_count-n-requires invariant-loop decreases-loop
 hop-count-requires c κs = search rules
 
 loop-holds : tie.Need-loop-i-init invariant-loop decreases-loop
-loop-holds c = (c.hop_count-n.ensures, omega arith, c.before.sized.ensures, answered_none _ _ _ _ c.before.before.before.put_stay.ensures)
+loop-holds c = (c.hop_count-n.ensures, omega arith, c.sized.ensures, answered_none _ _ _ _ c.put_stay.ensures)
 
 hop-at-requires : tie.Need-hop_at-h-requires invariant-loop decreases-loop
 hop-at-requires c κs = omega arith
@@ -39,10 +39,10 @@ module _ (c : tie.After-hop_at-h invariant-loop decreases-loop) where
   start = c.before.before.before.before.before.before.before.before.before
 
   abbrev place : ℕ
-  place = c.before.before.loop-i.i
+  place = c.loop-i.i
 
   within : place < count start.args.hops.now
-  within = omega (arith, c.before.loop-i-test.true, c.before.before.loop-i.invariant.0)
+  within = omega (arith, c.loop-i-test.true, c.loop-i.invariant.0)
 
   end_is : {r : ℕ} → r ≡ c.hop_at-h.result.to → (r ≡ to start.args.hops.now place) × (r < most_states)
   end_is {r} q =
@@ -87,7 +87,7 @@ element-copy-out-out-3 : tie.Need-bounds-out-wide invariant-loop decreases-loop
 element-copy-out-out-3 c = (begin_is c.before.before.before.before.before c.wide-in-loop-i-2.ensures).1
 
 element-write-out : tie.Need-bounds-out-wide-in-loop-i invariant-loop decreases-loop
-element-write-out c = (begin_is c.before.before.before.before.before.before c.before.wide-in-loop-i-2.ensures).1
+element-write-out c = (begin_is c.before.before.before.before.before.before c.wide-in-loop-i-2.ensures).1
 
 add-i : tie.Need-overflow_add-i invariant-loop decreases-loop
 add-i c = omega arith
@@ -98,16 +98,16 @@ loop-less c = omega arith
 loop-again : tie.Need-loop-i-preserved invariant-loop decreases-loop
 loop-again c =
     let h = c.before.before.before.before.before.before in
-    let v = c.before.before.before.before.before.before.before.before.loop-i in
-    let (ef, lf) = begin_is h c.before.wide-in-loop-i-2.ensures in
-    let (et, lt) = end_is h c.before.before.before.before.before.wide.ensures in
-    let (ea, la) = label_is h c.before.before.before.wide-in-loop-i.ensures in
+    let v = c.loop-i in
+    let (ef, lf) = begin_is h c.wide-in-loop-i-2.ensures in
+    let (et, lt) = end_is h c.wide.ensures in
+    let (ea, la) = label_is h c.wide-in-loop-i.ensures in
     (v.invariant.0, omega arith, simp length-set v.invariant.2, answered_more _ _ _ v.invariant.3 ef et ea (omega arith))
 
 returns : tie.Need-returns invariant-loop decreases-loop
 returns c =
-    let v = c.before.loop-i in
-    let e : v.i ≡ count c.before.before.before.before.before.before.before.before.args.hops.now = omega arith in
+    let v = c.loop-i in
+    let e : v.i ≡ count c.args.hops.now = omega arith in
     answered_all _ _ _ (rw e at v.invariant.3)
 
 pub put_answers_spec : {M : Type 1} → statement M

@@ -19,7 +19,7 @@ element-write-words : tie.Need-bounds-words-wide-2
 element-write-words c = search rules
 
 returns : tie.Need-returns
-returns c = rw (c.before.wide.ensures, c.before.before.bit_of.ensures)
+returns c = rw (c.wide.ensures, c.bit_of.ensures)
 
 pub put_bit_spec : {M : Type 1} → statement M
 put_bit_spec =

@@ -18,7 +18,7 @@ decreases-loop hops key base m words₀ b₀ words b = m - b
 
 loop-holds : tie.Need-loop-b-init invariant-loop decreases-loop
 loop-holds c =
-    let st = c.before in
+    let st = c in
     let e = st.requires.1.1.1 in (
       omega arith,
       ap length e ∙ length-replicate {A = ℕ} most_states 0,
@@ -33,8 +33,8 @@ key-at-requires c κs = omega arith
 
 put-bit-requires : tie.Need-put_bit-requires invariant-loop decreases-loop
 put-bit-requires c κs =
-    let st = c.before.before.before.before.before in
-    let v = c.before.before.before.loop-b in
+    let st = c in
+    let v = c.loop-b in
     (omega (arith, c.key_at.ensures, key_in st.requires.0 st.args.key {i = st.args.base + v.b} (omega arith)), omega arith)
 
 add-b : tie.Need-overflow_add-b invariant-loop decreases-loop
@@ -45,20 +45,20 @@ loop-less c = omega arith
 
 loop-again : tie.Need-loop-b-preserved invariant-loop decreases-loop
 loop-again c =
-    let st = c.before.before.before.before.before.before in
-    let v = c.before.before.before.before.loop-b in
-    let l : c.before.key_at.result < length v.words =
-    omega (arith, c.before.key_at.ensures, v.invariant.1, key_in st.requires.0 st.args.key {i = st.args.base + v.b} (omega arith)) in (
+    let st = c in
+    let v = c.loop-b in
+    let l : c.key_at.result < length v.words =
+    omega (arith, c.key_at.ensures, v.invariant.1, key_in st.requires.0 st.args.key {i = st.args.base + v.b} (omega arith)) in (
       omega arith,
-      put_length v.words c.before.key_at.result v.b c.put_bit.ensures ∙ v.invariant.1,
-      key_table_more (number_by st.args.key st.args.hops.now) st.args.base v.b v.words c.put_bit.new.0 c.before.key_at.result v.invariant.2
-          c.before.key_at.ensures l c.put_bit.ensures,
+      put_length v.words c.key_at.result v.b c.put_bit.ensures ∙ v.invariant.1,
+      key_table_more (number_by st.args.key st.args.hops.now) st.args.base v.b v.words c.put_bit.new.words c.key_at.result v.invariant.2
+          c.key_at.ensures l c.put_bit.ensures,
     )
 
 returns : tie.Need-returns invariant-loop decreases-loop
 returns c =
-    let v = c.before.loop-b in
-    let q : v.b ≡ c.before.before.before.args.m = omega arith in
+    let v = c.loop-b in
+    let q : v.b ≡ c.args.m = omega arith in
     rw (← q) v.invariant.2
 
 pub put_keys_spec : {M : Type 1} → statement M

@@ -26,7 +26,7 @@ element-copy-out-silent : tie.Need-bounds-labels-0 invariant-loop decreases-loop
 element-copy-out-silent c = search rules
 
 loop-holds : tie.Need-loop-s-init invariant-loop decreases-loop
-loop-holds c = (omega arith, c.before.sized-2.ensures, stayed_none _ _ _)
+loop-holds c = (omega arith, c.sized-2.ensures, stayed_none _ _ _)
 
 mul-out : tie.Need-offset_bounds-ends-s invariant-loop decreases-loop
 mul-out c = search rules
@@ -48,15 +48,15 @@ loop-less c = omega arith
 
 loop-again : tie.Need-loop-s-preserved invariant-loop decreases-loop
 loop-again c =
-    let v = c.before.before.loop-s in
+    let v = c.loop-s in
     (omega arith, simp length-set v.invariant.1, stayed_more v.invariant.2 (omega arith))
 
 returns : tie.Need-returns invariant-loop decreases-loop
 returns c =
-    let v = c.before.loop-s in
-    let st = c.before.before.before.before.before.before in
+    let v = c.loop-s in
+    let st = c in
     let q : v.s ≡ most_states = omega arith in
-    stayed_all st.args.labels.now c.before.before.before.before.before.sized.ensures v.invariant.1 (rw q at v.invariant.2)
+    stayed_all st.args.labels.now c.sized.ensures v.invariant.1 (rw q at v.invariant.2)
 
 pub put_stay_spec : {M : Type 1} → statement M
 put_stay_spec =

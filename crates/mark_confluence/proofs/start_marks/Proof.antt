@@ -34,13 +34,13 @@ label-at-requires c κs = search rules
 
 slice-write-marks : tie.Need-bounds-marks-i invariant-loop decreases-loop
 slice-write-marks c =
-    let v = c.before.before.before.before.loop-i.invariant in
-    omega (arith, length_so_far _ _ c.before.before.before.before.loop-i.i (omega arith) v.3)
+    let v = c.loop-i.invariant in
+    omega (arith, length_so_far _ _ c.loop-i.i (omega arith) v.3)
 
 slice-write-marks-2 : tie.Need-bounds-marks-i-else-label_at-eq0 invariant-loop decreases-loop
 slice-write-marks-2 c =
-    let v = c.before.before.before.before.loop-i.invariant in
-    omega (arith, length_so_far _ _ c.before.before.before.before.loop-i.i (omega arith) v.3)
+    let v = c.loop-i.invariant in
+    omega (arith, length_so_far _ _ c.loop-i.i (omega arith) v.3)
 
 add-i : tie.Need-overflow_add-i invariant-loop decreases-loop
 add-i c = omega arith
@@ -50,8 +50,8 @@ loop-less c = omega arith
 
 loop-again : tie.Need-loop-i-preserved invariant-loop decreases-loop
 loop-again c =
-    let v = c.before.before.before.before.loop-i.invariant in
-    let a = c.before.before.label_at.ensures in (
+    let v = c.loop-i.invariant in
+    let a = c.label_at.ensures in (
       v.0,
       v.1,
       omega arith,
@@ -60,11 +60,11 @@ loop-again c =
     )
 
 same_length : tie.Need-shape_of-marks invariant-loop decreases-loop
-same_length c = length_so_far _ _ c.before.loop-i.i (omega arith) c.before.loop-i.invariant.3
+same_length c = length_so_far _ _ c.loop-i.i (omega arith) c.loop-i.invariant.3
 
 returns : tie.Need-returns invariant-loop decreases-loop
 unfolding marks_of
-returns c = tabulate_done _ _ c.before.loop-i.invariant.3 (omega arith) (omega arith)
+returns c = tabulate_done _ _ c.loop-i.invariant.3 (omega arith) (omega arith)
 
 pub start_marks_spec : {M : Type 1} → statement M
 start_marks_spec =

@@ -15,26 +15,26 @@ to-at-requires c κs = search rules
 
 is-closed-requires : tie.Need-is_closed-requires
 is-closed-requires c κs =
-    let st = c.before.before.before.before.before.before.before in
-    (st.requires.0, rw c.before.before.before.to_at-s3.ensures (st.requires.0.ready.to_in _ st.requires.1.0))
+    let st = c in
+    (st.requires.0, rw c.to_at-s3.ensures (st.requires.0.ready.to_in _ st.requires.1.0))
 
 returns : tie.Need-returns-then-is_closed
-returns c = answered_still _ _ _ _ c.before.before.before.before.before.before.label_at-a.ensures c.before.before.before.before.before.to_at-s3.ensures c.before.before.if-a-eq0.true c.before.is_closed.ensures c.if-is_closed.true
+returns c = answered_still _ _ _ _ c.label_at-a.ensures c.to_at-s3.ensures c.if-a-eq0.true c.is_closed.ensures c.if-is_closed.true
 
 hop-answers-requires : tie.Need-hop_answers-requires
 hop-answers-requires c κs =
-    let st = c.before.before.before.before.before.before.before in (
+    let st = c in (
       st.requires.0,
       (
-        rw c.before.before.before.before.label_at-a.ensures st.requires.1.1.0,
-        (st.requires.1.1.1, rw c.before.before.before.to_at-s3.ensures (st.requires.0.ready.to_in _ st.requires.1.0)),
+        rw c.label_at-a.ensures st.requires.1.1.0,
+        (st.requires.1.1.1, rw c.to_at-s3.ensures (st.requires.0.ready.to_in _ st.requires.1.0)),
       ),
     )
 
 returns-2 : tie.Need-returns
 returns-2 c =
-    answered_else _ _ _ _ c.before.before.before.before.before.label_at-a.ensures c.before.before.before.before.to_at-s3.ensures c.hop_answers.ensures
-    (⊎_elim (λ w q. sym w.is_closed.ensures ∙ w.if-is_closed.false) (λ w q. absurd (w.if-a-eq0.false q)) c.before.if-a-eq0.branch-raw)
+    answered_else _ _ _ _ c.label_at-a.ensures c.to_at-s3.ensures c.hop_answers.ensures
+    (⊎_elim (λ w q. sym w.is_closed.ensures ∙ w.if-is_closed.false) (λ w q. absurd (w.if-a-eq0.false q)) c.if-a-eq0.branch-raw)
 
 pub is_answered_spec : {M : Type 1} → statement M
 is_answered_spec =

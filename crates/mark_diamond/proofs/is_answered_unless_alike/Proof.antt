@@ -6,11 +6,11 @@ use Rattle.mark_diamond.proofs.is_answered_unless_alike.Statement.{statement}
 use Rattle.mark_diamond.proofs.is_answered_unless_alike.Tie as tie
 
 returns : tie.Need-returns-then-alike
-returns c = answered_alike _ _ _ _ c.before.before.before.requires.1.1.1.1 c.if-alike.true
+returns c = answered_alike _ _ _ _ c.requires.1.1.1.1 c.if-alike.true
 
 is-answered-requires : tie.Need-is_answered-requires
 is-answered-requires c κs =
-    let st = c.before.before.before in
+    let st = c in
     (st.requires.0, (st.requires.1.0, (st.requires.1.1.0, st.requires.1.1.1.0)))
 
 returns-2 : tie.Need-returns

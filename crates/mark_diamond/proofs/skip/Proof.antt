@@ -30,7 +30,7 @@ loop-less c = search rules
 
 loop-again : tie.Need-loop-k-preserved invariant-loop decreases-loop
 loop-again c =
-    (omega arith, omega arith, range_more c.before.before.before.before.before.loop-k.invariant.2 (omega arith))
+    (omega arith, omega arith, range_more c.loop-k.invariant.2 (omega arith))
 
 returns-2 : tie.Need-returns invariant-loop decreases-loop
 returns-2 c = search rules

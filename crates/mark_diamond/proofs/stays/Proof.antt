@@ -11,10 +11,10 @@ to-at-requires : tie.Need-to_at-requires
 to-at-requires c κs = search rules
 
 returns : tie.Need-returns-then-label_at-eq0
-returns c = rw (← c.before.before.before.before.before.label_at.ensures, eq-eqb _ _ c.before.before.before.if-label_at-eq0.true, ← c.before.before.to_at.ensures)
+returns c = rw (← c.label_at.ensures, eq-eqb _ _ c.if-label_at-eq0.true, ← c.to_at.ensures)
 
 returns-2 : tie.Need-returns
-returns-2 c = rw (← c.before.before.label_at.ensures, ne_eqb _ _ c.if-label_at-eq0.false)
+returns-2 c = rw (← c.label_at.ensures, ne_eqb _ _ c.if-label_at-eq0.false)
 
 pub stays_spec : {M : Type 1} → statement M
 stays_spec = tie.close (tie.spec label-at-requires to-at-requires returns returns-2)

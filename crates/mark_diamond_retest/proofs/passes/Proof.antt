@@ -22,7 +22,7 @@ leads-to-requires c κs = search rules
 -- s2 has the like hop
 returns : tie.Need-returns-then-leads_to
 returns c =
-    answered_alike _ _ _ _ (rw (c.before.before.label_at-a.ensures, c.before.before.before.to_at-s3.ensures) at c.before.leads_to.ensures) c.if-leads_to.true
+    answered_alike _ _ _ _ (rw (c.label_at-a.ensures, c.to_at-s3.ensures) at c.leads_to.ensures) c.if-leads_to.true
 
 labelled-from-requires : tie.Need-labelled_from-at-requires
 labelled-from-requires c κs = search rules
@@ -38,10 +38,10 @@ start-of-requires c κs = search rules
 
 is-answered-requires : tie.Need-is_answered-requires
 is-answered-requires c κs =
-    let st = c.before.before.before.before.before.before.before.before.before in
+    let st = c in
     let hs = st.args.hops.now in
-    let past = start_is hs st.args.starts.now st.requires.0.table _ (ap (λ (x : ℕ). x + 1) c.before.wide.ensures) (omega arith) c.start_of-past.ensures in
-    let row = row_is hs st.requires.0.ready.ascending _ c.before.before.before.before.before.label_at-a.ensures c.before.before.labelled_from-at.ensures past in
+    let past = start_is hs st.args.starts.now st.requires.0.table _ (ap (λ (x : ℕ). x + 1) c.wide.ensures) (omega arith) c.start_of-past.ensures in
+    let row = row_is hs st.requires.0.ready.ascending _ c.label_at-a.ensures c.labelled_from-at.ensures past in
     (st.requires.0, (st.requires.1.0, (row, st.requires.1.1)))
 
 returns-2 : tie.Need-returns

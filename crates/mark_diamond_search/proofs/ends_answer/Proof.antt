@@ -23,7 +23,7 @@ leads-to-requires : tie.Need-leads_to-requires invariant-loop decreases-loop
 leads-to-requires c κs = search rules
 
 returns : tie.Need-returns-then-leads_to invariant-loop decreases-loop
-returns c = itself_answers _ _ _ _ _ c.before.leads_to.ensures c.if-leads_to.true
+returns c = itself_answers _ _ _ _ _ c.leads_to.ensures c.if-leads_to.true
 
 wide-requires : tie.Need-wide-t3-requires invariant-loop decreases-loop
 wide-requires c κs = search rules
@@ -39,35 +39,35 @@ start-of-requires-2 c κs = omega arith
 
 loop-holds : tie.Need-loop-i-init invariant-loop decreases-loop
 loop-holds c =
-    let st = c.before.before.before.before.before.before.before in
+    let st = c in
     let hs = st.args.hops.now in
-    let t = c.before.before.wide-t3.ensures in
+    let t = c.wide-t3.ensures in
     let at = start_is hs st.args.starts.now st.requires.0.table _ t (omega arith) c.start_of-i.ensures in
-    let past = start_is hs st.args.starts.now st.requires.0.table _ (ap (λ (x : ℕ). x + 1) t) (omega arith) c.before.start_of-past.ensures in
-    rw (← t) at (passed_start hs st.args.marks.now _ _ _ at past c.before.before.before.before.leads_to.ensures c.before.before.before.if-leads_to.false)
+    let past = start_is hs st.args.starts.now st.requires.0.table _ (ap (λ (x : ℕ). x + 1) t) (omega arith) c.start_of-past.ensures in
+    rw (← t) at (passed_start hs st.args.marks.now _ _ _ at past c.leads_to.ensures c.if-leads_to.false)
 
 label-at-requires : tie.Need-label_at-requires invariant-loop decreases-loop
 label-at-requires c κs =
-    let st = c.before.before.before.before.before.before.before.before.before in
-    passed_in _ _ _ _ _ st.requires.0.ready.ascending c.before.loop-i.invariant c.loop-i-test.true
+    let st = c in
+    passed_in _ _ _ _ _ st.requires.0.ready.ascending c.loop-i.invariant c.loop-i-test.true
 
 returns-2 : tie.Need-returns-then-label_at-ne0 invariant-loop decreases-loop
 returns-2 c =
-    let lp = c.before.before.before.before in
-    let st = lp.before.before.before.before.before.before.before.before in
-    rw lp.before.before.before.wide-t3.ensures at (passed_ends _ _ _ _ _ st.requires.0.ready.ascending lp.loop-i.invariant (λ m q. c.if-label_at-ne0.true (c.before.before.label_at.ensures ∙ q)))
+    let lp = c in
+    let st = lp in
+    rw lp.wide-t3.ensures at (passed_ends _ _ _ _ _ st.requires.0.ready.ascending lp.loop-i.invariant (λ m q. c.if-label_at-ne0.true (c.label_at.ensures ∙ q)))
 
 shared-slice-read-if3 : tie.Need-bounds-marks-i invariant-loop decreases-loop
 shared-slice-read-if3 c =
-    let lp = c.before.before.before.before.before in
-    let st = lp.before.before.before.before.before.before.before.before in
-    omega (arith, passed_in _ _ _ _ _ st.requires.0.ready.ascending lp.loop-i.invariant c.before.before.before.before.loop-i-test.true)
+    let lp = c in
+    let st = lp in
+    omega (arith, passed_in _ _ _ _ _ st.requires.0.ready.ascending lp.loop-i.invariant c.loop-i-test.true)
 
 to-at-requires : tie.Need-to_at-requires invariant-loop decreases-loop
 to-at-requires c κs =
-    let lp = c.before.before.before.before.before.before in
-    let st = lp.before.before.before.before.before.before.before.before in
-    passed_in _ _ _ _ _ st.requires.0.ready.ascending lp.loop-i.invariant c.before.before.before.before.before.loop-i-test.true
+    let lp = c in
+    let st = lp in
+    passed_in _ _ _ _ _ st.requires.0.ready.ascending lp.loop-i.invariant c.loop-i-test.true
 
 leads-to-requires-2 : tie.Need-leads_to-requires-then-marks-i-eq1 invariant-loop decreases-loop
 leads-to-requires-2 c κs = search rules
@@ -75,17 +75,17 @@ leads-to-requires-2 c κs = search rules
 returns-3 : tie.Need-returns-then-leads_to-2 invariant-loop decreases-loop
 unfolding is_marked
 returns-3 c =
-    let lp = c.before.before.before.before.before.before.before.before.before in
-    let st = lp.before.before.before.before.before.before.before.before in
-    let silent = sym c.before.before.before.before.before.before.before.label_at.ensures ∙ c.before.before.before.before.before.if-label_at-ne0.false in
-    rw lp.before.before.before.wide-t3.ensures at (marked_answers _ _ _ _ _ st.requires.0.ready.ascending lp.loop-i.invariant c.before.before.before.before.before.before.before.before.loop-i-test.true silent
-    (eq-eqb _ _ c.before.before.before.if-marks-i-eq1.true) c.before.before.to_at.ensures c.before.leads_to-then-marks-i-eq1.ensures c.if-leads_to-2.true)
+    let lp = c in
+    let st = lp in
+    let silent = sym c.label_at.ensures ∙ c.if-label_at-ne0.false in
+    rw lp.wide-t3.ensures at (marked_answers _ _ _ _ _ st.requires.0.ready.ascending lp.loop-i.invariant c.loop-i-test.true silent
+    (eq-eqb _ _ c.if-marks-i-eq1.true) c.to_at.ensures c.leads_to-then-marks-i-eq1.ensures c.if-leads_to-2.true)
 
 add-i : tie.Need-overflow_add-i invariant-loop decreases-loop
 add-i c =
-    let lp = c.before.before.before.before.before.before in
-    let st = lp.before.before.before.before.before.before.before.before in
-    omega (arith, passed_in _ _ _ _ _ st.requires.0.ready.ascending lp.loop-i.invariant c.before.before.before.before.before.loop-i-test.true)
+    let lp = c in
+    let st = lp in
+    omega (arith, passed_in _ _ _ _ _ st.requires.0.ready.ascending lp.loop-i.invariant c.loop-i-test.true)
 
 loop-less : tie.Need-loop-i-smaller invariant-loop decreases-loop
 loop-less c = omega arith
@@ -93,16 +93,16 @@ loop-less c = omega arith
 loop-again : tie.Need-loop-i-preserved invariant-loop decreases-loop
 unfolding is_marked
 loop-again c =
-    let lp = c.before.before.before.before.before.before in
-    let st = lp.before.before.before.before.before.before.before.before in
+    let lp = c in
+    let st = lp in
     passed_next _ _ _ _ _ st.requires.0.ready.ascending lp.loop-i.invariant
     (⊎_elim (λ w e. leads_is _ _ _ w.1.ensures w.2.ensures w.3.left) (λ w e. clash e (ne_eqb _ _ w.left)) c.if-marks-i-eq1.branch)
 
 returns-4 : tie.Need-returns invariant-loop decreases-loop
 returns-4 c =
-    let lp = c.before in
-    let st = lp.before.before.before.before.before.before.before.before in
-    rw lp.before.before.before.wide-t3.ensures at (passed_ends _ _ _ _ _ st.requires.0.ready.ascending lp.loop-i.invariant (λ m q. absurd (omega arith)))
+    let lp = c in
+    let st = lp in
+    rw lp.wide-t3.ensures at (passed_ends _ _ _ _ _ st.requires.0.ready.ascending lp.loop-i.invariant (λ m q. absurd (omega arith)))
 
 pub ends_answer_spec : {M : Type 1} → statement M
 ends_answer_spec =

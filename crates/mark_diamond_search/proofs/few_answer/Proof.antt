@@ -28,10 +28,10 @@ label-at-requires c κs = omega arith
 
 returns : tie.Need-returns-then-label_at-a invariant-loop decreases-loop
 returns c =
-    let st = c.before.before.before.before.before.before.before.before in
-    let lp = c.before.before.before.before.before.loop-k in
+    let st = c in
+    let lp = c.loop-k in
     row_ends st.args.hops.now st.requires.0.ready.ascending _ _ _ _ st.requires.1.0 lp.k lp.invariant.0 lp.invariant.1
-    (λ m q. c.if-label_at-a.true (c.before.before.before.label_at.ensures ∙ q))
+    (λ m q. c.if-label_at-a.true (c.label_at.ensures ∙ q))
 
 to-at-requires : tie.Need-to_at-requires invariant-loop decreases-loop
 to-at-requires c κs = omega arith
@@ -41,9 +41,9 @@ is-closed-requires c κs = search rules
 
 returns-2 : tie.Need-returns-then-is_closed invariant-loop decreases-loop
 returns-2 c =
-    let st = c.before.before.before.before.before.before.before.before.before.before.before in
-    row_answers st.args.hops.now st.requires.0.ready.ascending _ _ _ _ st.requires.1.0 c.before.before.before.before.before.before.before.before.loop-k.invariant.0 (omega arith) (omega arith)
-    c.before.before.to_at.ensures c.before.is_closed.ensures c.if-is_closed.true
+    let st = c in
+    row_answers st.args.hops.now st.requires.0.ready.ascending _ _ _ _ st.requires.1.0 c.loop-k.invariant.0 (omega arith) (omega arith)
+    c.to_at.ensures c.is_closed.ensures c.if-is_closed.true
 
 add-k : tie.Need-overflow_add-k invariant-loop decreases-loop
 add-k c = omega arith
@@ -54,14 +54,14 @@ loop-less c = omega arith
 loop-again : tie.Need-loop-k-preserved invariant-loop decreases-loop
 loop-again c = (
   omega arith,
-  range_more c.before.before.before.before.before.before.before.before.loop-k.invariant.1
-      (closing_is _ _ c.before.before.to_at.ensures c.before.is_closed.ensures c.if-is_closed.false),
+  range_more c.loop-k.invariant.1
+      (closing_is _ _ c.to_at.ensures c.is_closed.ensures c.if-is_closed.false),
 )
 
 returns-3 : tie.Need-returns invariant-loop decreases-loop
 returns-3 c =
-    let st = c.before.before.before.before in
-    let lp = c.before.loop-k in
+    let st = c in
+    let lp = c.loop-k in
     row_ends st.args.hops.now st.requires.0.ready.ascending _ _ _ _ st.requires.1.0 lp.k lp.invariant.0 lp.invariant.1 (λ m q. absurd (omega arith))
 
 pub few_answer_spec : {M : Type 1} → statement M

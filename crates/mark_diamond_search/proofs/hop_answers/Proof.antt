@@ -9,7 +9,7 @@ is-single-requires c κs = search rules
 
 few-answer-requires : tie.Need-few_answer-requires
 few-answer-requires c κs =
-    let st = c.before.before.before.before in
+    let st = c in
     (st.requires.0, (st.requires.1.0, st.requires.1.1.1))
 
 returns : tie.Need-returns-then-is_single

@@ -12,7 +12,7 @@ holds-requires : tie.Need-holds-requires
 holds-requires c κs = search rules
 
 returns-2 : tie.Need-returns
-returns-2 c = c.holds.ensures ∙ sym (closing_other _ _ _ c.before.if-s3-s4.false)
+returns-2 c = c.holds.ensures ∙ sym (closing_other _ _ _ c.if-s3-s4.false)
 
 pub is_closed_spec : {M : Type 1} → statement M
 is_closed_spec = tie.close (tie.spec returns holds-requires returns-2)

@@ -11,7 +11,7 @@ hop-of-requires c κs = search rules
 
 find-row-requires : tie.Need-find_row-requires
 find-row-requires c κs =
-    let st = c.before.before in
+    let st = c in
     (st.requires.0, (st.requires.1.0, rw c.hop_of.ensures st.requires.1.1))
 
 enum_told : tie.Need-enum_told-1
@@ -22,12 +22,12 @@ enum-told-2 c = search rules
 
 returns : tie.Need-returns-in-At
 returns c =
-    rw c.before.before.before.hop_of.ensures at (sym (at_has _ _ (sym c.before.before.find_row.ensures ∙ c.enum_told-1.given.1)))
+    rw c.hop_of.ensures at (sym (at_has _ _ (sym c.find_row.ensures ∙ c.enum_told-1.given.1)))
 
 returns-2 : tie.Need-returns-in-Gap
 returns-2 c =
-    rw c.before.before.before.hop_of.ensures at
-    (sym (gap_has _ _ c.before.before.before.before.before.requires.0.ascending (sym c.before.before.find_row.ensures ∙ c.enum_told-in-Gap-1.given.1)))
+    rw c.hop_of.ensures at
+    (sym (gap_has _ _ c.requires.0.ascending (sym c.find_row.ensures ∙ c.enum_told-in-Gap-1.given.1)))
 
 pub leads_to_spec : {M : Type 1} → statement M
 leads_to_spec =

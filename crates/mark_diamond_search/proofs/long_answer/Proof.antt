@@ -33,12 +33,12 @@ start-of-requires-2 c κs = search rules
 
 is-fewer-requires : tie.Need-is_fewer-requires
 is-fewer-requires c κs =
-    let st = c.before.before.before.before.before in
-    (st.requires.0.ready, (past-in _ _ _ st.requires.0 st.requires.1.1.1 c.before.before.wide-t3.ensures c.start_of-past.ensures, st.requires.1.0.within))
+    let st = c in
+    (st.requires.0.ready, (past-in _ _ _ st.requires.0 st.requires.1.1.1 c.wide-t3.ensures c.start_of-past.ensures, st.requires.1.0.within))
 
 ends-answer-requires : tie.Need-ends_answer-requires
 ends-answer-requires c κs =
-    let st = c.before.before.before.before.before.before.before in
+    let st = c in
     (st.requires.0, st.requires.1.1)
 
 returns : tie.Need-returns-then-is_fewer
@@ -46,12 +46,12 @@ returns c = c.ends_answer.ensures
 
 is-fewer-requires-2 : tie.Need-is_fewer-requires-2
 is-fewer-requires-2 c κs =
-    let st = c.before.before.before.before.before.before.before in
-    (st.requires.0.ready, (st.requires.1.0.within, past-in _ _ _ st.requires.0 st.requires.1.1.1 c.before.before.before.before.wide-t3.ensures c.before.before.start_of-past.ensures))
+    let st = c in
+    (st.requires.0.ready, (st.requires.1.0.within, past-in _ _ _ st.requires.0 st.requires.1.1.1 c.wide-t3.ensures c.start_of-past.ensures))
 
 few-answer-requires : tie.Need-few_answer-requires
 few-answer-requires c κs =
-    let st = c.before.before.before.before.before.before.before.before.before in
+    let st = c in
     (st.requires.0, (st.requires.1.0, st.requires.1.1.1))
 
 returns-2 : tie.Need-returns-then-is_fewer-2
@@ -59,7 +59,7 @@ returns-2 c = c.few_answer.ensures
 
 row-answers-requires : tie.Need-row_answers-requires
 row-answers-requires c κs =
-    let st = c.before.before.before.before.before.before.before.before.before in
+    let st = c in
     (st.requires.0, (st.requires.1.0, st.requires.1.1.1))
 
 returns-3 : tie.Need-returns

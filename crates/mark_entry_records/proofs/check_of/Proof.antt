@@ -16,19 +16,19 @@ refuse-requires : tie.Need-refuse-requires
 refuse-requires c κs = search rules
 
 returns : tie.Need-returns-then-is_over
-returns c = rw (← c.before.before.is_over.ensures, c.before.if-is_over.true) c.refuse.ensures
+returns c = rw (← c.is_over.ensures, c.if-is_over.true) c.refuse.ensures
 
 slice-aggregate-part : tie.Need-slice_bounds-part-end
 slice-aggregate-part c = search rules
 
 part-requires : tie.Need-part-requires
-part-requires c κs = (omega arith, omega (arith, ltb-false most_hops c.before.before.before.args.n (sym c.before.before.is_over.ensures ∙ c.before.if-is_over.false)))
+part-requires c κs = (omega arith, omega (arith, ltb-false most_hops c.args.n (sym c.is_over.ensures ∙ c.if-is_over.false)))
 
 check-requires : tie.Need-check-requires
 check-requires c κs = search rules
 
 returns-2 : tie.Need-returns
-returns-2 c = rw (← c.before.before.before.before.is_over.ensures, c.before.before.before.if-is_over.false) (c.check.ensures ∙ ap (check_of _) c.before.part.ensures.0)
+returns-2 c = rw (← c.is_over.ensures, c.if-is_over.false) (c.check.ensures ∙ ap (check_of _) c.part.ensures.0)
 
 pub check_of_spec : {M : Type 1} → statement M
 check_of_spec =

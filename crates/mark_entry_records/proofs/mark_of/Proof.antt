@@ -15,13 +15,13 @@ refuse-requires : tie.Need-refuse-requires
 refuse-requires c κs = search rules
 
 returns : tie.Need-returns-then-is_over
-returns c = rw (← c.before.before.is_over.ensures, c.before.if-is_over.true) (c.refuse.ensures, refl)
+returns c = rw (← c.is_over.ensures, c.if-is_over.true) (c.refuse.ensures, refl)
 
 slice-aggregate-part : tie.Need-slice_bounds-part-end
 slice-aggregate-part c = search rules
 
 part-requires : tie.Need-part-requires
-part-requires c κs = (omega arith, omega (arith, ltb-false most_hops c.before.before.before.before.args.n (sym c.before.before.is_over.ensures ∙ c.before.if-is_over.false)))
+part-requires c κs = (omega arith, omega (arith, ltb-false most_hops c.args.n (sym c.is_over.ensures ∙ c.if-is_over.false)))
 
 mark-requires : tie.Need-mark-requires
 mark-requires c κs = search rules
@@ -31,8 +31,8 @@ same_length c = search rules
 
 returns-2 : tie.Need-returns
 returns-2 c =
-    rw (← c.before.before.before.before.before.before.before.is_over.ensures, c.before.before.before.before.before.before.if-is_over.false)
-    (rw c.before.before.before.before.part.ensures.0 at c.before.before.mark.ensures)
+    rw (← c.is_over.ensures, c.if-is_over.false)
+    (rw c.part.ensures.0 at c.mark.ensures)
 
 pub mark_of_spec : {M : Type 1} → statement M
 mark_of_spec =

@@ -17,16 +17,16 @@ start-marks-requires c κs = search rules
 
 sweep-to-fixpoint-requires : tie.Need-sweep_to_fixpoint-requires
 sweep-to-fixpoint-requires c κs =
-    let st = c.before.before.before.before.before.before.before.before.before in
-    (st.requires.0, (c.before.before.before.before.before.before.starts_of-starts.ensures, first_marking _ _ (marked_confluent _).silent _ _ st.requires.1 c.before.before.before.before.start_marks.ensures))
+    let st = c in
+    (st.requires.0, (c.starts_of-starts.ensures, first_marking _ _ (marked_confluent _).silent _ _ st.requires.1 c.start_marks.ensures))
 
 same_length : tie.Need-shape_of-marks
 same_length c = search rules
 
 returns : tie.Need-returns
 returns c =
-    let st = c.before.before.before.before.before.before.before.before.before.before.before.before in
-    marks_over st.args.hops.now (marked st.args.hops.now) every_pair st.args.marks.now c.before.before.before.before.before.before.before.start_marks.ensures c.before.before.sweep_to_fixpoint.ensures
+    let st = c in
+    marks_over st.args.hops.now (marked st.args.hops.now) every_pair st.args.marks.now c.start_marks.ensures c.sweep_to_fixpoint.ensures
 
 pub mark_all_spec : {M : Type 1} → statement M
 mark_all_spec =

@@ -22,29 +22,29 @@ abbrev decreases-loop : tie.decreases-loop-lost
 decreases-loop hops starts marks₀ lost₀ marks lost = mark_count hops marks + lost
 
 loop-holds : tie.Need-loop-lost-init invariant-loop decreases-loop
-loop-holds c = (refl, c.before.before.requires.1.1, refl, λ q. absurd (omega arith))
+loop-holds c = (refl, c.requires.1.1, refl, λ q. absurd (omega arith))
 
 sweep-requires : tie.Need-sweep-lost-requires invariant-loop decreases-loop
 sweep-requires c κs =
-    let st = c.before.before.before.before.before in
-    (st.requires.0, (st.requires.1.0, c.before.before.loop-lost.invariant.1))
+    let st = c in
+    (st.requires.0, (st.requires.1.0, c.loop-lost.invariant.1))
 
 loop-less : tie.Need-loop-lost-smaller invariant-loop decreases-loop
-loop-less c = omega (arith, c.before.before.sweep-lost.ensures.fewer)
+loop-less c = omega (arith, c.sweep-lost.ensures.fewer)
 
 loop-again : tie.Need-loop-lost-preserved invariant-loop decreases-loop
 loop-again c =
-    let v = c.before.before.before.before.before.loop-lost.invariant in
-    let s = c.before.before.sweep-lost.ensures in
-    (c.before.before.sweep-lost.auto.1.1.0 ∙ v.0, s.marking, s.beyond ∙ v.2, swept_rests s)
+    let v = c.loop-lost.invariant in
+    let s = c.sweep-lost.ensures in
+    (c.sweep-lost.auto.marks ∙ v.0, s.marking, s.beyond ∙ v.2, swept_rests s)
 
 same_length : tie.Need-shape_of-marks invariant-loop decreases-loop
-same_length c = c.before.loop-lost.invariant.0
+same_length c = c.loop-lost.invariant.0
 
 returns : tie.Need-returns invariant-loop decreases-loop
 returns c =
-    let v = c.before.loop-lost.invariant in
-    rested_marks _ c.before.before.before.before.requires.0.ascending v.1 (v.3 (omega arith)) _ v.2
+    let v = c.loop-lost.invariant in
+    rested_marks _ c.requires.0.ascending v.1 (v.3 (omega arith)) _ v.2
 
 pub sweep_to_fixpoint_spec : {M : Type 1} → statement M
 sweep_to_fixpoint_spec =

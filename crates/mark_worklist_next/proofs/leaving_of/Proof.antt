@@ -29,18 +29,18 @@ loop-holds : tie.Need-loop-i-init invariant-loop decreases-loop
 loop-holds c = (length-replicate {A = ℕ} most_states 0, omega arith, λ j l. absurd (omega arith))
 
 shared-slice-read-if1 : tie.Need-bounds-marks-i invariant-loop decreases-loop
-shared-slice-read-if1 c = omega (arith, c.before.before.before.hop_count-n.ensures)
+shared-slice-read-if1 c = omega (arith, c.hop_count-n.ensures)
 
 from-at-requires : tie.Need-from_at-requires invariant-loop decreases-loop
-from-at-requires c κs = omega (arith, c.before.before.before.before.hop_count-n.ensures)
+from-at-requires c κs = omega (arith, c.hop_count-n.ensures)
 
 wide-requires : tie.Need-wide-s-requires invariant-loop decreases-loop
 wide-requires c κs = search rules
 
 array-write-leaving : tie.Need-bounds-leaving-s invariant-loop decreases-loop
 array-write-leaving c =
-    let st = c.before.before.before.before.before.before.before.before.before in
-    omega (arith, c.wide-s.ensures, c.before.from_at.ensures, st.requires.0.from_in c.before.before.before.before.before.loop-i.i (omega (arith, c.before.before.before.before.before.before.hop_count-n.ensures)))
+    let st = c in
+    omega (arith, c.wide-s.ensures, c.from_at.ensures, st.requires.0.from_in c.loop-i.i (omega (arith, c.hop_count-n.ensures)))
 
 add-i : tie.Need-overflow_add-i invariant-loop decreases-loop
 add-i c = omega arith
@@ -50,9 +50,9 @@ loop-less c = omega arith
 
 loop-again : tie.Need-loop-i-preserved invariant-loop decreases-loop
 loop-again c =
-    let st = c.before.before.before.before.before.before.before in
-    let lp = c.before.before.before.loop-i in
-    let l : lp.i < count st.args.hops.now = omega (arith, c.before.before.before.before.hop_count-n.ensures) in
+    let st = c in
+    let lp = c.loop-i in
+    let l : lp.i < count st.args.hops.now = omega (arith, c.hop_count-n.ensures) in
     let b = st.requires.0.from_in lp.i l in (
       ⊎_elim (λ w. rw w.leaving-is (simp length-set lp.invariant.0)) (λ w. rw w.leaving-is lp.invariant.0) c.if-marks-i-eq1.branch-raw,
       omega arith,
@@ -63,7 +63,7 @@ loop-again c =
 
 returns : tie.Need-returns invariant-loop decreases-loop
 unfolding Leaving
-returns c = λ j l. c.before.loop-i.invariant.2 j (omega (arith, c.before.before.hop_count-n.ensures))
+returns c = λ j l. c.loop-i.invariant.2 j (omega (arith, c.hop_count-n.ensures))
 
 pub leaving_of_spec : {M : Type 1} → statement M
 leaving_of_spec =

@@ -19,20 +19,20 @@ decreases-loop hops starts begins places leaving marks fallen lost flags₀ queu
 
 loop-holds : tie.Need-loop-q-init invariant-loop decreases-loop
 loop-holds c =
-    let st = c.before.before in
+    let st = c in
     (omega arith, walk_none _ _ _ refl st.requires.0.push.queue)
 
 place-at-requires : tie.Need-place_at-p-requires invariant-loop decreases-loop
 place-at-requires c κs =
-    let st = c.before.before.before.before in
+    let st = c in
     omega (arith, st.requires.1.0)
 
 push-fallen-requires : tie.Need-push_fallen-length-requires invariant-loop decreases-loop
 push-fallen-requires c κs =
-    let st = c.before.before.before.before.before.before.before in
-    let lp = c.before.before.before.before.loop-q in
+    let st = c in
+    let lp = c.loop-q in
     let l : get_or st.args.fallen.now lp.q 0 < count st.args.hops.now = st.requires.1.1 lp.q (omega arith) in
-    (next_onward st.requires.0 lp.invariant.1.queue, omega (arith, c.before.before.place_at-p.ensures))
+    (next_onward st.requires.0 lp.invariant.1.queue, omega (arith, c.place_at-p.ensures))
 
 add-q : tie.Need-overflow_add-q invariant-loop decreases-loop
 add-q c = omega arith
@@ -42,14 +42,14 @@ loop-less c = omega arith
 
 loop-again : tie.Need-loop-q-preserved invariant-loop decreases-loop
 loop-again c =
-    let st = c.before.before.before.before.before.before.before.before in
-    let lp = c.before.before.before.before.before.loop-q in
-    (omega arith, walk_more _ _ _ (omega arith) lp.invariant.1 (falls_at _ _ st.args.fallen.now st.args.lost _ c.before.before.before.place_at-p.ensures c.push_fallen-length.ensures))
+    let st = c in
+    let lp = c.loop-q in
+    (omega arith, walk_more _ _ _ (omega arith) lp.invariant.1 (falls_at _ _ st.args.fallen.now st.args.lost _ c.place_at-p.ensures c.push_fallen-length.ensures))
 
 returns : tie.Need-returns invariant-loop decreases-loop
 returns c =
-    let st = c.before.before.before.before in
-    let v = c.before.loop-q.invariant in
+    let st = c in
+    let v = c.loop-q.invariant in
     falls_all _ _ st.args.fallen.now st.args.lost v.0 (omega arith) v.1
 
 pub next_queue_spec : {M : Type 1} → statement M

@@ -29,42 +29,42 @@ wide-requires c κs = search rules
 
 add-start-of : tie.Need-overflow_add-s3 invariant-loop decreases-loop
 add-start-of c =
-    let st = c.before.before.before.before in
-    omega (arith, c.wide-s3.ensures, c.before.from_at.ensures, st.requires.0.push.given.ready.from_in st.args.p st.requires.1)
+    let st = c in
+    omega (arith, c.wide-s3.ensures, c.from_at.ensures, st.requires.0.push.given.ready.from_in st.args.p st.requires.1)
 
 start-of-requires : tie.Need-start_of-past-requires invariant-loop decreases-loop
 start-of-requires c κs =
-    let st = c.before.before.before.before in
-    omega (arith, c.wide-s3.ensures, c.before.from_at.ensures, st.requires.0.push.given.ready.from_in st.args.p st.requires.1)
+    let st = c in
+    omega (arith, c.wide-s3.ensures, c.from_at.ensures, st.requires.0.push.given.ready.from_in st.args.p st.requires.1)
 
 start-of-requires-2 : tie.Need-start_of-k-requires invariant-loop decreases-loop
 start-of-requires-2 c κs =
-    let st = c.before.before.before.before.before in
-    omega (arith, c.before.wide-s3.ensures, c.before.before.from_at.ensures, st.requires.0.push.given.ready.from_in st.args.p st.requires.1)
+    let st = c in
+    omega (arith, c.wide-s3.ensures, c.from_at.ensures, st.requires.0.push.given.ready.from_in st.args.p st.requires.1)
 
 loop-holds : tie.Need-loop-k-init invariant-loop decreases-loop
 loop-holds c =
-    let st = c.before.before.before.before.before.before in
+    let st = c in
     let hs = st.args.hops.now in
     let t = from hs st.args.p in
     let l : t < 1024 = st.requires.0.push.given.ready.from_in st.args.p st.requires.1 in
-    let q : c.before.before.wide-s3.result ≡ t = c.before.before.wide-s3.ensures ∙ c.before.before.before.from_at.ensures in
+    let q : c.wide-s3.result ≡ t = c.wide-s3.ensures ∙ c.from_at.ensures in
     let a = begin_is hs _ st.requires.0.tables.begins t q (omega arith) c.start_of-k.ensures in
-    let b = begin_is hs _ st.requires.0.tables.begins (t + 1) (rw q refl) (omega arith) c.before.start_of-past.ensures in
+    let b = begin_is hs _ st.requires.0.tables.begins (t + 1) (rw q refl) (omega arith) c.start_of-past.ensures in
     (a, b, omega arith, omega (arith, key_start_step (to hs) (count hs) t), walk_none _ _ _ refl st.requires.0.push.queue)
 
 place-at-requires : tie.Need-place_at-j-requires invariant-loop decreases-loop
 place-at-requires c κs =
-    let st = c.before.before.before.before.before.before.before.before in
+    let st = c in
     let hs = st.args.hops.now in
-    omega (arith, c.before.loop-k.invariant.1, key_start_within (to hs) (count hs) (from hs st.args.p + 1), st.requires.0.push.given.ready.hops_most)
+    omega (arith, c.loop-k.invariant.1, key_start_within (to hs) (count hs) (from hs st.args.p + 1), st.requires.0.push.given.ready.hops_most)
 
 push-hop-requires : tie.Need-push_hop-length-requires invariant-loop decreases-loop
 push-hop-requires c κs =
-    let st = c.before.before.before.before.before.before.before.before.before.before.before in
-    let lp = c.before.before.before.before.loop-k in
+    let st = c in
+    let lp = c.loop-k in
     let l = (place_in st.args.hops.now st.args.places.now st.requires.0.tables.filled (from st.args.hops.now st.args.p) {k = lp.k} (omega (arith, lp.invariant.0)) (omega (arith, lp.invariant.1))).0 in
-    (next_onward st.requires.0 lp.invariant.4.queue, (omega (arith, c.before.before.place_at-j.ensures), st.requires.1))
+    (next_onward st.requires.0 lp.invariant.4.queue, (omega (arith, c.place_at-j.ensures), st.requires.1))
 
 add-k : tie.Need-overflow_add-k invariant-loop decreases-loop
 add-k c = omega arith
@@ -74,14 +74,14 @@ loop-less c = omega arith
 
 loop-again : tie.Need-loop-k-preserved invariant-loop decreases-loop
 loop-again c =
-    let st = c.before.before.before.before.before.before.before.before.before.before.before.before in
-    let lp = c.before.before.before.before.before.loop-k in
-    (lp.invariant.0, lp.invariant.1, omega arith, omega arith, walk_more _ _ _ lp.invariant.2 lp.invariant.4 (tries_at _ _ st.args.places.now _ _ c.before.before.before.place_at-j.ensures c.push_hop-length.ensures))
+    let st = c in
+    let lp = c.loop-k in
+    (lp.invariant.0, lp.invariant.1, omega arith, omega arith, walk_more _ _ _ lp.invariant.2 lp.invariant.4 (tries_at _ _ st.args.places.now _ _ c.place_at-j.ensures c.push_hop-length.ensures))
 
 returns : tie.Need-returns invariant-loop decreases-loop
 returns c =
-    let st = c.before.before.before.before.before.before.before.before in
-    let v = c.before.loop-k.invariant in
+    let st = c in
+    let v = c.loop-k.invariant in
     tries_all _ _ _ _ st.requires.0.tables.filled st.requires.1 v.0 v.1 (omega arith) v.3 v.4
 
 pub push_fallen_spec : {M : Type 1} → statement M

@@ -14,13 +14,13 @@ wide-requires c κs = search rules
 
 element-copy-out-if1 : tie.Need-bounds-leaving-s1
 element-copy-out-if1 c =
-    let st = c.before.before.before.before in
-    omega (arith, c.wide-s1.ensures, c.before.from_at.ensures, st.requires.0.push.given.ready.from_in st.args.j st.requires.1.0)
+    let st = c in
+    omega (arith, c.wide-s1.ensures, c.from_at.ensures, st.requires.0.push.given.ready.from_in st.args.j st.requires.1.0)
 
 returns : tie.Need-returns-then-leaving-s1-ne1
 returns c =
-    let st = c.before.before.before.before.before.before in
-    trying_none _ _ _ _ st.args.leaving.now st.requires.0.leaving (c.before.before.wide-s1.ensures ∙ c.before.before.before.from_at.ensures) c.if-leaving-s1-ne1.true st.requires.0.push.queue
+    let st = c in
+    trying_none _ _ _ _ st.args.leaving.now st.requires.0.leaving (c.wide-s1.ensures ∙ c.from_at.ensures) c.if-leaving-s1-ne1.true st.requires.0.push.queue
 
 to-at-requires : tie.Need-to_at-requires
 to-at-requires c κs = search rules
@@ -33,41 +33,41 @@ add-start-of c = search rules
 
 start-of-requires : tie.Need-start_of-requires
 start-of-requires c κs =
-    let st = c.before.before.before.before.before.before.before.before in
-    omega (arith, c.before.before.before.before.wide-s1.ensures, c.before.before.before.before.before.from_at.ensures, st.requires.0.push.given.ready.from_in st.args.j st.requires.1.0)
+    let st = c in
+    omega (arith, c.wide-s1.ensures, c.from_at.ensures, st.requires.0.push.given.ready.from_in st.args.j st.requires.1.0)
 
 start-of-requires-2 : tie.Need-start_of-requires-2
 start-of-requires-2 c κs =
-    let st = c.before.before.before.before.before.before.before.before.before in
-    omega (arith, c.before.wide-s4.ensures, c.before.before.to_at.ensures, st.requires.0.push.given.ready.to_in st.args.p st.requires.1.1)
+    let st = c in
+    omega (arith, c.wide-s4.ensures, c.to_at.ensures, st.requires.0.push.given.ready.to_in st.args.p st.requires.1.1)
 
 add-if2 : tie.Need-overflow_add-start_of
 add-if2 c =
-    let st = c.before.before.before.before.before.before.before.before.before.before in
-    omega (arith, start_most st.requires.0.push.given c.before.start_of.ensures (omega (arith, c.before.before.before.before.before.before.wide-s1.ensures, c.before.before.before.before.before.before.before.from_at.ensures, st.requires.0.push.given.ready.from_in st.args.j st.requires.1.0)), begin_most st.requires.0.push.given.ready st.requires.0.tables c.start_of-2.ensures (omega (arith, c.before.before.wide-s4.ensures, c.before.before.before.to_at.ensures, st.requires.0.push.given.ready.to_in st.args.p st.requires.1.1)))
+    let st = c in
+    omega (arith, start_most st.requires.0.push.given c.start_of.ensures (omega (arith, c.wide-s1.ensures, c.from_at.ensures, st.requires.0.push.given.ready.from_in st.args.j st.requires.1.0)), begin_most st.requires.0.push.given.ready st.requires.0.tables c.start_of-2.ensures (omega (arith, c.wide-s4.ensures, c.to_at.ensures, st.requires.0.push.given.ready.to_in st.args.p st.requires.1.1)))
 
 add-start-of-2 : tie.Need-overflow_add-s4
 add-start-of-2 c = search rules
 
 start-of-requires-3 : tie.Need-start_of-requires-3
 start-of-requires-3 c κs =
-    let st = c.before.before.before.before.before.before.before.before.before.before in
-    omega (arith, c.before.before.wide-s4.ensures, c.before.before.before.to_at.ensures, st.requires.0.push.given.ready.to_in st.args.p st.requires.1.1)
+    let st = c in
+    omega (arith, c.wide-s4.ensures, c.to_at.ensures, st.requires.0.push.given.ready.to_in st.args.p st.requires.1.1)
 
 start-of-requires-4 : tie.Need-start_of-requires-4
 start-of-requires-4 c κs =
-    let st = c.before.before.before.before.before.before.before.before.before.before.before in
-    omega (arith, c.before.before.before.before.before.before.before.wide-s1.ensures, c.before.before.before.before.before.before.before.before.from_at.ensures, st.requires.0.push.given.ready.from_in st.args.j st.requires.1.0)
+    let st = c in
+    omega (arith, c.wide-s1.ensures, c.from_at.ensures, st.requires.0.push.given.ready.from_in st.args.j st.requires.1.0)
 
 add-if2-2 : tie.Need-overflow_add-start_of-2
 add-if2-2 c =
-    let st = c.before.before.before.before.before.before.before.before.before.before.before.before in
-    omega (arith, begin_most st.requires.0.push.given.ready st.requires.0.tables c.before.start_of-3.ensures (omega (arith, c.before.before.before.before.wide-s4.ensures, c.before.before.before.before.before.to_at.ensures, st.requires.0.push.given.ready.to_in st.args.p st.requires.1.1)), start_most st.requires.0.push.given c.start_of-4.ensures (omega (arith, c.before.before.before.before.before.before.before.before.wide-s1.ensures, c.before.before.before.before.before.before.before.before.before.from_at.ensures, st.requires.0.push.given.ready.from_in st.args.j st.requires.1.0)))
+    let st = c in
+    omega (arith, begin_most st.requires.0.push.given.ready st.requires.0.tables c.start_of-3.ensures (omega (arith, c.wide-s4.ensures, c.to_at.ensures, st.requires.0.push.given.ready.to_in st.args.p st.requires.1.1)), start_most st.requires.0.push.given c.start_of-4.ensures (omega (arith, c.wide-s1.ensures, c.from_at.ensures, st.requires.0.push.given.ready.from_in st.args.j st.requires.1.0)))
 
 add-if2-3 : tie.Need-overflow_add-start_of-3
 add-if2-3 c =
-    let st = c.before.before.before.before.before.before.before.before.before.before.before.before in
-    omega (arith, begin_most st.requires.0.push.given.ready st.requires.0.tables c.before.start_of-3.ensures (omega (arith, c.before.before.before.before.wide-s4.ensures, c.before.before.before.before.before.to_at.ensures, st.requires.0.push.given.ready.to_in st.args.p st.requires.1.1)), start_most st.requires.0.push.given c.start_of-4.ensures (omega (arith, c.before.before.before.before.before.before.before.before.wide-s1.ensures, c.before.before.before.before.before.before.before.before.before.from_at.ensures, st.requires.0.push.given.ready.from_in st.args.j st.requires.1.0)))
+    let st = c in
+    omega (arith, begin_most st.requires.0.push.given.ready st.requires.0.tables c.start_of-3.ensures (omega (arith, c.wide-s4.ensures, c.to_at.ensures, st.requires.0.push.given.ready.to_in st.args.p st.requires.1.1)), start_most st.requires.0.push.given c.start_of-4.ensures (omega (arith, c.wide-s1.ensures, c.from_at.ensures, st.requires.0.push.given.ready.from_in st.args.j st.requires.1.0)))
 
 push-out-requires : tie.Need-push_out-requires
 push-out-requires c κs = search rules
@@ -77,7 +77,7 @@ returns-2 c = search rules
 
 push-into-requires : tie.Need-push_into-requires
 push-into-requires c κs =
-    let st = c.before.before.before.before.before.before.before.before.before.before.before.before.before.before.before in
+    let st = c in
     (st.requires.0.push, (st.requires.0.tables, st.requires.1))
 
 returns-3 : tie.Need-returns

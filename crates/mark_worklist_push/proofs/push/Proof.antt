@@ -11,7 +11,7 @@ shared-slice-read-if1 c = search rules
 
 returns : tie.Need-returns-then-marks-i-ne1
 returns c =
-    let st = c.before.before in
+    let st = c in
     pushed_none _ _ st.requires.1.1.0 (λ x l w. absurd (c.if-marks-i-ne1.true (flag_says st.args.marks.now st.args.i (rw w.inside at w.marked))))
 
 element-copy-out-if2 : tie.Need-bounds-flags-i
@@ -19,7 +19,7 @@ element-copy-out-if2 c = search rules
 
 returns-2 : tie.Need-returns-then-flags-i-eq1
 returns-2 c =
-    let st = c.before.before.before.before in
+    let st = c in
     pushed_none _ _ st.requires.1.1.0 (λ x l w. rw w.inside (flag_yes st.args.flags.now st.args.i c.if-flags-i-eq1.true))
 
 element-write-flags : tie.Need-bounds-flags-i-2
@@ -30,22 +30,22 @@ cast-queue c = search rules
 
 mul-queue : tie.Need-offset_bounds-queue-n
 mul-queue c =
-    let st = c.before.before.before.before in
+    let st = c in
     omega (arith, queue_capacity st.args.hops.now st.args.marks.now st.requires.1.1.0 st.requires.1.1.1.0 (flag_no st.args.flags.now st.args.i c.if-flags-i-eq1.false), st.requires.0.hops_most)
 
 element-write-queue : tie.Need-bounds-queue-n
 element-write-queue c =
-    let st = c.before.before.before.before in
+    let st = c in
     omega (arith, queue_capacity st.args.hops.now st.args.marks.now st.requires.1.1.0 st.requires.1.1.1.0 (flag_no st.args.flags.now st.args.i c.if-flags-i-eq1.false), st.requires.0.hops_most)
 
 add-result : tie.Need-overflow_add-result
 add-result c =
-    let st = c.before.before.before.before in
+    let st = c in
     omega (arith, queue_capacity st.args.hops.now st.args.marks.now st.requires.1.1.0 st.requires.1.1.1.0 (flag_no st.args.flags.now st.args.i c.if-flags-i-eq1.false), st.requires.0.hops_most)
 
 returns-3 : tie.Need-returns
 returns-3 c =
-    let st = c.before.before.before.before in
+    let st = c in
     pushed_one _ _ st.requires.1.1.0 st.requires.1.1.1.0 (flag_no st.args.flags.now st.args.i c.if-flags-i-eq1.false) st.requires.1.1.1.1 (search rules)
 
 pub push_spec : {M : Type 1} → statement M

@@ -19,15 +19,15 @@ to-at-requires c κs = search rules
 
 push-pair-requires : tie.Need-push_pair-requires
 push-pair-requires c κs =
-    let st = c.before.before.before.before.before.before.before.before.before.before.before.before in
-    (record { given = st.requires.0.given; queue = c.before.before.before.before.before.before.before.push_answers-length.ensures.queue }, rw c.before.before.before.from_at-s1.ensures (st.requires.0.given.ready.from_in _ st.requires.1.1.0))
+    let st = c in
+    (record { given = st.requires.0.given; queue = c.push_answers-length.ensures.queue }, rw c.from_at-s1.ensures (st.requires.0.given.ready.from_in _ st.requires.1.1.0))
 
 returns : tie.Need-returns-then-label_at-eq0
 returns c =
-    trying_silent _ _ _ _ _ _ c.before.before.before.before.before.before.before.label_at.ensures c.before.before.before.before.before.if-label_at-eq0.true c.before.before.before.before.from_at-s1.ensures c.before.before.before.to_at-s4.ensures c.before.before.before.before.before.before.before.before.push_answers-length.ensures c.push_pair.ensures
+    trying_silent _ _ _ _ _ _ c.label_at.ensures c.if-label_at-eq0.true c.from_at-s1.ensures c.to_at-s4.ensures c.push_answers-length.ensures c.push_pair.ensures
 
 returns-2 : tie.Need-returns
-returns-2 c = trying_visible _ _ _ _ c.before.before.label_at.ensures c.if-label_at-eq0.false c.before.before.before.push_answers-length.ensures
+returns-2 c = trying_visible _ _ _ _ c.label_at.ensures c.if-label_at-eq0.false c.push_answers-length.ensures
 
 pub push_into_spec : {M : Type 1} → statement M
 push_into_spec =

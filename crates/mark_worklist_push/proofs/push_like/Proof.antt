@@ -13,8 +13,8 @@ label-at-requires-2 c κs = search rules
 
 returns : tie.Need-returns-then-a-label_at
 returns c =
-    let st = c.before.before.before.before.before.before.before in
-    like_no _ _ _ _ c.before.before.before.before.label_at-a.ensures c.before.before.before.label_at.ensures c.if-a-label_at.true st.requires.0.queue
+    let st = c in
+    like_no _ _ _ _ c.label_at-a.ensures c.label_at.ensures c.if-a-label_at.true st.requires.0.queue
 
 from-at-requires : tie.Need-from_at-requires
 from-at-requires c κs = search rules
@@ -24,12 +24,12 @@ from-at-requires-2 c κs = search rules
 
 push-pair-requires : tie.Need-push_pair-requires
 push-pair-requires c κs =
-    let st = c.before.before.before.before.before.before.before.before.before.before.before in
-    (st.requires.0, rw c.before.from_at.ensures (st.requires.0.given.ready.from_in _ st.requires.1.0))
+    let st = c in
+    (st.requires.0, rw c.from_at.ensures (st.requires.0.given.ready.from_in _ st.requires.1.0))
 
 returns-2 : tie.Need-returns
 returns-2 c =
-    like_yes _ _ _ _ c.before.before.before.before.before.before.before.before.before.label_at-a.ensures c.before.before.before.before.before.before.before.before.label_at.ensures c.before.before.before.before.before.if-a-label_at.false c.before.before.from_at.ensures c.before.from_at-2.ensures c.push_pair.ensures
+    like_yes _ _ _ _ c.label_at-a.ensures c.label_at.ensures c.if-a-label_at.false c.from_at.ensures c.from_at-2.ensures c.push_pair.ensures
 
 pub push_like_spec : {M : Type 1} → statement M
 push_like_spec =

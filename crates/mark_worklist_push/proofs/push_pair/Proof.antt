@@ -10,7 +10,7 @@ hop-of-requires c κs = search rules
 
 find-row-requires : tie.Need-find_row-requires
 find-row-requires c κs =
-    let st = c.before.before.before in
+    let st = c in
     (st.requires.0.given.ready, (st.requires.0.given.table, rw c.hop_of.ensures st.requires.1))
 
 enum-known-i : tie.Need-enum_known-i
@@ -21,22 +21,22 @@ enum_told c = search rules
 
 returns : tie.Need-returns-in_default
 returns c =
-    let st = c.before.before.before.before.before.before in
-    pair_gap _ _ st.requires.0.given.ready.ascending _ _ c.before.before.before.hop_of.ensures c.before.before.find_row.ensures c.enum_told-1.given.1 st.requires.0.queue
+    let st = c in
+    pair_gap _ _ st.requires.0.given.ready.ascending _ _ c.hop_of.ensures c.find_row.ensures c.enum_told-1.given.1 st.requires.0.queue
 
 push-requires : tie.Need-push-requires
 push-requires c κs =
-    let st = c.before.before.before.before.before.before.before.before.before in
+    let st = c in
     let i = st.requires.0 in
-    let q = c.before.before.before.before.before.before.hop_of.ensures in
-    let e = c.before.before.before.before.before.find_row.ensures in
-    let (w, z) = pair_there st.args.hops.now st.args.marks.now i.given.ready.ascending _ _ q e c.before.before.before.i-1.given.1 in
+    let q = c.hop_of.ensures in
+    let e = c.find_row.ensures in
+    let (w, z) = pair_there st.args.hops.now st.args.marks.now i.given.ready.ascending _ _ q e c.i-1.given.1 in
     (i.given.ready, (i.given.capacity, (i.queue, (w, z))))
 
 returns-2 : tie.Need-returns
 returns-2 c =
-    let st = c.before.before.before.before.before.before.before.before.before.before in
-    pair_at _ _ st.requires.0.given.ready.ascending _ _ c.before.before.before.before.before.before.before.hop_of.ensures c.before.before.before.before.before.before.find_row.ensures c.before.before.before.before.i-1.given.1 c.push.ensures
+    let st = c in
+    pair_at _ _ st.requires.0.given.ready.ascending _ _ c.hop_of.ensures c.find_row.ensures c.i-1.given.1 c.push.ensures
 
 pub push_pair_spec : {M : Type 1} → statement M
 push_pair_spec =

@@ -25,13 +25,13 @@ loop-holds c = (length-replicate {A = ℕ} most_states 0, omega arith, λ j l. a
 
 place-at-requires : tie.Need-place_at-requires invariant-loop decreases-loop
 place-at-requires c κs =
-    let st = c.before.before.before in
+    let st = c in
     omega (arith, st.requires.1.0)
 
 from-at-requires : tie.Need-from_at-requires invariant-loop decreases-loop
 from-at-requires c κs =
-    let st = c.before.before.before.before in
-    let l : get_or st.args.fallen.now c.before.before.loop-k.k 0 < count st.args.hops.now = st.requires.1.1 c.before.before.loop-k.k (omega arith) in
+    let st = c in
+    let l : get_or st.args.fallen.now c.loop-k.k 0 < count st.args.hops.now = st.requires.1.1 c.loop-k.k (omega arith) in
     omega (arith, c.place_at.ensures)
 
 wide-requires : tie.Need-wide-s-requires invariant-loop decreases-loop
@@ -39,9 +39,9 @@ wide-requires c κs = search rules
 
 array-write-dirty : tie.Need-bounds-dirty-s invariant-loop decreases-loop
 array-write-dirty c =
-    let st = c.before.before.before.before.before.before in
-    let l : get_or st.args.fallen.now c.before.before.before.before.loop-k.k 0 < count st.args.hops.now = st.requires.1.1 c.before.before.before.before.loop-k.k (omega arith) in
-    omega (arith, c.wide-s.ensures, c.before.from_at.ensures, st.requires.0.from_in c.before.before.place_at.result (omega (arith, c.before.before.place_at.ensures)))
+    let st = c in
+    let l : get_or st.args.fallen.now c.loop-k.k 0 < count st.args.hops.now = st.requires.1.1 c.loop-k.k (omega arith) in
+    omega (arith, c.wide-s.ensures, c.from_at.ensures, st.requires.0.from_in c.place_at.result (omega (arith, c.place_at.ensures)))
 
 add-k : tie.Need-overflow_add-k invariant-loop decreases-loop
 add-k c = omega arith
@@ -51,18 +51,18 @@ loop-less c = omega arith
 
 loop-again : tie.Need-loop-k-preserved invariant-loop decreases-loop
 loop-again c =
-    let st = c.before.before.before.before.before.before in
-    let lp = c.before.before.before.before.loop-k in
-    let q = c.before.before.place_at.ensures in
+    let st = c in
+    let lp = c.loop-k in
+    let q = c.place_at.ensures in
     let l : get_or st.args.fallen.now lp.k 0 < count st.args.hops.now = st.requires.1.1 lp.k (omega arith) in
-    let b = st.requires.0.from_in c.before.before.place_at.result (omega (arith, q)) in
-    let e = c.wide-s.ensures ∙ c.before.from_at.ensures in
+    let b = st.requires.0.from_in c.place_at.result (omega (arith, q)) in
+    let e = c.wide-s.ensures ∙ c.from_at.ensures in
     (simp length-set lp.invariant.0, omega arith, dirty_more st.args.hops.now st.args.fallen.now lp.k lp.dirty lp.invariant.2 (rw q at e) (omega (arith, e, lp.invariant.0)))
 
 returns : tie.Need-returns invariant-loop decreases-loop
 returns c =
-    let st = c.before.before.before in
-    let lp = c.before.loop-k in
+    let st = c in
+    let lp = c.loop-k in
     let e : lp.k ≡ st.args.n = omega arith in
     rw e at lp.invariant.2
 

@@ -26,31 +26,31 @@ hop-count-requires c κs = search rules
 
 loop-holds : tie.Need-loop-i-init invariant-loop decreases-loop
 loop-holds c =
-    let st = c.before.before in
+    let st = c in
     (c.hop_count-past.ensures, omega arith, st.requires.1, lists_none _ _)
 
 cast-queue : tie.Need-overflow_cast-queue invariant-loop decreases-loop
 cast-queue c =
-    let st = c.before.before.before.before in
+    let st = c in
     omega (arith, st.requires.0.hops_most)
 
 mul-queue : tie.Need-offset_bounds-queue-n invariant-loop decreases-loop
 mul-queue c =
-    let st = c.before.before.before.before in
-    omega (arith, st.requires.0.hops_most, c.before.loop-i.invariant.3.most)
+    let st = c in
+    omega (arith, st.requires.0.hops_most, c.loop-i.invariant.3.most)
 
 element-write-queue : tie.Need-bounds-queue-n invariant-loop decreases-loop
 element-write-queue c =
-    let st = c.before.before.before.before in
-    omega (arith, st.requires.0.hops_most, c.before.loop-i.invariant.3.most)
+    let st = c in
+    omega (arith, st.requires.0.hops_most, c.loop-i.invariant.3.most)
 
 label-at-requires : tie.Need-label_at-requires invariant-loop decreases-loop
 label-at-requires c κs = omega arith
 
 add-n : tie.Need-overflow_add-n invariant-loop decreases-loop
 add-n c =
-    let st = c.before.before.before.before.before.before.before in
-    omega (arith, st.requires.0.hops_most, c.before.before.before.before.loop-i.invariant.3.most)
+    let st = c in
+    omega (arith, st.requires.0.hops_most, c.loop-i.invariant.3.most)
 
 add-i : tie.Need-overflow_add-i invariant-loop decreases-loop
 add-i c = omega arith
@@ -60,20 +60,20 @@ loop-less c = omega arith
 
 loop-again : tie.Need-loop-i-preserved invariant-loop decreases-loop
 loop-again c =
-    let st = c.before.before.before.before.before.before.before in
-    let v = c.before.before.before.before.loop-i.invariant in
-    let e = c.before.before.label_at.ensures in (
+    let st = c in
+    let v = c.loop-i.invariant in
+    let e = c.label_at.ensures in (
       v.0,
       omega arith,
       simp length-set v.2,
       ⊎_elim
-          (λ w. rw w.1 (lists_more _ _ v.3 (omega (arith, st.requires.0.hops_most, v.3.most)) (first_yes st.args.hops.now _ e w.0.taken)))
-          (λ w. rw w.1 (lists_skip _ _ v.3 (omega (arith, st.requires.0.hops_most, v.3.most)) (first_no st.args.hops.now _ e w.0.left))) c.if-label_at-eq0.branch,
+          (λ w. rw w.n-is (lists_more _ _ v.3 (omega (arith, st.requires.0.hops_most, v.3.most)) (first_yes st.args.hops.now _ e w.if-label_at-eq0.true)))
+          (λ w. rw w.n-is (lists_skip _ _ v.3 (omega (arith, st.requires.0.hops_most, v.3.most)) (first_no st.args.hops.now _ e w.if-label_at-eq0.false))) c.if-label_at-eq0.branch-raw,
     )
 
 returns : tie.Need-returns invariant-loop decreases-loop
 returns c =
-    let v = c.before.loop-i.invariant in
+    let v = c.loop-i.invariant in
     (lists_done _ _ v.3 (omega arith), v.2)
 
 pub list_silent_spec : {M : Type 1} → statement M

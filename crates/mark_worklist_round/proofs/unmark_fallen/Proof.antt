@@ -21,13 +21,13 @@ loop-holds c = (refl, omega arith, unmarked_none _ _)
 
 place-at-requires : tie.Need-place_at-i-requires invariant-loop decreases-loop
 place-at-requires c κs =
-    let st = c.before.before.before in
+    let st = c in
     omega (arith, st.requires.0)
 
 slice-write-marks : tie.Need-bounds-marks-i invariant-loop decreases-loop
 slice-write-marks c =
-    let st = c.before.before.before.before in
-    omega (arith, c.place_at-i.ensures, st.requires.1 c.before.before.loop-k.k (omega arith), c.before.before.loop-k.invariant.0)
+    let st = c in
+    omega (arith, c.place_at-i.ensures, st.requires.1 c.loop-k.k (omega arith), c.loop-k.invariant.0)
 
 add-k : tie.Need-overflow_add-k invariant-loop decreases-loop
 add-k c = omega arith
@@ -37,17 +37,17 @@ loop-less c = omega arith
 
 loop-again : tie.Need-loop-k-preserved invariant-loop decreases-loop
 loop-again c =
-    let st = c.before.before.before.before in
-    let lp = c.before.before.loop-k in
+    let st = c in
+    let lp = c.loop-k in
     (simp length-set lp.invariant.0, omega arith, unmarked_more _ _ lp.invariant.2 c.place_at-i.ensures (omega (arith, c.place_at-i.ensures, st.requires.1 lp.k (omega arith), lp.invariant.0)))
 
 same_length : tie.Need-shape_of-marks invariant-loop decreases-loop
-same_length c = c.before.loop-k.invariant.0
+same_length c = c.loop-k.invariant.0
 
 returns : tie.Need-returns invariant-loop decreases-loop
 returns c =
-    let lp = c.before.loop-k in
-    let e : lp.k ≡ c.before.before.before.args.n = omega arith in
+    let lp = c.loop-k in
+    let e : lp.k ≡ c.args.n = omega arith in
     rw e at lp.invariant.2
 
 pub unmark_fallen_spec : {M : Type 1} → statement M

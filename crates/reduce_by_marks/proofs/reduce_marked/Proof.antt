@@ -15,7 +15,7 @@ cast-states c = search rules
 next-states-requires : tie.Need-next_states-next-requires
 unfolding FromIn
 next-states-requires c κs =
-    let st = c.before.before.before.before.before in
+    let st = c in
     let adm = st.requires.0 in
     (mark_set_marks adm.ascending st.requires.1.1.0, λ i l. omega (arith, adm.range.from_in i l, adm.states_most))
 
@@ -27,21 +27,21 @@ slice-aggregate-fill-map c = search rules
 
 fill-map-requires : tie.Need-fill_map-requires
 fill-map-requires c κs =
-    let st = c.before.before.before.before.before.before.before.before.before.before in
+    let st = c in
     let adm = st.requires.0 in
     let sett = st.requires.1.0 in
-    let on = c.before.before.before.before.next_states-next.ensures in
+    let on = c.next_states-next.ensures in
     (adm.states_most, (omega (arith, adm.states_most), (st.requires.1.1.1.0, (tabled_closed adm sett _ on, tabled_terminating adm sett _ on))))
 
 shorten-requires : tie.Need-shorten-n-requires
 unfolding FromIn
 shorten-requires c κs =
-    let st = c.before.before.before.before.before.before.before.before.before.before.before.before.before.before.before.before in
+    let st = c in
     let adm = st.requires.0 in
-    let on = c.before.before.before.before.before.before.before.before.before.before.next_states-next.ensures in
-    let fill = c.before.before.before.before.before.before.before.before.new_numbers-news.ensures in
-    let kept = c.before.before.before.before.before.fill_map.auto in
-    let map = c.before.before.before.before.before.fill_map.ensures in (
+    let on = c.next_states-next.ensures in
+    let fill = c.new_numbers-news.ensures in
+    let kept = c.fill_map.auto in
+    let map = c.fill_map.ensures in (
       adm.hops_most,
       (
         omega (arith, st.requires.1.1.1.1),
@@ -54,9 +54,9 @@ shorten-requires c κs =
 
 short-shape-requires : tie.Need-short_shape-made-requires
 short-shape-requires c κs =
-    let st = c.before.before.before.before.before.before.before.before.before.before.before.before.before.before.before.before.before.before.before.before.before in
+    let st = c in
     let adm = st.requires.0 in
-    (adm.states_most, (adm.initial_in, omega (arith, st.requires.1.1.1.0, c.before.before.before.before.before.before.before.before.before.before.fill_map.auto)))
+    (adm.states_most, (adm.initial_in, omega (arith, st.requires.1.1.1.0, c.fill_map.auto)))
 
 same_length : tie.Need-shape_of-map
 same_length c = search rules
@@ -66,13 +66,13 @@ same-length-2 c = search rules
 
 returns : tie.Need-returns
 returns c =
-    let st = c.before.before.before.before.before.before.before.before.before.before.before.before.before.before.before.before.before.before.before.before.before.before in
+    let st = c in
     let adm = st.requires.0 in
     let sett = st.requires.1.0 in
-    let on = c.before.before.before.before.before.before.before.before.before.before.before.before.before.before.before.before.next_states-next.ensures in
-    let fill = c.before.before.before.before.before.before.before.before.before.before.before.before.before.before.new_numbers-news.ensures in
-    let map = c.before.before.before.before.before.before.before.before.before.before.before.fill_map.ensures in
-    let short = c.before.before.before.before.before.shorten-n.ensures in (
+    let on = c.next_states-next.ensures in
+    let fill = c.new_numbers-news.ensures in
+    let map = c.fill_map.ensures in
+    let short = c.shorten-n.ensures in (
       reduced_returns adm sett _ on _ fill _ map c.short_shape-made.ensures short.1,
       (reduced_map_lem adm sett _ on _ fill _ map, reduced_short adm sett _ on _ fill _ map _ short.0),
     )

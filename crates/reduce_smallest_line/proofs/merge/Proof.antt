@@ -10,7 +10,7 @@ lined-hop-requires : tie.Need-lined_hop-requires
 lined-hop-requires c κs = search rules
 
 returns : tie.Need-returns
-returns c = rw (c.lined_hop.ensures, c.before.lesser_line.ensures)
+returns c = rw (c.lined_hop.ensures, c.lesser_line.ensures)
 
 pub merge_spec : {M : Type 1} → statement M
 merge_spec = tie.close (tie.spec lesser-line-requires lined-hop-requires returns)

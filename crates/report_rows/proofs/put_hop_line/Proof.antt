@@ -38,8 +38,8 @@ slice-aggregate-put-line-2 c = search rules
 
 put-line-requires : tie.Need-put_line-requires
 put-line-requires c κs =
-    let s = c.before.before.before.before.before.before.before.before.before.before.before.before in
-    let e = hop_parts s.args.short.now s.args.i c.before.before.before.before.before.before.before.before.before.new_from_at-from.ensures c.before.before.before.before.before.before.before.label_at-label.ensures c.before.before.before.before.before.new_to_at-to.ensures c.before.before.before.line_at-source.ensures in
+    let s = c in
+    let e = hop_parts s.args.short.now s.args.i c.new_from_at-from.ensures c.label_at-label.ensures c.new_to_at-to.ensures c.line_at-source.ensures in
     capacity_same e s.requires.1
 
 same_length : tie.Need-shape_of-out
@@ -47,9 +47,9 @@ same_length c = search rules
 
 returns : tie.Need-returns
 returns c =
-    let s = c.before.before.before.before.before.before.before.before.before.before.before.before.before.before.before in
-    let e = hop_parts s.args.short.now s.args.i c.before.before.before.before.before.before.before.before.before.before.before.before.new_from_at-from.ensures c.before.before.before.before.before.before.before.before.before.before.label_at-label.ensures c.before.before.before.before.before.before.before.before.new_to_at-to.ensures c.before.before.before.before.before.before.line_at-source.ensures in
-    put_same (sym e) c.before.before.put_line.ensures
+    let s = c in
+    let e = hop_parts s.args.short.now s.args.i c.new_from_at-from.ensures c.label_at-label.ensures c.new_to_at-to.ensures c.line_at-source.ensures in
+    put_same (sym e) c.put_line.ensures
 
 pub put_hop_line_spec : {M : Type 1} → statement M
 put_hop_line_spec =

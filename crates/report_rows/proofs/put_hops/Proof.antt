@@ -27,7 +27,7 @@ loop-holds : tie.Need-loop-i-init invariant-loop decreases-loop
 loop-holds c = (c.hop_count-n.ensures, omega arith, refl, lines_none _)
 
 put-hop-line-requires : tie.Need-put_hop_line-next-requires invariant-loop decreases-loop
-put-hop-line-requires c κs = (omega arith, lines_capacity _ _ c.before.before.before.before.before.before.requires (omega arith) c.before.before.loop-i.invariant.3)
+put-hop-line-requires c κs = (omega arith, lines_capacity _ _ c.requires (omega arith) c.loop-i.invariant.3)
 
 add-i : tie.Need-overflow_add-i invariant-loop decreases-loop
 add-i c = omega arith
@@ -37,14 +37,14 @@ loop-less c = omega arith
 
 loop-again : tie.Need-loop-i-preserved invariant-loop decreases-loop
 loop-again c =
-    let v = c.before.before.before.before.before.loop-i.invariant in
-    (v.0, omega arith, omega arith, lines_more _ _ c.before.before.before.before.before.before.before.before.before.requires (omega arith) v.3 c.before.before.put_hop_line-next.ensures)
+    let v = c.loop-i.invariant in
+    (v.0, omega arith, omega arith, lines_more _ _ c.requires (omega arith) v.3 c.put_hop_line-next.ensures)
 
 same_length : tie.Need-shape_of-out invariant-loop decreases-loop
 same_length c = omega arith
 
 returns : tie.Need-returns invariant-loop decreases-loop
-returns c = lines_done _ (omega arith) (omega arith) c.before.loop-i.invariant.3
+returns c = lines_done _ (omega arith) (omega arith) c.loop-i.invariant.3
 
 pub put_hops_spec : {M : Type 1} → statement M
 put_hops_spec =

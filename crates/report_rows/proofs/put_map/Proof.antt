@@ -39,8 +39,8 @@ slice-aggregate-put-line-2 c = search rules
 
 put-line-requires : tie.Need-put_line-next-requires invariant-loop decreases-loop
 put-line-requires c κs =
-    let s = c.before.before.before.before.before.before.before.before.before in
-    capacity_same (map_parts _ _ c.before.before.before.before.map_at-new.ensures) (lines_capacity _ _ s.requires.1.1 (omega arith) c.before.before.before.before.before.before.loop-s.invariant.2)
+    let s = c in
+    capacity_same (map_parts _ _ c.map_at-new.ensures) (lines_capacity _ _ s.requires.1.1 (omega arith) c.loop-s.invariant.2)
 
 add-s : tie.Need-overflow_add-s invariant-loop decreases-loop
 add-s c = omega arith
@@ -50,19 +50,19 @@ loop-less c = omega arith
 
 loop-again : tie.Need-loop-s-preserved invariant-loop decreases-loop
 loop-again c =
-    let s = c.before.before.before.before.before.before.before.before.before.before.before.before in
-    let v = c.before.before.before.before.before.before.before.before.before.loop-s.invariant in (
+    let s = c in
+    let v = c.loop-s.invariant in (
       omega arith,
       omega arith,
       lines_more _ _ s.requires.1.1 (omega arith) v.2
-          (put_same (sym (map_parts _ _ c.before.before.before.before.before.before.before.map_at-new.ensures)) c.before.before.put_line-next.ensures),
+          (put_same (sym (map_parts _ _ c.map_at-new.ensures)) c.put_line-next.ensures),
     )
 
 same_length : tie.Need-shape_of-out invariant-loop decreases-loop
 same_length c = omega arith
 
 returns : tie.Need-returns invariant-loop decreases-loop
-returns c = lines_done _ (omega arith) (omega arith) c.before.loop-s.invariant.2
+returns c = lines_done _ (omega arith) (omega arith) c.loop-s.invariant.2
 
 pub put_map_spec : {M : Type 1} → statement M
 put_map_spec =

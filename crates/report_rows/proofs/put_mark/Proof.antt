@@ -30,8 +30,8 @@ slice-aggregate-put-line-2 c = search rules
 
 put-line-requires : tie.Need-put_line-requires
 put-line-requires c κs =
-    let s = c.before.before.before.before.before.before.before.before.before.before.before.before in
-    let e = mark_yes s.args.hops.now (by_place s.args.marks.now) s.args.i c.before.before.before.before.before.before.before.if-marks-i-eq1.true c.before.before.before.before.before.before.from_at-from.ensures c.before.before.before.before.to_at-to.ensures in
+    let s = c in
+    let e = mark_yes s.args.hops.now (by_place s.args.marks.now) s.args.i c.if-marks-i-eq1.true c.from_at-from.ensures c.to_at-to.ensures in
     capacity_same e s.requires.1.1
 
 same_length : tie.Need-shape_of-out-then-marks-i-eq1
@@ -39,9 +39,9 @@ same_length c = search rules
 
 returns : tie.Need-returns-then-marks-i-eq1
 returns c =
-    let s = c.before.before.before.before.before.before.before.before.before.before.before.before.before.before.before in
-    let e = mark_yes s.args.hops.now (by_place s.args.marks.now) s.args.i c.before.before.before.before.before.before.before.before.before.before.if-marks-i-eq1.true c.before.before.before.before.before.before.before.before.before.from_at-from.ensures c.before.before.before.before.before.before.before.to_at-to.ensures in
-    put_same (sym e) c.before.before.put_line.ensures
+    let s = c in
+    let e = mark_yes s.args.hops.now (by_place s.args.marks.now) s.args.i c.if-marks-i-eq1.true c.from_at-from.ensures c.to_at-to.ensures in
+    put_same (sym e) c.put_line.ensures
 
 returns-2 : tie.Need-returns
 returns-2 c = put_same (sym (mark_no _ _ _ c.if-marks-i-eq1.false)) (put_none _ _)

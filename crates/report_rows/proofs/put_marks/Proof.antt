@@ -29,7 +29,7 @@ loop-holds c = (c.hop_count-n.ensures, omega arith, refl, lines_none _)
 
 put-mark-requires : tie.Need-put_mark-next-requires invariant-loop decreases-loop
 put-mark-requires c κs =
-    (omega arith, (omega arith, lines_capacity _ _ c.before.before.before.before.before.before.before.requires.1 (omega arith) c.before.before.loop-i.invariant.3))
+    (omega arith, (omega arith, lines_capacity _ _ c.requires.1 (omega arith) c.loop-i.invariant.3))
 
 add-i : tie.Need-overflow_add-i invariant-loop decreases-loop
 add-i c = omega arith
@@ -39,14 +39,14 @@ loop-less c = omega arith
 
 loop-again : tie.Need-loop-i-preserved invariant-loop decreases-loop
 loop-again c =
-    let v = c.before.before.before.before.before.loop-i.invariant in
-    (v.0, omega arith, omega arith, lines_more _ _ c.before.before.before.before.before.before.before.before.before.before.requires.1 (omega arith) v.3 c.before.before.put_mark-next.ensures)
+    let v = c.loop-i.invariant in
+    (v.0, omega arith, omega arith, lines_more _ _ c.requires.1 (omega arith) v.3 c.put_mark-next.ensures)
 
 same_length : tie.Need-shape_of-out invariant-loop decreases-loop
 same_length c = omega arith
 
 returns : tie.Need-returns invariant-loop decreases-loop
-returns c = lines_done _ (omega arith) (omega arith) c.before.loop-i.invariant.3
+returns c = lines_done _ (omega arith) (omega arith) c.loop-i.invariant.3
 
 pub put_marks_spec : {M : Type 1} → statement M
 put_marks_spec =

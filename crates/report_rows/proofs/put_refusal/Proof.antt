@@ -15,14 +15,14 @@ slice-aggregate-put-line-2 c = search rules
 
 put-line-requires : tie.Need-put_line-requires
 unfolding refusal_of
-put-line-requires c κs = c.before.before.before.before.before.requires
+put-line-requires c κs = c.requires
 
 same_length : tie.Need-shape_of-out
 same_length c = search rules
 
 returns : tie.Need-returns
 unfolding refusal_of
-returns c = c.before.before.put_line.ensures
+returns c = c.put_line.ensures
 
 pub put_refusal_spec : {M : Type 1} → statement M
 put_refusal_spec =

@@ -21,24 +21,24 @@ slice-aggregate-put-line-2 c = search rules
 
 put-line-requires : tie.Need-put_line-first-requires
 put-line-requires c κs =
-    let s = c.before.before.before.before.before.before.before.before.before.before in
+    let s = c in
     let a = s.args in
-    let h = c.before.before.before.hop_count-count in
-    capacity_in a.shape a.hops.now a.marks.now a.map.now a.new a.short.now a.out-1.now h.result (count a.short.now) h.ensures refl s.requires.1.1.1
+    let h = c.hop_count-count in
+    capacity_in a.shape a.hops.now a.marks.now a.map.now a.new a.short.now a.out.now h.result (count a.short.now) h.ensures refl s.requires.1.1.1
 
 put-marks-requires : tie.Need-put_marks-second-requires
 put-marks-requires c κs =
-    let s = c.before.before.before.before.before.before.before.before.before.before.before.before.before.before in
+    let s = c in
     let a = s.args in
-    let h = c.before.before.before.before.before.before.before.hop_count-count in
-    (s.requires.0, capacity_marks a.shape a.hops.now a.marks.now a.map.now a.new a.short.now a.out-1.now h.result (count a.short.now) h.ensures refl s.requires.1.1.1 c.before.before.before.put_line-first.ensures)
+    let h = c.hop_count-count in
+    (s.requires.0, capacity_marks a.shape a.hops.now a.marks.now a.map.now a.new a.short.now a.out.now h.result (count a.short.now) h.ensures refl s.requires.1.1.1 c.put_line-first.ensures)
 
 put-map-requires : tie.Need-put_map-third-requires
 put-map-requires c κs =
-    let s = c.before.before.before.before.before.before.before.before.before.before.before.before.before.before.before.before.before.before in
+    let s = c in
     let a = s.args in
-    let h = c.before.before.before.before.before.before.before.before.before.before.before.hop_count-count in
-    (s.requires.1.0, (s.requires.1.1.0, capacity_map a.shape a.hops.now a.marks.now a.map.now a.new a.short.now a.out-1.now h.result (count a.short.now) h.ensures refl s.requires.1.1.1 c.before.before.before.before.before.before.before.put_line-first.ensures c.before.before.before.put_marks-second.ensures))
+    let h = c.hop_count-count in
+    (s.requires.1.0, (s.requires.1.1.0, capacity_map a.shape a.hops.now a.marks.now a.map.now a.new a.short.now a.out.now h.result (count a.short.now) h.ensures refl s.requires.1.1.1 c.put_line-first.ensures c.put_marks-second.ensures))
 
 cast-new-states : tie.Need-overflow_cast-new_states
 cast-new-states c = search rules
@@ -57,33 +57,33 @@ slice-aggregate-put-line-4 c = search rules
 
 put-line-requires-2 : tie.Need-put_line-fourth-requires
 put-line-requires-2 c κs =
-    let s = c.before.before.before.before.before.before.before.before.before.before.before.before.before.before.before.before.before.before.before.before.before.before.before.before.before.before.before in
+    let s = c in
     let a = s.args in
-    let h = c.before.before.before.before.before.before.before.before.before.before.before.before.before.before.before.before.before.before.before.before.hop_count-count in
-    let h2 = c.before.before.before.before.hop_count-short_count in
-    capacity_out a.shape a.hops.now a.marks.now a.map.now a.new a.short.now a.out-1.now h.result h2.result h.ensures h2.ensures s.requires.1.1.1
-    c.before.before.before.before.before.before.before.before.before.before.before.before.before.before.before.before.put_line-first.ensures c.before.before.before.before.before.before.before.before.before.before.before.before.put_marks-second.ensures c.before.before.before.before.before.before.before.before.put_map-third.ensures
+    let h = c.hop_count-count in
+    let h2 = c.hop_count-short_count in
+    capacity_out a.shape a.hops.now a.marks.now a.map.now a.new a.short.now a.out.now h.result h2.result h.ensures h2.ensures s.requires.1.1.1
+    c.put_line-first.ensures c.put_marks-second.ensures c.put_map-third.ensures
 
 put-hops-requires : tie.Need-put_hops-requires
 put-hops-requires c κs =
-    let s = c.before.before.before.before.before.before.before.before.before.before.before.before.before.before.before.before.before.before.before.before.before.before.before.before.before.before.before.before.before.before.before in
+    let s = c in
     let a = s.args in
-    let h = c.before.before.before.before.before.before.before.before.before.before.before.before.before.before.before.before.before.before.before.before.before.before.before.before.hop_count-count in
-    let h2 = c.before.before.before.before.before.before.before.before.hop_count-short_count in
-    capacity_hops a.shape a.hops.now a.marks.now a.map.now a.new a.short.now a.out-1.now h.result h2.result h.ensures h2.ensures s.requires.1.1.1
-    c.before.before.before.before.before.before.before.before.before.before.before.before.before.before.before.before.before.before.before.before.put_line-first.ensures c.before.before.before.before.before.before.before.before.before.before.before.before.before.before.before.before.put_marks-second.ensures c.before.before.before.before.before.before.before.before.before.before.before.before.put_map-third.ensures c.before.before.before.put_line-fourth.ensures
+    let h = c.hop_count-count in
+    let h2 = c.hop_count-short_count in
+    capacity_hops a.shape a.hops.now a.marks.now a.map.now a.new a.short.now a.out.now h.result h2.result h.ensures h2.ensures s.requires.1.1.1
+    c.put_line-first.ensures c.put_marks-second.ensures c.put_map-third.ensures c.put_line-fourth.ensures
 
 same_length : tie.Need-shape_of-out
 same_length c = search rules
 
 returns : tie.Need-returns
 returns c =
-    let s = c.before.before.before.before.before.before.before.before.before.before.before.before.before.before.before.before.before.before.before.before.before.before.before.before.before.before.before.before.before.before.before.before.before.before in
+    let s = c in
     let a = s.args in
-    let h = c.before.before.before.before.before.before.before.before.before.before.before.before.before.before.before.before.before.before.before.before.before.before.before.before.before.before.before.hop_count-count in
-    let h2 = c.before.before.before.before.before.before.before.before.before.before.before.hop_count-short_count in
-    report_put a.shape a.hops.now a.marks.now a.map.now a.new a.short.now a.out-1.now h.result h2.result h.ensures h2.ensures s.requires.1.1.1
-    c.before.before.before.before.before.before.before.before.before.before.before.before.before.before.before.before.before.before.before.before.before.before.before.put_line-first.ensures c.before.before.before.before.before.before.before.before.before.before.before.before.before.before.before.before.before.before.before.put_marks-second.ensures c.before.before.before.before.before.before.before.before.before.before.before.before.before.before.before.put_map-third.ensures c.before.before.before.before.before.before.put_line-fourth.ensures c.before.before.put_hops.ensures
+    let h = c.hop_count-count in
+    let h2 = c.hop_count-short_count in
+    report_put a.shape a.hops.now a.marks.now a.map.now a.new a.short.now a.out.now h.result h2.result h.ensures h2.ensures s.requires.1.1.1
+    c.put_line-first.ensures c.put_marks-second.ensures c.put_map-third.ensures c.put_line-fourth.ensures c.put_hops.ensures
 
 pub put_report_spec : {M : Type 1} → statement M
 put_report_spec =

@@ -29,9 +29,9 @@ shared-slice-read-put-spaced c = omega arith
 
 put-spaced-requires : tie.Need-put_spaced-next-requires invariant-loop decreases-loop
 put-spaced-requires c κs =
-    let s = c.before.before.before.before.before.before in
+    let s = c in
     let ns = s.args.numbers.now in
-    lines_capacity (spaced_at ns) (length ns) (capacity_same (numbered_lines ns) s.requires) (omega arith) c.before.before.before.loop-i.invariant.2
+    lines_capacity (spaced_at ns) (length ns) (capacity_same (numbered_lines ns) s.requires) (omega arith) c.loop-i.invariant.2
 
 add-i : tie.Need-overflow_add-i invariant-loop decreases-loop
 add-i c = omega arith
@@ -41,18 +41,18 @@ loop-less c = omega arith
 
 loop-again : tie.Need-loop-i-preserved invariant-loop decreases-loop
 loop-again c =
-    let s = c.before.before.before.before.before.before.before.before.before in
+    let s = c in
     let ns = s.args.numbers.now in
-    let v = c.before.before.before.before.before.before.loop-i.invariant in
-    (omega arith, omega arith, lines_more (spaced_at ns) (length ns) (capacity_same (numbered_lines ns) s.requires) (omega arith) v.2 c.before.before.put_spaced-next.ensures)
+    let v = c.loop-i.invariant in
+    (omega arith, omega arith, lines_more (spaced_at ns) (length ns) (capacity_same (numbered_lines ns) s.requires) (omega arith) v.2 c.put_spaced-next.ensures)
 
 same_length : tie.Need-shape_of-out invariant-loop decreases-loop
 same_length c = omega arith
 
 returns : tie.Need-returns invariant-loop decreases-loop
 returns c =
-    let ns = c.before.before.before.before.args.numbers.now in
-    put_same (sym (numbered_lines ns)) (lines_done (spaced_at ns) c.before.loop-i.invariant.0 (omega arith) c.before.loop-i.invariant.2)
+    let ns = c.args.numbers.now in
+    put_same (sym (numbered_lines ns)) (lines_done (spaced_at ns) c.loop-i.invariant.0 (omega arith) c.loop-i.invariant.2)
 
 pub put_numbers_spec : {M : Type 1} → statement M
 put_numbers_spec =

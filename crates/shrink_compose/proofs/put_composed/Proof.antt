@@ -35,7 +35,7 @@ unpassed map₀ next s e =
 
 loop-holds : tie.Need-loop-s-init invariant-loop decreases-loop
 loop-holds c =
-    let st = c.before.before in
+    let st = c in
     (tabulate_none (on st.args.map.now st.args.next.now) st.args.map.now, refl, omega arith, st.requires.0, st.requires.1)
 
 cast-t10 : tie.Need-overflow_cast-s invariant-loop decreases-loop
@@ -46,9 +46,9 @@ map-at-requires c κs = omega arith
 
 map-at-requires-2 : tie.Need-map_at-last-requires invariant-loop decreases-loop
 map-at-requires-2 c κs =
-    let v = c.before.before.before.loop-s.invariant in
-    let st = c.before.before.before.before.before.before.args in
-    omega (arith, c.map_at-between.ensures, unpassed st.map.now st.next.now c.before.before.before.loop-s.s v.0, v.4 c.before.before.before.loop-s.s (omega arith))
+    let v = c.loop-s.invariant in
+    let st = c.args in
+    omega (arith, c.map_at-between.ensures, unpassed st.map.now st.next.now c.loop-s.s v.0, v.4 c.loop-s.s (omega arith))
 
 mul-map : tie.Need-offset_bounds-map-s invariant-loop decreases-loop
 mul-map c = search rules
@@ -64,10 +64,10 @@ loop-less c = omega arith
 
 loop-again : tie.Need-loop-s-preserved invariant-loop decreases-loop
 loop-again c =
-    let l = c.before.before.before.before.loop-s in
+    let l = c.loop-s in
     let v = l.invariant in
-    let st = c.before.before.before.before.before.before.before.args in
-    let d = c.map_at-last.ensures ∙ ap (mapped st.next.now) (c.before.map_at-between.ensures ∙ unpassed st.map.now st.next.now l.s v.0) in
+    let st = c.args in
+    let d = c.map_at-last.ensures ∙ ap (mapped st.next.now) (c.map_at-between.ensures ∙ unpassed st.map.now st.next.now l.s v.0) in
     (tabulate_more (on st.map.now st.next.now) st.map.now v.0 d (omega arith), simp length-set (omega arith), omega arith, v.3, v.4)
 
 same_length : tie.Need-shape_of-map invariant-loop decreases-loop
@@ -76,9 +76,9 @@ same_length c = omega arith
 returns : tie.Need-returns invariant-loop decreases-loop
 unfolding composed
 returns c =
-    let s = c.before.before.before.before.args in
+    let s = c.args in
     let f = on s.map.now s.next.now in
-    tabulate_done f s.map.now c.before.loop-s.invariant.0 (omega arith) (omega arith) ∙ front_all (tabulate (length s.map.now) f) s.map.now (length_tabulate f (length s.map.now))
+    tabulate_done f s.map.now c.loop-s.invariant.0 (omega arith) (omega arith) ∙ front_all (tabulate (length s.map.now) f) s.map.now (length_tabulate f (length s.map.now))
 
 pub put_composed_spec : {M : Type 1} → statement M
 put_composed_spec =

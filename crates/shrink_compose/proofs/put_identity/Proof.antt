@@ -43,8 +43,8 @@ loop-less c = omega arith
 
 loop-again : tie.Need-loop-s-preserved invariant-loop decreases-loop
 loop-again c =
-    let v = c.before.loop-s.invariant in
-    (tabulate_more own c.before.before.args.map.now v.0 refl (omega arith), simp length-set (omega arith), omega arith, omega arith)
+    let v = c.loop-s.invariant in
+    (tabulate_more own c.args.map.now v.0 refl (omega arith), simp length-set (omega arith), omega arith, omega arith)
 
 same_length : tie.Need-shape_of-map invariant-loop decreases-loop
 same_length c = omega arith
@@ -52,8 +52,8 @@ same_length c = omega arith
 returns : tie.Need-returns invariant-loop decreases-loop
 unfolding identity_map
 returns c =
-    let old = c.before.before.args.map.now in
-    tabulate_done own old c.before.loop-s.invariant.0 (omega arith) (omega arith) ∙ front_all (tabulate (length old) own) old (length_tabulate own (length old))
+    let old = c.args.map.now in
+    tabulate_done own old c.loop-s.invariant.0 (omega arith) (omega arith) ∙ front_all (tabulate (length old) own) old (length_tabulate own (length old))
 
 pub put_identity_spec : {M : Type 1} → statement M
 put_identity_spec =

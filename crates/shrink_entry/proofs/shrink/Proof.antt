@@ -15,17 +15,17 @@ refused-shrinking-requires c κs = search rules
 
 returns : tie.Need-returns-then-answer-ne0
 returns c =
-    let st = c.before.before.before.before.before.before.before.args in
-    let map = st.map-1.now in
-    let short = st.short-1.now in
-    let e = c.before.before.before.reduce_answer-answer.ensures in
-    let n = c.before.if-answer-ne0.true in
+    let st = c.args in
+    let map = st.map.now in
+    let short = st.short.now in
+    let e = c.reduce_answer-answer.ensures in
+    let n = c.if-answer-ne0.true in
     (c.refused_shrinking.ensures ∙ refused_returns _ _ _ map short e n, (refused_map _ _ _ map short e n, refused_short _ _ _ map short e n))
 
 accepted-shrinking-requires : tie.Need-accepted_shrinking-requires
 accepted-shrinking-requires c κs =
-    let st = c.before.before.before.before.before.before.before.before.args in
-    let z = accepts _ _ _ st.map-1.now st.short-1.now c.before.before.before.before.reduce_answer-answer.ensures c.before.before.if-answer-ne0.false in
+    let st = c.args in
+    let z = accepts _ _ _ st.map.now st.short.now c.reduce_answer-answer.ensures c.if-answer-ne0.false in
     (reduce_reducible _ _ _ _ _ z, (reduce_map_capacity _ _ _ _ _ z, reduce_short_capacity _ _ _ _ _ z))
 
 same_length : tie.Need-shape_of-map
@@ -36,12 +36,12 @@ same-length-2 c = search rules
 
 returns-2 : tie.Need-returns
 returns-2 c =
-    let st = c.before.before.before.before.before.before.before.before.before.before.before.before.before.args in
-    let map = st.map-1.now in
-    let short = st.short-1.now in
-    let e = c.before.before.before.before.before.before.before.before.before.reduce_answer-answer.ensures in
-    let z = c.before.before.before.before.before.before.before.if-answer-ne0.false in
-    let w = c.before.before.before.before.accepted_shrinking.ensures in
+    let st = c.args in
+    let map = st.map.now in
+    let short = st.short.now in
+    let e = c.reduce_answer-answer.ensures in
+    let z = c.if-answer-ne0.false in
+    let w = c.accepted_shrinking.ensures in
     (w.0 ∙ accepted_returns _ _ _ map short e z, (accepted_map _ _ _ map short e z w.1.0, accepted_short _ _ _ map short e z w.1.1))
 
 pub shrink_spec : {M : Type 1} → statement M

@@ -26,8 +26,8 @@ shared-slice-read-if1 c = omega arith
 returns : tie.Need-returns-then-marks-i-eq1 invariant-loop decreases-loop
 unfolding is_marked
 returns c =
-    let st = c.before.before.before.before.args in
-    sym (any_found (is_marked st.marks.now) st.n {i = c.before.before.before.loop-i.i} (omega arith) (eq-eqb _ 1 c.if-marks-i-eq1.true))
+    let st = c.args in
+    sym (any_found (is_marked st.marks.now) st.n {i = c.loop-i.i} (omega arith) (eq-eqb _ 1 c.if-marks-i-eq1.true))
 
 add-i : tie.Need-overflow_add-i invariant-loop decreases-loop
 add-i c = omega arith
@@ -38,14 +38,14 @@ loop-less c = omega arith
 loop-again : tie.Need-loop-i-preserved invariant-loop decreases-loop
 unfolding is_marked
 loop-again c =
-    let st = c.before.before.before.before.args in
-    let l = c.before.before.before.loop-i in
+    let st = c.args in
+    let l = c.loop-i in
     (omega arith, l.invariant.1, any_more (is_marked st.marks.now) l.i l.invariant.2 (ne_eqb _ 1 c.if-marks-i-eq1.false))
 
 returns-2 : tie.Need-returns invariant-loop decreases-loop
 returns-2 c =
-    let l = c.before.loop-i in
-    sym (any_done (is_marked c.before.before.args.marks.now) {i = l.i} l.invariant.0 (omega arith) l.invariant.2)
+    let l = c.loop-i in
+    sym (any_done (is_marked c.args.marks.now) {i = l.i} l.invariant.0 (omega arith) l.invariant.2)
 
 pub is_any_spec : {M : Type 1} → statement M
 is_any_spec =

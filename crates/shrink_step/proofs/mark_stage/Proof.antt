@@ -7,7 +7,7 @@ use Rattle.shrink_step.proofs.mark_stage.Statement.{statement}
 use Rattle.shrink_step.proofs.mark_stage.Tie as tie
 
 starts-of-requires : tie.Need-starts_of-starts-requires
-starts-of-requires c κs = admitted_indexable c.before.before.requires.0.admitted
+starts-of-requires c κs = admitted_indexable c.requires.0.admitted
 
 mark-in-requires : tie.Need-mark_in-requires
 mark-in-requires c κs = search rules
@@ -23,9 +23,9 @@ same_length c = search rules
 
 returns : tie.Need-returns
 returns c =
-    let st = c.before.before.before.before.before.before.before.before.before.before.before.args in
-    let marked = c.before.before.before.before.before.mark_in.ensures in
-    (some_result st.sense st.shape st.hops.now _ st.marks-1.now marked c.before.hop_count.ensures c.is_any.ensures, marked)
+    let st = c.args in
+    let marked = c.mark_in.ensures in
+    (some_result st.sense st.shape st.hops.now _ st.marks.now marked c.hop_count.ensures c.is_any.ensures, marked)
 
 pub mark_stage_spec : {M : Type 1} → statement M
 mark_stage_spec =

@@ -19,7 +19,7 @@ shared-slice-read-number : tie.Need-bounds-list-i invariant-loop decreases-loop
 shared-slice-read-number c = search rules
 
 cast-number : tie.Need-overflow_cast-list invariant-loop decreases-loop
-cast-number c = omega (arith, c.shared_slice_known-in-loop-i-1.given c.before.before.loop-i.i)
+cast-number c = omega (arith, c.shared_slice_known-in-loop-i-1.given c.loop-i.i)
 
 number-requires : tie.Need-number-requires invariant-loop decreases-loop
 number-requires c κs = search rules

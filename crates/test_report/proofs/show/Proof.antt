@@ -24,7 +24,7 @@ array-share-prefix-out : tie.Need-slice_bounds-out-end
 array-share-prefix-out c = search rules
 
 slice-aggregate-write-all-2 : tie.Need-slice-aggregate-write-all-2
-slice-aggregate-write-all-2 c = sym (length-take-le _ _ c.before.before.print_file-n.ensures.1.1)
+slice-aggregate-write-all-2 c = sym (length-take-le _ _ c.print_file-n.ensures.1.1)
 
 write-all-requires-3 : tie.Need-write_all-requires-3
 write-all-requires-3 c κs = search rules

@@ -17,7 +17,7 @@ abbrev decreases-loop : tie.decreases-loop-left
 decreases-loop shape hops starts place ranked entered₀ via₀ top₀ i₀ left₀ entered via top i left = left
 
 loop-holds : tie.Need-loop-left-init invariant-loop decreases-loop
-loop-holds c = c.before.before.requires.1.1
+loop-holds c = c.requires.1.1
 
 wide-requires : tie.Need-wide-requires invariant-loop decreases-loop
 wide-requires c κs = tt
@@ -34,7 +34,7 @@ low c =
 past-within : (c : tie.After-start_of-past invariant-loop decreases-loop) → c.start_of-past.result ≤ count (start c.before.before.before).args.hops.now
 past-within c =
     let s = start c.before.before.before in
-    let w = c.before.wide.result in
+    let w = c.wide.result in
     rw (start_is s.args.hops.now s.args.starts.now s.requires.0.table (w + 1) refl (omega (arith, low c.before)) c.start_of-past.ensures)
     (first_within s.args.hops.now s.requires.0.admitted.ascending (w + 1))
 
@@ -50,10 +50,10 @@ next-unentered-requires c κs =
     (s.requires.0.admitted, (past-within c.before, s.requires.1.0))
 
 returns : tie.Need-returns-then-past-i invariant-loop decreases-loop
-returns c = c.before.before.before.before.before.before.loop-left.invariant
+returns c = c.loop-left.invariant
 
 -- the state that it goes on to
-here : (c : tie.Else-past-i invariant-loop decreases-loop) → c.before.next_unentered-i.result < count (start c.before.before.before.before.before.before).args.hops.now
+here : (c : tie.Else-past-i invariant-loop decreases-loop) → c.next_unentered-i.result < count (start c.before.before.before.before.before.before).args.hops.now
 here c = lt_of_lt_of_le c.if-past-i.false (past-within c.before.before.before)
 
 to-at-requires : tie.Need-to_at-top-requires invariant-loop decreases-loop
@@ -78,16 +78,16 @@ start-of-requires-2 c κs =
     rw c.wide-in-loop-left.ensures (le_of_lt (lt_of_lt_of_le (next c.before.before.before.before) s.requires.0.admitted.states_most))
 
 sub-left : tie.Need-overflow_sub-left invariant-loop decreases-loop
-sub-left c = omega (arith, c.before.before.before.before.before.before.before.before.before.before.before.loop-left-test.true)
+sub-left c = omega (arith, c.loop-left-test.true)
 
 loop-less : tie.Need-loop-left-smaller invariant-loop decreases-loop
-loop-less c = omega (arith, c.before.before.before.before.before.before.before.before.before.before.before.loop-left-test.true)
+loop-less c = omega (arith, c.loop-left-test.true)
 
 loop-again : tie.Need-loop-left-preserved invariant-loop decreases-loop
 loop-again c = next c.before.before.before.before.before
 
 returns-2 : tie.Need-returns invariant-loop decreases-loop
-returns-2 c = c.before.loop-left.invariant
+returns-2 c = c.loop-left.invariant
 
 pub descend_spec : {M : Type 1} → statement M
 descend_spec =

@@ -27,7 +27,7 @@ wide-requires c κs = search rules
 
 -- v is a state that can be
 low : (c : tie.After-wide-s invariant-loop decreases-loop) → c.wide-s.result < most_states
-low c = let s = c.before.before.before in omega (arith, c.wide-s.ensures, s.requires.1.1, s.requires.0.admitted.states_most)
+low c = let s = c in omega (arith, c.wide-s.ensures, s.requires.1.1, s.requires.0.admitted.states_most)
 
 add-start-of : tie.Need-overflow_add-s invariant-loop decreases-loop
 add-start-of c = omega (arith, low c)
@@ -49,21 +49,21 @@ module _ (c : tie.At-loop-i invariant-loop decreases-loop) where
   abbrev at-state : tie.After-wide-s invariant-loop decreases-loop
   at-state = c.before.before.before
 
-  lo_is : c.before.start_of-i.result ≡ first_of start.args.hops.now start.args.v.0
+  lo_is : c.start_of-i.result ≡ first_of start.args.hops.now start.args.v.0
   lo_is =
       let w = at-state.wide-s in
-      start_is start.args.hops.now start.args.starts.now start.requires.0.table w.result w.ensures (omega (arith, low at-state)) c.before.start_of-i.ensures
+      start_is start.args.hops.now start.args.starts.now start.requires.0.table w.result w.ensures (omega (arith, low at-state)) c.start_of-i.ensures
 
-  hi_is : c.before.before.start_of-past.result ≡ first_of start.args.hops.now (start.args.v.0 + 1)
+  hi_is : c.start_of-past.result ≡ first_of start.args.hops.now (start.args.v.0 + 1)
   hi_is =
       let w = at-state.wide-s in
-      start_is start.args.hops.now start.args.starts.now start.requires.0.table (w.result + 1) (ap (λ (k : ℕ). k + 1) w.ensures) (omega (arith, low at-state)) c.before.before.start_of-past.ensures
+      start_is start.args.hops.now start.args.starts.now start.requires.0.table (w.result + 1) (ap (λ (k : ℕ). k + 1) w.ensures) (omega (arith, low at-state)) c.start_of-past.ensures
 
-  within : (i : ℕ) → i < c.before.before.start_of-past.result → i < count start.args.hops.now
+  within : (i : ℕ) → i < c.start_of-past.result → i < count start.args.hops.now
   within = row_within start.args.hops.now start.args.ranked.now start.args.v.0 start.requires.0.admitted.ascending lo-is hi-is
 
   -- the way out at a place where no silent hop stands
-  all_here : (c.loop-i.i < c.before.before.start_of-past.result → label start.args.hops.now c.loop-i.i ≡ 0 → ⊥) →
+  all_here : (c.loop-i.i < c.start_of-past.result → label start.args.hops.now c.loop-i.i ≡ 0 → ⊥) →
       ends_visited start.args.hops.now start.args.ranked.now start.args.v.0 ≡ true
   all_here g =
       ends_all start.args.hops.now start.args.ranked.now start.args.v.0 start.requires.0.admitted.ascending lo-is hi-is c.loop-i.i c.loop-i.invariant.0 g c.loop-i.invariant.1
@@ -72,10 +72,10 @@ label-at-requires : tie.Need-label_at-requires invariant-loop decreases-loop
 label-at-requires c κs = within c.before _ c.loop-i-test.true
 
 returns : tie.Need-returns-then-label_at-ne0 invariant-loop decreases-loop
-returns c = sym (all_here c.before.before.before.before (λ l e. c.if-label_at-ne0.true (c.before.before.label_at.ensures ∙ e)))
+returns c = sym (all_here c.before.before.before.before (λ l e. c.if-label_at-ne0.true (c.label_at.ensures ∙ e)))
 
 to-at-requires : tie.Need-to_at-requires invariant-loop decreases-loop
-to-at-requires c κs = within c.before.before.before.before _ c.before.before.before.loop-i-test.true
+to-at-requires c κs = within c.before.before.before.before _ c.loop-i-test.true
 
 wide-requires-2 : tie.Need-wide-at-requires invariant-loop decreases-loop
 wide-requires-2 c κs = search rules
@@ -86,10 +86,10 @@ module _ (c : tie.After-shared_slice_known-in-loop-i-1 invariant-loop decreases-
   turn = c.before.before.before.before.before.before.before
 
   here : turn.loop-i.i < count (start turn).args.hops.now
-  here = within turn _ c.before.before.before.before.before.before.loop-i-test.true
+  here = within turn _ c.loop-i-test.true
 
-  end_is : c.before.wide-at.result ≡ to (start turn).args.hops.now turn.loop-i.i
-  end_is = c.before.wide-at.ensures ∙ c.before.before.to_at.ensures
+  end_is : c.wide-at.result ≡ to (start turn).args.hops.now turn.loop-i.i
+  end_is = c.wide-at.ensures ∙ c.to_at.ensures
 
 shared-slice-read-if2 : tie.Need-bounds-ranked-at invariant-loop decreases-loop
 shared-slice-read-if2 c =
@@ -102,15 +102,15 @@ returns-2 c =
     let s = start a in
     sym
     (ends_fails s.args.hops.now s.args.ranked.now s.args.v.0 s.requires.0.admitted.ascending (lo-is a) (hi-is a) a.loop-i.i a.loop-i.inv.0
-    c.before.before.before.before.before.before.before.loop-i-test.true
-    (sym c.before.before.before.before.before.before.label_at.ensures ∙ c.before.before.before.before.if-label_at-ne0.false)
+    c.loop-i-test.true
+    (sym c.label_at.ensures ∙ c.if-label_at-ne0.false)
     (rw (← end_is c.before) (visited_no _ _ c.if-ranked-at-ne1.true)))
 
 add-i : tie.Need-overflow_add-i invariant-loop decreases-loop
 add-i c = omega (arith, here c.before)
 
 loop-less : tie.Need-loop-i-smaller invariant-loop decreases-loop
-loop-less c = omega (arith, c.before.before.before.before.before.before.before.loop-i-test.true)
+loop-less c = omega (arith, c.loop-i-test.true)
 
 loop-again : tie.Need-loop-i-preserved invariant-loop decreases-loop
 loop-again c =

@@ -19,7 +19,7 @@ start a = a.before.before.before
 loop-holds : tie.Need-loop-i-init invariant-loop decreases-loop
 loop-holds c = tt
 
-here : (c : tie.In-loop-i invariant-loop decreases-loop) → c.before.loop-i.i < count (start c.before).args.hops.now
+here : (c : tie.In-loop-i invariant-loop decreases-loop) → c.loop-i.i < count (start c.before).args.hops.now
 here c = lt_of_lt_of_le c.loop-i-test.true (start c.before).requires.1.0
 
 label-at-requires : tie.Need-label_at-requires invariant-loop decreases-loop
@@ -44,7 +44,7 @@ add-i : tie.Need-overflow_add-i invariant-loop decreases-loop
 add-i c = omega (arith, here c.before.before.before.before.before.before)
 
 loop-less : tie.Need-loop-i-smaller invariant-loop decreases-loop
-loop-less c = omega (arith, c.before.before.before.before.before.before.loop-i-test.true)
+loop-less c = omega (arith, c.loop-i-test.true)
 
 loop-again : tie.Need-loop-i-preserved invariant-loop decreases-loop
 loop-again c = tt

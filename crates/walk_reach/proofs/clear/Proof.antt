@@ -29,17 +29,17 @@ loop-less c = omega arith
 
 loop-again : tie.Need-loop-i-preserved invariant-loop decreases-loop
 loop-again c =
-    let h : c.before.loop-i.i < length c.before.before.args.seen.now = omega arith in (
+    let h : c.loop-i.i < length c.args.seen.now = omega arith in (
       omega arith,
-      simp length-set c.before.loop-i.invariant.1,
-      ap (λ (l : List ℕ). set l c.before.loop-i.i 0) c.before.loop-i.invariant.2 ∙ cleared_more c.before.before.args.seen.now c.before.loop-i.i h,
+      simp length-set c.loop-i.invariant.1,
+      ap (λ (l : List ℕ). set l c.loop-i.i 0) c.loop-i.invariant.2 ∙ cleared_more c.args.seen.now c.loop-i.i h,
     )
 
 same_length : tie.Need-shape_of-seen invariant-loop decreases-loop
 same_length c = omega arith
 
 returns : tie.Need-returns invariant-loop decreases-loop
-returns c = let e : c.before.loop-i.i ≡ c.before.before.args.n = omega arith in rw (← e) c.before.loop-i.invariant.2
+returns c = let e : c.loop-i.i ≡ c.args.n = omega arith in rw (← e) c.loop-i.invariant.2
 
 pub clear_spec : {M : Type 1} → statement M
 clear_spec =

@@ -30,7 +30,7 @@ wide-requires c κs = search rules
 -- the state v stands in the table, with one place more
 in_table : (c : tie.After-wide-at invariant-loop decreases-loop) → c.wide-at.result + 1 ≤ most_states
 in_table c =
-    let s = c.before.before.before.before.before in omega (arith, c.wide-at.ensures, s.requires.1.0, s.requires.0.tabled.admitted.states_most)
+    let s = c in omega (arith, c.wide-at.ensures, s.requires.1.0, s.requires.0.tabled.admitted.states_most)
 
 add-start-of : tie.Need-overflow_add-at invariant-loop decreases-loop
 add-start-of c = omega (arith, in_table c)
@@ -49,55 +49,55 @@ module _ (c : tie.At-loop-i invariant-loop decreases-loop) where
   abbrev start : tie.Start invariant-loop decreases-loop
   start = c.before.before.before.before.before.before.before.before
 
-  range : Range start.args.shape start.args.hops.now start.args.v.0 c.before.start_of-i.result c.before.before.start_of-past.result
+  range : Range start.args.shape start.args.hops.now start.args.v.0 c.start_of-i.result c.start_of-past.result
   range =
       let w = c.before.before.before in
       let t = start.requires.0.tabled in
       record {
         admitted = t.admitted;
         lo_is = start_is start.args.hops.now start.args.starts.now t.table w.wide-at.result w.wide-at.ensures
-            (omega (arith, in_table w, w.wide-at.ensures)) c.before.start_of-i.ensures;
+            (omega (arith, in_table w, w.wide-at.ensures)) c.start_of-i.ensures;
         hi_is = start_is start.args.hops.now start.args.starts.now t.table (w.wide-at.result + 1) (ap (λ (x : ℕ). x + 1) w.wide-at.ensures)
-            (omega (arith, in_table w, w.wide-at.ensures)) c.before.before.start_of-past.ensures;
+            (omega (arith, in_table w, w.wide-at.ensures)) c.start_of-past.ensures;
       }
 
-  passed : Passed start.args.hops.now (chosen_in start.args.chosen.now) start.args.shape.states start.args.v.0 c.before.start_of-i.result c.loop-i.i
+  passed : Passed start.args.hops.now (chosen_in start.args.chosen.now) start.args.shape.states start.args.v.0 c.start_of-i.result c.loop-i.i
       start.args.seen.now start.args.queue.now start.args.tail c.loop-i.seen c.loop-i.queue c.loop-i.end
   passed = c.loop-i.invariant.1 start.args.shape start.args.v.0 range start.requires.1.1
 
 shared-slice-read-if1 : tie.Need-bounds-chosen-i invariant-loop decreases-loop
 shared-slice-read-if1 c =
     let a = c.before.before in
-    omega (arith, place_within (range a) a.loop-i.i c.before.loop-i-test.true, (start a).requires.0.byte_a_hop)
+    omega (arith, place_within (range a) a.loop-i.i c.loop-i-test.true, (start a).requires.0.byte_a_hop)
 
 to-at-requires : tie.Need-to_at-requires invariant-loop decreases-loop
-to-at-requires c κs = place_within (range c.before.before.before.before.before) _ c.before.before.before.before.loop-i-test.true
+to-at-requires c κs = place_within (range c.before.before.before.before.before) _ c.loop-i-test.true
 
 visit-requires : tie.Need-visit-end-requires invariant-loop decreases-loop
 visit-requires c κs =
     let a = c.before.before.before.before.before.before in
     let within : c.to_at.result.0 < (start a).args.shape.states =
-    rw c.to_at.ensures (end_within (range a) _ c.before.before.before.before.before.loop-i-test.true) in (
+    rw c.to_at.ensures (end_within (range a) _ c.loop-i-test.true) in (
       omega (arith, (passed a).grown.front.seen_capacity),
       λ e. omega (arith, (passed a).grown.front.queue_capacity, (front_capacity (passed a).grown.front _ within e).0),
     )
 
 add-i : tie.Need-overflow_add-i invariant-loop decreases-loop
-add-i c = let a = c.before.before.before in omega (arith, place_within (range a) a.loop-i.i c.before.before.loop-i-test.true)
+add-i c = let a = c.before.before.before in omega (arith, place_within (range a) a.loop-i.i c.loop-i-test.true)
 
 loop-less : tie.Need-loop-i-smaller invariant-loop decreases-loop
-loop-less c = omega (arith, c.before.before.loop-i-test.true)
+loop-less c = omega (arith, c.loop-i-test.true)
 
 loop-again : tie.Need-loop-i-preserved invariant-loop decreases-loop
 loop-again c =
-    let a = c.before.before.before in
-    let l = c.before.before.loop-i-test.true in (
+    let a = c in
+    let l = c.loop-i-test.true in (
       omega (arith, a.loop-i.invariant.0),
       λ sh v r f.
           ⊎_elim
-          (λ w. passed_more r _ (a.loop-i.invariant.1 sh v r f) a.loop-i.invariant.0 l (chosen_yes _ _ w.0.taken) w.3.ensures (w.9 ∙ w.4.ensures.0)
-          (w.10 ∙ w.4.ensures.1.0) (w.11 ∙ w.4.ensures.1.1))
-          (λ w. rw (w.1, w.2, w.3) (passed_over r _ (a.loop-i.invariant.1 sh v r f) (chosen_no _ _ w.0.left))) c.if-chosen-i-eq1.branch,
+          (λ w. passed_more r _ (a.loop-i.invariant.1 sh v r f) a.loop-i.invariant.0 l (chosen_yes _ _ w.if-chosen-i-eq1.true) w.to_at.ensures (w.seen-is ∙ w.visit-end.ensures.0)
+          (w.queue-is ∙ w.visit-end.ensures.1.0) (w.end-is ∙ w.visit-end.ensures.1.1))
+          (λ w. rw (w.seen-is, w.queue-is, w.end-is) (passed_over r _ (a.loop-i.invariant.1 sh v r f) (chosen_no _ _ w.if-chosen-i-eq1.false))) c.if-chosen-i-eq1.branch-raw,
     )
 
 same_length : tie.Need-shape_of-seen invariant-loop decreases-loop

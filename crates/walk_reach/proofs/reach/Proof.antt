@@ -22,12 +22,12 @@ cast-clear : tie.Need-overflow_cast-shape invariant-loop decreases-loop
 cast-clear c = search rules
 
 clear-requires : tie.Need-clear-requires invariant-loop decreases-loop
-clear-requires c κs = c.before.before.before.before.before.before.requires.1.1.seen_capacity
+clear-requires c κs = c.requires.1.1.seen_capacity
 
 visit-requires : tie.Need-visit-tail-requires invariant-loop decreases-loop
 visit-requires c κs =
-    let p = c.before.before.before.before.before.before.before.before.before.before.before.requires in
-    (omega (arith, p.1.0, p.1.1.seen_capacity, c.before.before.before.before.clear.auto.0), λ e. omega (arith, p.1.0, p.1.1.queue_capacity))
+    let p = c.requires in
+    (omega (arith, p.1.0, p.1.1.seen_capacity, c.clear.auto.seen), λ e. omega (arith, p.1.0, p.1.1.queue_capacity))
 
 loop-holds : tie.Need-loop-head-init invariant-loop decreases-loop
 loop-holds c = λ s e q a. a
@@ -40,32 +40,32 @@ module _ (c : tie.At-loop-head invariant-loop decreases-loop) where
   search-at : Search start.args.hops.now (chosen_in start.args.chosen.now) start.args.shape.states start.args.s.0 start.args.seen.now start.args.queue.now
       c.loop-head.seen c.loop-head.queue c.loop-head.head c.loop-head.tail
   search-at =
-      let n = c.before.before.before.before.before.visit-tail.ensures in
+      let n = c.visit-tail.ensures in
       c.loop-head.invariant start.args.s.0 start.args.seen.now start.args.queue.now
       (search_starts start.args.shape.states start.args.seen.now start.args.queue.now start.requires.1.1.seen_capacity start.requires.1.1.queue_capacity
-      start.args.hops.now (chosen_in start.args.chosen.now) start.args.s.0 start.requires.1.0 c.before.before.before.before.before.before.before.before.before.before.clear.ensures n.0 n.1.0 n.1.1)
+      start.args.hops.now (chosen_in start.args.chosen.now) start.args.s.0 start.requires.1.0 c.clear.ensures n.0 n.1.0 n.1.1)
 
 mul-t20 : tie.Need-offset_bounds-queue-head invariant-loop decreases-loop
 mul-t20 c = let a = search-at c.before in omega (arith, search_tail a, c.loop-head-test.true, (start c.before).requires.0.tabled.admitted.states_most)
 
 slice-read-t22 : tie.Need-bounds-queue-head invariant-loop decreases-loop
-slice-read-t22 c = let a = search-at c.before.before in omega (arith, search_tail a, a.front.queue_capacity, c.before.loop-head-test.true)
+slice-read-t22 c = let a = search-at c.before.before in omega (arith, search_tail a, a.front.queue_capacity, c.loop-head-test.true)
 
 expand-requires : tie.Need-expand-tail-requires invariant-loop decreases-loop
 expand-requires c κs =
     let a = search-at c.before.before.before.before in
-    ((start c.before.before.before.before).requires.0, ((a.front.from_queue _ c.before.before.before.loop-head-test.true).0, a.front))
+    ((start c.before.before.before.before).requires.0, ((a.front.from_queue _ c.loop-head-test.true).0, a.front))
 
 add-head : tie.Need-overflow_add-head invariant-loop decreases-loop
-add-head c = let a = search-at c.before.before.before.before.before.before.before.before.before in omega (arith, search_tail a, c.before.before.before.before.before.before.before.before.loop-head-test.true, (start c.before.before.before.before.before.before.before.before.before).requires.0.tabled.admitted.states_most)
+add-head c = let a = search-at c.before.before.before.before.before.before.before.before.before in omega (arith, search_tail a, c.loop-head-test.true, (start c.before.before.before.before.before.before.before.before.before).requires.0.tabled.admitted.states_most)
 
 loop-less : tie.Need-loop-head-smaller invariant-loop decreases-loop
-loop-less c = let a = search-at c.before.before.before.before.before.before.before.before.before in omega (arith, search_tail a, c.before.before.before.before.before.before.before.before.loop-head-test.true)
+loop-less c = let a = search-at c.before.before.before.before.before.before.before.before.before in omega (arith, search_tail a, c.loop-head-test.true)
 
 loop-again : tie.Need-loop-head-preserved invariant-loop decreases-loop
 loop-again c =
     λ s e q a.
-    search_steps (start c.before.before.before.before.before.before.before.before.before).requires.0.tabled.admitted.range (c.before.before.before.before.before.before.before.before.before.loop-head.invariant s e q a) c.before.before.before.before.before.before.before.before.loop-head-test.true c.before.before.before.before.expand-tail.ensures
+    search_steps (start c.before.before.before.before.before.before.before.before.before).requires.0.tabled.admitted.range (c.loop-head.invariant s e q a) c.loop-head-test.true c.expand-tail.ensures
 
 same_length : tie.Need-shape_of-seen invariant-loop decreases-loop
 same_length c = (search-at c.before).seen_length

@@ -11,11 +11,11 @@ use Rattle.walk_reach.proofs.Frontier.{visited_yes, visited_no}
 use Rattle.walk_reach.proofs.visit.Statement.{statement}
 use Rattle.walk_reach.proofs.visit.Tie as tie
 
-new : (c : tie.Else-seen-at-eq1) → visited c.before.before.before.args.seen.now c.before.before.before.args.t.0 ≡ false
+new : (c : tie.Else-seen-at-eq1) → visited c.args.seen.now c.args.t.0 ≡ false
 new c = visited_no _ _ c.if-seen-at-eq1.false
 
-capacity : (c : tie.Else-seen-at-eq1) → c.before.before.before.args.tail < length c.before.before.before.args.queue.now
-capacity c = c.before.before.before.requires.1 (new c)
+capacity : (c : tie.Else-seen-at-eq1) → c.args.tail < length c.args.queue.now
+capacity c = c.requires.1 (new c)
 
 cast-at : tie.Need-overflow_cast-at
 cast-at c = search rules
@@ -26,7 +26,7 @@ slice-read-if1 c = search rules
 returns : tie.Need-returns-then-seen-at-eq1
 unfolding seen_with queue_with tail_with
 returns c =
-    let e : visited c.before.before.before.args.seen.now c.before.before.before.args.t.0 ≡ true = visited_yes _ _ c.if-seen-at-eq1.true in
+    let e : visited c.args.seen.now c.args.t.0 ≡ true = visited_yes _ _ c.if-seen-at-eq1.true in
     (rw e, (rw e, rw e))
 
 slice-write-seen : tie.Need-bounds-seen-at-2

@@ -19,7 +19,7 @@ shared-slice-read-if1 c = search rules
 
 returns : tie.Need-returns-then-ranked-at-eq1
 returns c =
-    let p = c.before.before.before.before.before.before.before.before.requires in
+    let p = c.requires in
     sym (no_ring_test p.0.chosen.tabled.admitted.range _ (p.1.1.0.unringed _ p.1.0 (visited_yes _ _ c.if-ranked-at-eq1.true)))
 
 reach-requires : tie.Need-reach-requires
@@ -36,8 +36,8 @@ same-length-2 c = search rules
 
 returns-2 : tie.Need-returns
 returns-2 c =
-    let r = c.before.before.before.before.before.before in
-    let s = r.before.before.before.before.before.before.before.before.before.before.before in
+    let r = c in
+    let s = r in
     ◌∙◌ {b = any (count s.args.hops.now) (leads_back_at s.args.hops.now _ s.args.s.0)} c.returns.ensures
     (back_ring s.requires.0.chosen.tabled.admitted.range s.args.silent.now s.requires.0.silent s.args.s.0 _ _ r.reach.ensures)
 

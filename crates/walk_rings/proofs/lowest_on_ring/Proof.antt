@@ -15,23 +15,23 @@ slice-aggregate-rank-all c = search rules
 
 rank-all-requires : tie.Need-rank_all-requires
 rank-all-requires c κs =
-    let s = c.before.before.before in
+    let s = c in
     let adm = s.requires.admitted in
     (s.requires, record { capacity = adm.states_most; unringed = off_rings_none s.args.hops.now s.args.shape.states most_states adm.states_most })
 
 returns : tie.Need-returns-then-rank_all-n
 returns c =
-    lowest_none c.before.before.before.before.before.before.requires.admitted.range
-    (ranked_all c.before.before.rank_all.ensures (omega (arith, c.if-rank_all-n.true)))
+    lowest_none c.requires.admitted.range
+    (ranked_all c.rank_all.ensures (omega (arith, c.if-rank_all-n.true)))
 
 slice-aggregate-lowest-unranked : tie.Need-slice_bounds-lowest_unranked-end
 slice-aggregate-lowest-unranked c = search rules
 
 lowest-unranked-requires : tie.Need-lowest_unranked-requires
 lowest-unranked-requires c κs =
-    let s = c.before.before.before.before.before.before.before in
-    let r = c.before.before.before.rank_all in
-    (s.requires, record { capacity = omega (arith, s.requires.admitted.states_most, r.auto.1.1.1.0); unringed = r.ensures.unringed })
+    let s = c in
+    let r = c.rank_all in
+    (s.requires, record { capacity = omega (arith, s.requires.admitted.states_most, r.auto.ranked); unringed = r.ensures.unringed })
 
 returns-2 : tie.Need-returns
 returns-2 c = search rules

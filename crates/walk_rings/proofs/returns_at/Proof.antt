@@ -20,8 +20,8 @@ to-at-requires c κs = search rules
 
 shared-slice-read-result : tie.Need-bounds-seen-at
 shared-slice-read-result c =
-    let p = c.before.before.before.before.before.before.before.before.before.before.requires in
-    omega (arith, c.before.before.before.before.before.before.before.from_at-at.ensures, p.0.range.from_in _ p.1.1, p.1.0)
+    let p = c.requires in
+    omega (arith, c.from_at-at.ensures, p.0.range.from_in _ p.1.1, p.1.0)
 
 returns : tie.Need-returns
 unfolding leads_back_at visited

@@ -18,14 +18,14 @@ refuse-requires c κs = search rules
 
 returns : tie.Need-returns-then-s-shape
 unfolding ring_answer
-returns c = c.refuse.ensures ∙ rw (← c.before.before.before.lowest_on_ring-s.ensures, lt-ltb _ _ c.before.if-s-shape.true)
+returns c = c.refuse.ensures ∙ rw (← c.lowest_on_ring-s.ensures, lt-ltb _ _ c.if-s-shape.true)
 
 accept-requires : tie.Need-accept-requires
 accept-requires c κs = search rules
 
 returns-2 : tie.Need-returns
 unfolding ring_answer
-returns-2 c = c.accept.ensures ∙ rw (← c.before.before.before.lowest_on_ring-s.ensures, le-ltb _ _ c.before.if-s-shape.false)
+returns-2 c = c.accept.ensures ∙ rw (← c.lowest_on_ring-s.ensures, le-ltb _ _ c.if-s-shape.false)
 
 pub ring_answer_spec : {M : Type 1} → statement M
 ring_answer_spec = tie.close (tie.spec lowest-on-ring-requires cast-if1 refuse-requires returns accept-requires returns-2)

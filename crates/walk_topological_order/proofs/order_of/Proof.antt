@@ -22,14 +22,14 @@ cast-n c = search rules
 
 loop-holds : tie.Need-loop-at-init invariant-loop decreases-loop
 loop-holds c =
-    let s = c.before.before in
+    let s = c in
     (length-replicate {A = ℕ} most_states 0, ordered_none s.requires.0.admitted.range s.requires.1.1 most_states s.requires.0.admitted.states_most)
 
 abbrev start : tie.At-loop-at invariant-loop decreases-loop → tie.Start invariant-loop decreases-loop
 start a = a.before.before.before
 
 slice-aggregate-place-each : tie.Need-slice_bounds-place_each-end invariant-loop decreases-loop
-slice-aggregate-place-each c = sym c.before.before.before.loop-at.invariant.0
+slice-aggregate-place-each c = sym c.loop-at.invariant.0
 
 place-each-requires : tie.Need-place_each-at-requires invariant-loop decreases-loop
 place-each-requires c κs =
@@ -38,13 +38,13 @@ place-each-requires c κs =
 
 loop-less : tie.Need-loop-at-smaller invariant-loop decreases-loop
 loop-less c =
-    let t = c.before.before.before.before in
-    omega (arith, t.loop-at-test.true, c.before.place_each-at.ensures.more t.loop-at-test.true)
+    let t = c in
+    omega (arith, t.loop-at-test.true, c.place_each-at.ensures.more t.loop-at-test.true)
 
 loop-again : tie.Need-loop-at-preserved invariant-loop decreases-loop
 loop-again c =
-    let p = c.before.place_each-at in
-    (p.auto.1.1.1.1.0 ∙ c.before.before.before.before.before.before.loop-at.invariant.0, p.ensures.ordered)
+    let p = c.place_each-at in
+    (p.auto.placed ∙ c.loop-at.invariant.0, p.ensures.ordered)
 
 returns : tie.Need-returns invariant-loop decreases-loop
 returns c =

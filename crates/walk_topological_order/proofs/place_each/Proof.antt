@@ -26,14 +26,14 @@ abbrev start : tie.At-loop-k invariant-loop decreases-loop → tie.Start invaria
 start a = a.before.before.before.before
 
 loop-holds : tie.Need-loop-k-init invariant-loop decreases-loop
-loop-holds c = let s = c.before.before.before in (refl, s.requires.1.1, placed_or_stuck_none _ s.args.shape.states s.args.down _ _)
+loop-holds c = let s = c in (refl, s.requires.1.1, placed_or_stuck_none _ s.args.shape.states s.args.down _ _)
 
 pass-state-requires : tie.Need-pass_state-requires invariant-loop decreases-loop
 pass-state-requires c κs = c.loop-k-test.true
 
 -- the state that is tried
 in-range : (c : tie.After-pass_state invariant-loop decreases-loop) → c.pass_state.result < (start c.before.before).args.shape.states
-in-range c = pass_state_below _ (start c.before.before).args.down c.pass_state.ensures c.before.loop-k-test.true
+in-range c = pass_state_below _ (start c.before.before).args.down c.pass_state.ensures c.loop-k-test.true
 
 cast-t14 : tie.Need-overflow_cast-v invariant-loop decreases-loop
 cast-t14 c = omega (arith, in-range c, (start c.before.before).requires.0.admitted.states_most)
@@ -45,26 +45,26 @@ place-one-requires c κs =
 
 add-k : tie.Need-overflow_add-k invariant-loop decreases-loop
 add-k c =
-    let w = c.before.before.before.before.before.before in
+    let w = c in
     omega (arith, w.loop-k-test.true, (start w.before).requires.0.admitted.states_most)
 
 loop-less : tie.Need-loop-k-smaller invariant-loop decreases-loop
-loop-less c = omega (arith, c.before.before.before.before.before.before.loop-k-test.true)
+loop-less c = omega (arith, c.loop-k-test.true)
 
 loop-again : tie.Need-loop-k-preserved invariant-loop decreases-loop
 loop-again c =
-    let p = c.before.before.place_one-got in
-    let t = c.before.before.before.before.before in
+    let p = c.place_one-got in
+    let t = c in
     let a = t.before.before in
-    (p.auto.1.1.1.1.0 ∙ a.loop-k.invariant.0, p.ensures.0, placed_or_stuck_more (start a).args.shape.states (start a).args.down a.loop-k.k t.pass_state.ensures a.loop-k.invariant.2 p.ensures.1)
+    (p.auto.placed ∙ a.loop-k.invariant.0, p.ensures.0, placed_or_stuck_more (start a).args.shape.states (start a).args.down a.loop-k.k t.pass_state.ensures a.loop-k.invariant.2 p.ensures.1)
 
 same_length : tie.Need-shape_of-placed invariant-loop decreases-loop
-same_length c = c.before.loop-k.invariant.0
+same_length c = c.loop-k.invariant.0
 
 returns : tie.Need-returns invariant-loop decreases-loop
 returns c =
     let s = start c.before in
-    let i = c.before.loop-k.invariant in
+    let i = c.loop-k.invariant in
     record { ordered = i.1; more = pass_more s.requires.0.admitted.range s.requires.1.0 s.requires.1.1 s.args.down i.2 c.loop-k-test.false }
 
 pub place_each_spec : {M : Type 1} → statement M

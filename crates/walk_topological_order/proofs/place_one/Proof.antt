@@ -28,12 +28,12 @@ slice-read-if1 c = byte c.before.before.before.before
 
 returns : tie.Need-returns-then-placed-s-eq1
 returns c =
-    let s = c.before.before.before.before.before in
+    let s = c in
     (s.requires.1.1, placed_or_stuck_placed _ _ _ _ (visited_yes _ _ c.if-placed-s-eq1.true))
 
 ends-ranked-requires : tie.Need-ends_ranked-requires
 ends-ranked-requires c κs =
-    let s = c.before.before.before.before.before.before in
+    let s = c in
     (s.requires.0, (s.requires.1.1.bytes, s.requires.1.0))
 
 same_length : tie.Need-shape_of-placed-then-not-ends_ranked
@@ -41,8 +41,8 @@ same_length c = refl
 
 returns-2 : tie.Need-returns-then-not-ends_ranked
 returns-2 c =
-    let s = c.before.before.before.before.before.before.before.before in
-    (s.requires.1.1, placed_or_stuck_unready _ _ _ _ (sym {b = ends_visited s.args.hops.now s.args.placed.now s.args.v.0} c.before.ends_ranked.ensures ∙ not-true _ c.if-not-ends_ranked.true-raw))
+    let s = c in
+    (s.requires.1.1, placed_or_stuck_unready _ _ _ _ (sym {b = ends_visited s.args.hops.now s.args.placed.now s.args.v.0} c.ends_ranked.ensures ∙ not-true _ c.if-not-ends_ranked.true-raw))
 
 slice-write-placed : tie.Need-bounds-placed-s-2
 slice-write-placed c = byte c.before.before.before.before.before.before.before.before
@@ -53,10 +53,10 @@ module _ (c : tie.Else-not-ends_ranked) where
   start = c.before.before.before.before.before.before.before.before
 
   off : visited start.args.placed.now start.args.v.0 ≡ false
-  off = visited_no _ _ c.before.before.before.if-placed-s-eq1.false
+  off = visited_no _ _ c.if-placed-s-eq1.false
 
   ready : ends_visited start.args.hops.now start.args.placed.now start.args.v.0 ≡ true
-  ready = sym {b = ends_visited start.args.hops.now start.args.placed.now start.args.v.0} c.before.ends_ranked.ensures ∙ not-false _ c.if-not-ends_ranked.false-raw
+  ready = sym {b = ends_visited start.args.hops.now start.args.placed.now start.args.v.0} c.ends_ranked.ensures ∙ not-false _ c.if-not-ends_ranked.false-raw
 
 put-row-requires : tie.Need-put_row-places-requires
 put-row-requires c κs =
@@ -75,7 +75,7 @@ returns-3 : tie.Need-returns
 returns-3 c =
     let e = c.before.before.before in
     let s = start e in
-    (ordered_one s.requires.1.1 s.args.v.0 s.requires.1.0 (off e) (ready e) c.before.put_row-places.ensures, more (omega arith))
+    (ordered_one s.requires.1.1 s.args.v.0 s.requires.1.0 (off e) (ready e) c.put_row-places.ensures, more (omega arith))
 
 pub place_one_spec : {M : Type 1} → statement M
 place_one_spec =

@@ -27,7 +27,7 @@ wide-requires c κs = search rules
 
 -- v is a state that can be
 low : (c : tie.After-wide-s invariant-loop decreases-loop) → c.wide-s.result < most_states
-low c = let s = c.before.before in omega (arith, c.wide-s.ensures, s.requires.1.0, s.requires.0.admitted.states_most)
+low c = let s = c in omega (arith, c.wide-s.ensures, s.requires.1.0, s.requires.0.admitted.states_most)
 
 add-start-of : tie.Need-overflow_add-s invariant-loop decreases-loop
 add-start-of c = omega (arith, low c)
@@ -44,13 +44,13 @@ module _ (c : tie.After-start_of-i invariant-loop decreases-loop) where
   start = c.before.before.before.before
 
   abbrev state : ℕ
-  state = c.before.before.wide-s.result
+  state = c.wide-s.result
 
   lo_is : c.start_of-i.result ≡ first_of start.args.hops.now state
   lo_is = start_is start.args.hops.now start.args.starts.now start.requires.0.table state refl (omega (arith, low c.before.before)) c.start_of-i.ensures
 
-  hi_is : c.before.start_of-past.result ≡ first_of start.args.hops.now (state + 1)
-  hi_is = start_is start.args.hops.now start.args.starts.now start.requires.0.table (state + 1) refl (omega (arith, low c.before.before)) c.before.start_of-past.ensures
+  hi_is : c.start_of-past.result ≡ first_of start.args.hops.now (state + 1)
+  hi_is = start_is start.args.hops.now start.args.starts.now start.requires.0.table (state + 1) refl (omega (arith, low c.before.before)) c.start_of-past.ensures
 
 loop-holds : tie.Need-loop-i-init invariant-loop decreases-loop
 loop-holds c = putting_none (omega (arith, lo-is c, first_within (start c).args.hops.now (start c).requires.0.admitted.ascending (state c)))
@@ -60,7 +60,7 @@ module _ (c : tie.In-loop-i invariant-loop decreases-loop) where
   abbrev first : tie.After-start_of-i invariant-loop decreases-loop
   first = c.before.before
 
-  here : c.before.loop-i.i < count (start first).args.hops.now
+  here : c.loop-i.i < count (start first).args.hops.now
   here = omega (arith, c.loop-i-test.true, hi-is first, first_within (start first).args.hops.now (start first).requires.0.admitted.ascending (state first + 1))
 
 label-at-requires : tie.Need-label_at-requires invariant-loop decreases-loop
@@ -68,33 +68,33 @@ label-at-requires c κs = here c
 
 -- the row ends where no silent hop of v stands
 done : (c : tie.At-loop-i invariant-loop decreases-loop) →
-    (c.loop-i.i < c.before.before.start_of-past.result → label (start c.before).args.hops.now c.loop-i.i ≡ 0 → ⊥) →
+    (c.loop-i.i < c.start_of-past.result → label (start c.before).args.hops.now c.loop-i.i ≡ 0 → ⊥) →
     RowAppended (start c.before).args.hops.now (start c.before).args.v.0 (start c.before).args.sorted.now (start c.before).args.n c.loop-i.sorted c.loop-i.at
 done c g =
     let f = c.before in
-    put_result _ f.before.before.wide-s.ensures (putting_done (start f).requires.0.admitted.ascending (lo-is f) (hi-is f) c.loop-i.invariant g)
+    put_result _ f.wide-s.ensures (putting_done (start f).requires.0.admitted.ascending (lo-is f) (hi-is f) c.loop-i.invariant g)
 
 returns : tie.Need-returns-then-label_at-ne0 invariant-loop decreases-loop
-returns c = done c.before.before.before.before (λ l e. c.if-label_at-ne0.true (c.before.before.label_at.ensures ∙ e))
+returns c = done c.before.before.before.before (λ l e. c.if-label_at-ne0.true (c.label_at.ensures ∙ e))
 
 -- a silent hop of v
 module _ (c : tie.Else-label_at-ne0 invariant-loop decreases-loop) where
   abbrev pass-state : tie.In-loop-i invariant-loop decreases-loop
   pass-state = c.before.before.before
 
-  own : labelled (start (first pass-state)).args.hops.now (state (first pass-state)) 0 pass-state.before.loop-i.i ≡ true
+  own : labelled (start (first pass-state)).args.hops.now (state (first pass-state)) 0 pass-state.loop-i.i ≡ true
   unfolding past_of
   own =
       let s = start (first pass-state) in
-      labelled_yes s.args.hops.now (state (first pass-state)) 0 pass-state.before.loop-i.i
-      (range_only s.args.hops.now s.requires.0.admitted.ascending (state (first pass-state)) (here pass-state) (omega (arith, lo-is (first pass-state), pass-state.before.loop-i.inv.passed))
+      labelled_yes s.args.hops.now (state (first pass-state)) 0 pass-state.loop-i.i
+      (range_only s.args.hops.now s.requires.0.admitted.ascending (state (first pass-state)) (here pass-state) (omega (arith, lo-is (first pass-state), pass-state.loop-i.inv.passed))
       (omega (arith, hi-is (first pass-state), pass-state.loop-i-test.taken)))
-      (sym c.before.before.label_at.ensures ∙ c.if-label_at-ne0.false)
+      (sym c.label_at.ensures ∙ c.if-label_at-ne0.false)
 
-  capacity : pass-state.before.loop-i.at < count (start (first pass-state)).args.hops.now
-  capacity = omega (arith, putting_capacity pass-state.before.loop-i.inv (here pass-state) own, row_result (start (first pass-state)).args.hops.now (first pass-state).before.before.wide-s.ensures, (start (first pass-state)).requires.1.1.0)
+  capacity : pass-state.loop-i.at < count (start (first pass-state)).args.hops.now
+  capacity = omega (arith, putting_capacity pass-state.loop-i.inv (here pass-state) own, row_result (start (first pass-state)).args.hops.now (first pass-state).before.wide-s.ensures, (start (first pass-state)).requires.1.1.0)
 
-  low-capacity : pass-state.before.loop-i.at < most_hops
+  low-capacity : pass-state.loop-i.at < most_hops
   low-capacity = omega (arith, capacity, (start (first pass-state)).requires.0.admitted.hops_most)
 
 cast-sorted : tie.Need-overflow_cast-sorted invariant-loop decreases-loop

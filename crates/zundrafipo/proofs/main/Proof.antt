@@ -36,7 +36,7 @@ array-share-prefix-out : tie.Need-slice_bounds-out-end
 array-share-prefix-out c = search rules
 
 slice-aggregate-write-all-2 : tie.Need-slice-aggregate-write-all-2
-slice-aggregate-write-all-2 c = sym (length-take-le _ _ c.before.before.print_file-length.ensures.1.1)
+slice-aggregate-write-all-2 c = sym (length-take-le _ _ c.print_file-length.ensures.1.1)
 
 write-all-requires-2 : tie.Need-write_all-requires-2
 write-all-requires-2 c κs = search rules

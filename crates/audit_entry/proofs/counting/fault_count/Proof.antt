@@ -16,29 +16,29 @@ starts-of-requires : tie.Need-starts_of-starts2-requires
 starts-of-requires c κs = search rules
 
 images-of-requires : tie.Need-images_of-images-requires
-images-of-requires c κs = (c.before.before.before.before.before.requires, c.before.starts_of-starts2.ensures)
+images-of-requires c κs = (c.requires, c.starts_of-starts2.ensures)
 
 initial-fault-requires : tie.Need-initial_fault-initial-requires
 initial-fault-requires c κs =
-    let p = c.before.before.before.before.before.before.requires in (omega (arith, p.one_a_state, p.admitted.initial_in), omega (arith, p.one_a_state, p.admitted.states_most))
+    let p = c.requires in (omega (arith, p.one_a_state, p.admitted.initial_in), omega (arith, p.one_a_state, p.admitted.states_most))
 
 lost-faults-requires : tie.Need-lost_faults-lost-requires
-lost-faults-requires c κs = (c.before.before.before.before.before.before.before.before.requires, c.before.before.images_of-images.ensures)
+lost-faults-requires c κs = (c.requires, c.images_of-images.ensures)
 
 all-unmatched-requires : tie.Need-all_unmatched-made_up-requires
-all-unmatched-requires c κs = (c.before.before.before.before.before.before.before.before.before.before.before.requires, (c.before.before.before.before.before.before.before.starts_of-starts2.ensures, c.before.before.before.before.before.images_of-images.ensures))
+all-unmatched-requires c κs = (c.requires, (c.starts_of-starts2.ensures, c.images_of-images.ensures))
 
 -- the first two sums, and what they are at most
 module _ (c : tie.After-all_unmatched-made_up) where
   abbrev start : tie.Start
   start = c.before.before.before.before.before.before.before.before.before.before.before.before
 
-  first_two : c.before.before.before.before.before.initial_fault-initial.result.faults + c.before.before.before.lost_faults-lost.result.faults ≤ 1 + most_hops
+  first_two : c.initial_fault-initial.result.faults + c.lost_faults-lost.result.faults ≤ 1 + most_hops
   first_two =
       omega (
         arith,
-        c.before.before.before.before.before.initial_fault-initial.ensures.0,
-        c.before.before.before.lost_faults-lost.ensures.0,
+        c.initial_fault-initial.ensures.0,
+        c.lost_faults-lost.ensures.0,
         initial_most start.args.shape1 start.args.shape2 start.args.map.now,
         lost_most start.args.hops1.now start.args.hops2.now start.args.map.now,
         start.requires.admitted.hops_most,
@@ -49,11 +49,11 @@ add-t17 c = omega (arith, first_two c.before.before)
 
 add-t18 : tie.Need-overflow_add-result-2
 add-t18 c =
-    let s = c.before.before.before.before.before.before.before.before.before.before.before.before.before.before.before in
+    let s = c in
     omega (
       arith,
       first_two c.before.before.before,
-      c.before.before.before.all_unmatched-made_up.ensures.0,
+      c.all_unmatched-made_up.ensures.0,
       unmatched_few s.args.shape1 s.args.hops1.now s.args.hops2.now s.args.map.now s.requires.admitted.states_most s.requires.ready.hops_most,
     )
 
@@ -70,8 +70,8 @@ named d e a b c = e ∙ rw (d, a, b, c)
 returns : tie.Need-returns
 unfolding faults_of first_fault
 returns c = (
-  omega (arith, c.before.before.before.before.before.before.before.before.before.before.initial_fault-initial.ensures.0, c.before.before.before.before.before.before.before.before.lost_faults-lost.ensures.0, c.before.before.before.before.before.all_unmatched-made_up.ensures.0),
-  named c.before.or_else.ensures c.or_else-2.ensures c.before.before.before.before.before.before.before.before.before.before.initial_fault-initial.ensures.1 c.before.before.before.before.before.before.before.before.lost_faults-lost.ensures.1 c.before.before.before.before.before.all_unmatched-made_up.ensures.1,
+  omega (arith, c.initial_fault-initial.ensures.0, c.lost_faults-lost.ensures.0, c.all_unmatched-made_up.ensures.0),
+  named c.or_else.ensures c.or_else-2.ensures c.initial_fault-initial.ensures.1 c.lost_faults-lost.ensures.1 c.all_unmatched-made_up.ensures.1,
 )
 
 pub fault_count_spec : {M : Type 1} → statement M

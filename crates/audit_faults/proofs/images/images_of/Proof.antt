@@ -27,15 +27,15 @@ loop-holds c = (search rules, omega arith, length-replicate {A = ℕ} most_hops 
 
 image-at-requires : tie.Need-image_at-requires invariant-loop decreases-loop
 image-at-requires c κs =
-    let s = c.before.before.before.before.before.before in
-    (s.requires.0, (s.requires.1, omega (arith, c.before.loop-i.invariant.0, c.loop-i-test.true)))
+    let s = c in
+    (s.requires.0, (s.requires.1, omega (arith, c.loop-i.invariant.0, c.loop-i-test.true)))
 
 mul-images : tie.Need-offset_bounds-images-i invariant-loop decreases-loop
 mul-images c = search rules
 
 array-write-images : tie.Need-bounds-images-i invariant-loop decreases-loop
 array-write-images c =
-    let s = c.before.before.before.before.before.before.before in
+    let s = c in
     omega (arith, s.requires.0.admitted.hops_most)
 
 add-i : tie.Need-overflow_add-i invariant-loop decreases-loop
@@ -46,18 +46,18 @@ loop-less c = search rules
 
 loop-again : tie.Need-loop-i-preserved invariant-loop decreases-loop
 loop-again c =
-    let s = c.before.before.before.before.before.before.before in
-    let v = c.before.before.loop-i.invariant in (
+    let s = c in
+    let v = c.loop-i.invariant in (
       search rules,
       omega arith,
       simp length-set v.2,
-      filled_more (image_of s.args.hops1.now s.args.hops2.now s.args.map.now) c.before.before.loop-i.images
+      filled_more (image_of s.args.hops1.now s.args.hops2.now s.args.map.now) c.loop-i.images
           (omega (arith, s.requires.0.admitted.hops_most)) c.image_at.ensures v.3,
     )
 
 returns : tie.Need-returns invariant-loop decreases-loop
 unfolding Imaged
-returns c = λ j l. c.before.loop-i.invariant.3 j (omega arith)
+returns c = λ j l. c.loop-i.invariant.3 j (omega arith)
 
 pub images_of_spec : {M : Type 1} → statement M
 images_of_spec =

@@ -35,17 +35,17 @@ module _ (c : tie.At-loop-i invariant-loop decreases-loop) where
 
 is-preserved-requires : tie.Need-is_preserved-requires invariant-loop decreases-loop
 is-preserved-requires c κs =
-    let s = start c.before in (s.requires.0, (s.requires.1, omega (arith, c.before.loop-i.invariant.0, c.loop-i-test.true)))
+    let s = start c.before in (s.requires.0, (s.requires.1, omega (arith, c.loop-i.invariant.0, c.loop-i-test.true)))
 
 -- the test at the place that was looked at
-lost-is : (c : tie.After-is_preserved invariant-loop decreases-loop) {x : Bool} → not c.is_preserved.result ≡ x → lost c.before.before c.before.before.loop-i.i ≡ x
+lost-is : (c : tie.After-is_preserved invariant-loop decreases-loop) {x : Bool} → not c.is_preserved.result ≡ x → lost c.before.before c.loop-i.i ≡ x
 lost-is c {x} e = rw c.is_preserved.ensures at e
 
 returns : tie.Need-returns-then-not-is_preserved invariant-loop decreases-loop
 unfolding lost_place
 returns c =
     let a = c.before.before.before in
-    sym (least_found (lost a) (count (start a).args.hops1.now) (omega (arith, a.loop-i.invariant.0, c.before.before.loop-i-test.true)) a.loop-i.invariant.2 (lost-is c.before c.if-not-is_preserved.true-raw))
+    sym (least_found (lost a) (count (start a).args.hops1.now) (omega (arith, a.loop-i.invariant.0, c.loop-i-test.true)) a.loop-i.invariant.2 (lost-is c.before c.if-not-is_preserved.true-raw))
 
 add-i : tie.Need-overflow_add-i invariant-loop decreases-loop
 add-i c = search rules
@@ -59,7 +59,7 @@ loop-again c =
 
 returns-2 : tie.Need-returns invariant-loop decreases-loop
 unfolding lost_place
-returns-2 c = sym (least_done _ (omega arith) (omega arith) c.before.loop-i.invariant.2 ∙ sym (omega arith))
+returns-2 c = sym (least_done _ (omega arith) (omega arith) c.loop-i.invariant.2 ∙ sym (omega arith))
 
 pub first_lost_spec : {M : Type 1} → statement M
 first_lost_spec =

@@ -17,10 +17,10 @@ no-fault-requires : tie.Need-no_fault-requires
 no-fault-requires c κs = search rules
 
 returns : tie.Need-returns-then-r-shape2
-returns c = initial_joined _ _ _ c.before.before.before.before.map_at-r.ensures c.before.if-r-shape2.true c.no_fault.ensures
+returns c = initial_joined _ _ _ c.map_at-r.ensures c.if-r-shape2.true c.no_fault.ensures
 
 returns-2 : tie.Need-returns
-returns-2 c = initial_parted _ _ _ c.before.before.before.map_at-r.ensures c.if-r-shape2.false
+returns-2 c = initial_parted _ _ _ c.map_at-r.ensures c.if-r-shape2.false
 
 pub initial_fault_spec : {M : Type 1} → statement M
 initial_fault_spec = tie.close (tie.spec cast-t5 map-at-requires cast-if1 no-fault-requires returns returns-2)

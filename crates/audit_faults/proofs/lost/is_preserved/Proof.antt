@@ -51,12 +51,12 @@ label-at-requires c κs = search rules
 
 returns-2 : tie.Need-returns
 returns-2 c =
-    let l = c.before.before.before in
-    let e = l.before.before.before.before.before in
+    let l = c in
+    let e = l in
     let s = start e.before in
     preserved_no_place s.args.hops1.now s.args.hops2.now s.args.map.now s.requires.0.ready s.args.i (place_is e.before) e.if-wide-ne-NO_PLACE.false
-    l.before.before.before.before.from_at.ensures l.before.before.before.map_at-r.ensures l.label_at.ensures l.before.before.to_at.ensures
-    l.before.map_at-q.ensures
+    l.from_at.ensures l.map_at-r.ensures l.label_at.ensures l.to_at.ensures
+    l.map_at-q.ensures
 
 pub is_preserved_spec : {M : Type 1} → statement M
 is_preserved_spec =

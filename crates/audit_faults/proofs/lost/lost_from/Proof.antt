@@ -27,7 +27,7 @@ hop-count-requires c κs = search rules
 loop-holds : tie.Need-loop-i-init invariant-loop decreases-loop
 unfolding lost_place
 loop-holds c =
-    let s = c.before.before.before.before in
+    let s = c in
     let test : ℕ → Bool = λ j. not (preserved s.args.hops1.now s.args.hops2.now s.args.map.now j) in
     let at = s.requires.1.1 in
     (search rules, omega (arith, at, least_within test (count s.args.hops1.now)), rw at (sym (tally_least test (count s.args.hops1.now))))
@@ -42,10 +42,10 @@ module _ (c : tie.At-loop-i invariant-loop decreases-loop) where
 
 is-preserved-requires : tie.Need-is_preserved-requires invariant-loop decreases-loop
 is-preserved-requires c κs =
-    let s = start c.before in (s.requires.0, (s.requires.1.0, omega (arith, c.before.loop-i.invariant.0, c.loop-i-test.true)))
+    let s = start c.before in (s.requires.0, (s.requires.1.0, omega (arith, c.loop-i.invariant.0, c.loop-i-test.true)))
 
 -- the test at the place that was looked at
-lost-is : (c : tie.After-is_preserved invariant-loop decreases-loop) {x : Bool} → not c.is_preserved.result ≡ x → lost c.before.before c.before.before.loop-i.i ≡ x
+lost-is : (c : tie.After-is_preserved invariant-loop decreases-loop) {x : Bool} → not c.is_preserved.result ≡ x → lost c.before.before c.loop-i.i ≡ x
 lost-is c {x} e = rw c.is_preserved.ensures at e
 
 add-faults : tie.Need-overflow_add-faults invariant-loop decreases-loop
@@ -67,7 +67,7 @@ loop-again c = let a = c.before.before.before in (
 
 returns : tie.Need-returns invariant-loop decreases-loop
 unfolding lost_faults
-returns c = tally_done _ (omega arith) (omega arith) c.before.loop-i.invariant.2
+returns c = tally_done _ (omega arith) (omega arith) c.loop-i.invariant.2
 
 pub lost_from_spec : {M : Type 1} → statement M
 lost_from_spec =

@@ -13,7 +13,7 @@ same-length-2 : tie.Need-shape_of-answer
 same-length-2 c = search rules
 
 returns : tie.Need-returns
-returns c = c.before.before.before.before.read_into.ensures
+returns c = c.read_into.ensures
 
 pub zf_read_spec : {M : Type 1} → statement M
 zf_read_spec = tie.close (tie.spec read-into-requires same_length same-length-2 returns)

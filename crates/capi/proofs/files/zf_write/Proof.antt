@@ -14,7 +14,7 @@ same-length-2 : tie.Need-shape_of-answer
 same-length-2 c = search rules
 
 returns : tie.Need-returns
-returns c = c.before.before.before.before.write_into.ensures
+returns c = c.write_into.ensures
 
 pub zf_write_spec : {M : Type 1} → statement M
 zf_write_spec = tie.close (tie.spec write-into-requires same_length same-length-2 returns)

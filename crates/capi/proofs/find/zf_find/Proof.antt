@@ -10,7 +10,7 @@ same_length : tie.Need-shape_of-answer
 same_length c = search rules
 
 returns : tie.Need-returns
-returns c = c.before.before.find_into.ensures
+returns c = c.find_into.ensures
 
 pub zf_find_spec : {M : Type 1} → statement M
 zf_find_spec = tie.close (tie.spec find-into-requires same_length returns)

@@ -11,7 +11,7 @@ same_length : tie.Need-shape_of-answer
 same_length c = search rules
 
 returns : tie.Need-returns
-returns c = c.before.before.check_into.ensures
+returns c = c.check_into.ensures
 
 pub zf_check_spec : {M : Type 1} → statement M
 zf_check_spec = tie.close (tie.spec check-into-requires same_length returns)

@@ -14,7 +14,7 @@ same-length-2 : tie.Need-shape_of-answer
 same-length-2 c = search rules
 
 returns : tie.Need-returns
-returns c = c.before.before.before.before.mark_fast_into.ensures
+returns c = c.mark_fast_into.ensures
 
 pub zf_mark_fast_spec : {M : Type 1} → statement M
 zf_mark_fast_spec = tie.close (tie.spec mark-fast-into-requires same_length same-length-2 returns)

@@ -11,7 +11,7 @@ same_length : tie.Need-shape_of-answer
 same_length c = search rules
 
 returns : tie.Need-returns
-returns c = c.before.before.round_into.ensures
+returns c = c.round_into.ensures
 
 pub zf_round_spec : {M : Type 1} → statement M
 zf_round_spec = tie.close (tie.spec round-into-requires same_length returns)

@@ -11,7 +11,7 @@ same_length : tie.Need-shape_of-answer
 same_length c = search rules
 
 returns : tie.Need-returns
-returns c = c.before.before.audit_into.ensures
+returns c = c.audit_into.ensures
 
 pub zf_audit_spec : {M : Type 1} → statement M
 zf_audit_spec = tie.close (tie.spec audit-into-requires same_length returns)

@@ -17,7 +17,7 @@ same-length-3 : tie.Need-shape_of-answer
 same-length-3 c = search rules
 
 returns : tie.Need-returns
-returns c = c.before.before.before.before.before.before.reduce_into.ensures
+returns c = c.reduce_into.ensures
 
 pub zf_reduce_spec : {M : Type 1} → statement M
 zf_reduce_spec = tie.close (tie.spec reduce-into-requires same_length same-length-2 same-length-3 returns)

@@ -17,7 +17,7 @@ same-length-3 : tie.Need-shape_of-answer
 same-length-3 c = search rules
 
 returns : tie.Need-returns
-returns c = c.before.before.before.before.before.before.shrink_into.ensures
+returns c = c.shrink_into.ensures
 
 pub zf_shrink_spec : {M : Type 1} → statement M
 zf_shrink_spec = tie.close (tie.spec shrink-into-requires same_length same-length-2 same-length-3 returns)

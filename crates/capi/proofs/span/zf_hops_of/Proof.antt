@@ -11,7 +11,7 @@ same_length : tie.Need-shape_of-answer
 same_length c = search rules
 
 returns : tie.Need-returns
-returns c = c.before.before.hops_of_into.ensures
+returns c = c.hops_of_into.ensures
 
 pub zf_hops_of_spec : {M : Type 1} → statement M
 zf_hops_of_spec = tie.close (tie.spec hops-of-into-requires same_length returns)

@@ -23,7 +23,7 @@ hop-count-requires : tie.Need-hop_count-n-requires invariant-loop decreases-loop
 hop-count-requires c κs = search rules
 
 loop-holds : tie.Need-loop-i-init invariant-loop decreases-loop
-loop-holds c = (hops_none c.before.before.before.args.at c.before.before.before.args.out.now c.before.before.before.args.hops.now, refl, omega arith, c.hop_count-n.ensures, c.before.before.before.requires)
+loop-holds c = (hops_none c.args.at c.args.out.now c.args.hops.now, refl, omega arith, c.hop_count-n.ensures, c.requires)
 
 mul-put-hop-bytes : tie.Need-overflow_mul-i invariant-loop decreases-loop
 mul-put-hop-bytes c = search rules
@@ -44,13 +44,13 @@ loop-less : tie.Need-loop-i-smaller invariant-loop decreases-loop
 loop-less c = search rules
 
 loop-again : tie.Need-loop-i-preserved invariant-loop decreases-loop
-loop-again c = (hops_more c.before.before.before.before.before.before.before.before.before.before.args.at c.before.before.before.before.before.before.before.before.before.before.args.out.now c.before.before.before.before.before.before.before.before.before.before.args.hops.now c.before.before.before.before.before.before.loop-i.invariant.0 c.before.before.before.hop_at.ensures c.before.before.put_hop_bytes.ensures (omega arith) c.before.before.before.before.before.before.loop-i.invariant.4, omega arith, omega arith, c.before.before.before.before.before.before.loop-i.invariant.3, c.before.before.before.before.before.before.loop-i.invariant.4)
+loop-again c = (hops_more c.args.at c.args.out.now c.args.hops.now c.loop-i.invariant.0 c.hop_at.ensures c.put_hop_bytes.ensures (omega arith) c.loop-i.invariant.4, omega arith, omega arith, c.loop-i.invariant.3, c.loop-i.invariant.4)
 
 same_length : tie.Need-shape_of-out invariant-loop decreases-loop
 same_length c = search rules
 
 returns : tie.Need-returns invariant-loop decreases-loop
-returns c = hops_done c.before.before.before.before.before.args.at c.before.before.before.before.before.args.out.now c.before.before.before.before.before.args.hops.now c.before.loop-i.invariant.0 c.before.loop-i.invariant.3 (omega arith) (omega arith)
+returns c = hops_done c.args.at c.args.out.now c.args.hops.now c.loop-i.invariant.0 c.loop-i.invariant.3 (omega arith) (omega arith)
 
 pub put_each_hop_spec : {M : Type 1} → statement M
 put_each_hop_spec =

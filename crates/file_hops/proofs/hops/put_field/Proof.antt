@@ -24,7 +24,7 @@ same_length : tie.Need-shape_of-out
 same_length c = search rules
 
 returns : tie.Need-returns
-returns c = field_put c.before.before.before.before.before.before.before.before.before.before.before.args.at c.before.before.before.before.before.before.before.before.before.before.before.args.out.now c.before.before.before.before.before.before.before.before.before.before.before.args.hops.now c.before.before.before.before.before.before.before.hop_count.ensures c.before.before.before.before.before.before.put_number.ensures c.before.before.put_each_hop.ensures (omega (arith, c.before.before.before.before.before.before.before.before.before.before.before.requires.1))
+returns c = field_put c.args.at c.args.out.now c.args.hops.now c.hop_count.ensures c.put_number.ensures c.put_each_hop.ensures (omega (arith, c.requires.1))
 
 pub put_field_spec : {M : Type 1} → statement M
 put_field_spec =

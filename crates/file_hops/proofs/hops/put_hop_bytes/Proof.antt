@@ -24,7 +24,7 @@ same_length : tie.Need-shape_of-out
 same_length c = search rules
 
 returns : tie.Need-returns
-returns c = hop_put _ _ _ c.before.before.before.before.before.before.before.before.before.before.before.before.before.requires c.before.before.before.before.before.before.before.before.before.before.put_number.ensures c.before.before.before.before.before.before.put_number-2.ensures c.before.before.put_number-3.ensures
+returns c = hop_put _ _ _ c.requires c.put_number.ensures c.put_number-2.ensures c.put_number-3.ensures
 
 pub put_hop_bytes_spec : {M : Type 1} → statement M
 put_hop_bytes_spec =

@@ -23,13 +23,13 @@ decreases-loop file at lines n hops₀ i₀ hops i = n - i
 
 loop-holds : tie.Need-loop-i-init invariant-loop decreases-loop
 loop-holds c =
-    let a = c.before.before.args in
-    (by_none (hop_in a.file.now a.at a.lines) a.hops-1.now, refl, omega arith, c.before.before.requires.1.1, c.before.before.requires.0, c.before.before.requires.1.0)
+    let a = c.args in
+    (by_none (hop_in a.file.now a.at a.lines) a.hops.now, refl, omega arith, c.requires.1.1, c.requires.0, c.requires.1.0)
 
 hop-in-requires : tie.Need-hop_in-requires invariant-loop decreases-loop
 hop-in-requires c κs =
-    let v = c.before.before.loop-i in
-    (v.invariant.4 v.i c.before.loop-i-test.true, λ s. omega (arith, v.invariant.5 s))
+    let v = c.loop-i in
+    (v.invariant.4 v.i c.loop-i-test.true, λ s. omega (arith, v.invariant.5 s))
 
 put-hop-requires : tie.Need-put_hop-requires invariant-loop decreases-loop
 put-hop-requires c κs = omega arith
@@ -42,9 +42,9 @@ loop-less c = search rules
 
 loop-again : tie.Need-loop-i-preserved invariant-loop decreases-loop
 loop-again c =
-    let a = c.before.before.before.before.before.before.before.before.before.args in
-    let v = c.before.before.before.before.before.before.loop-i.invariant in (
-      c.before.before.put_hop.ensures ∙ by_more (hop_in a.file.now a.at a.lines) a.hops-1.now v.0 c.before.before.before.hop_in.ensures (omega arith),
+    let a = c.args in
+    let v = c.loop-i.invariant in (
+      c.put_hop.ensures ∙ by_more (hop_in a.file.now a.at a.lines) a.hops.now v.0 c.hop_in.ensures (omega arith),
       omega arith,
       omega arith,
       v.3,
@@ -58,8 +58,8 @@ same_length c = search rules
 returns : tie.Need-returns invariant-loop decreases-loop
 unfolding over hops_in_field
 returns c =
-    let a = c.before.before.before.before.args in
-    by_done (hop_in a.file.now a.at a.lines) a.hops-1.now c.before.loop-i.invariant.0 (omega arith) (omega arith)
+    let a = c.args in
+    by_done (hop_in a.file.now a.at a.lines) a.hops.now c.loop-i.invariant.0 (omega arith) (omega arith)
 
 pub take_hops_spec : {M : Type 1} → statement M
 take_hops_spec =

@@ -18,7 +18,7 @@ refuse-requires : tie.Need-refuse-requires
 refuse-requires c κs = search rules
 
 returns : tie.Need-returns-then-count-gt-MOST_HOPS
-returns c = c.refuse.ensures ∙ graph_many _ c.before.before.hops_in-count.ensures c.before.if-count-gt-MOST_HOPS.true
+returns c = c.refuse.ensures ∙ graph_many _ c.hops_in-count.ensures c.if-count-gt-MOST_HOPS.true
 
 hops-place-requires : tie.Need-hops_place-requires
 hops-place-requires c κs = search rules
@@ -31,9 +31,9 @@ slice-aggregate-take-hops c = search rules
 
 take-hops-requires : tie.Need-take_hops-requires
 take-hops-requires c κs =
-    let b = c.before.before.before.before.before.before.args.file.now in
-    let n = c.before.before.before.before.hops_in-count.ensures in
-    (hops_lie b (omega (arith, names_before_end b)) c.before.before.hops_place.ensures n, (lines_lie b c.before.before.before.before.before.before.requires c.before.lines_in.ensures n, omega arith))
+    let b = c.args.file.now in
+    let n = c.hops_in-count.ensures in
+    (hops_lie b (omega (arith, names_before_end b)) c.hops_place.ensures n, (lines_lie b c.requires c.lines_in.ensures n, omega arith))
 
 number-place-requires : tie.Need-number_place-end-requires
 number-place-requires c κs = search rules
@@ -56,7 +56,7 @@ check-requires c κs = search rules
 returns-2 : tie.Need-returns
 returns-2 c =
     c.check.ensures ∙
-    graph_copied _ c.before.before.before.before.before.before.before.before.before.hops_place.ensures c.before.before.before.before.before.before.before.before.lines_in.ensures c.before.before.before.before.before.before.before.before.before.before.before.hops_in-count.ensures _ _ c.before.before.before.before.before.before.take_hops.ensures c.before.before.before.shape_in.ensures c.before.before.before.before.number_place-end.ensures
+    graph_copied _ c.hops_place.ensures c.lines_in.ensures c.hops_in-count.ensures _ _ c.take_hops.ensures c.shape_in.ensures c.number_place-end.ensures
 
 pub hops_answer_spec : {M : Type 1} → statement M
 hops_answer_spec =

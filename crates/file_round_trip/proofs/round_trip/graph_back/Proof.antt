@@ -15,7 +15,7 @@ refusal-requires : tie.Need-refusal-requires
 refusal-requires c κs = search rules
 
 returns : tie.Need-returns-then-given-ne0
-returns c = let g = back_refused c.before.before.before.before.before.before.before.before.args.shape c.before.before.before.before.before.before.before.before.args.hops.now c.before.before.before.before.before.before.before.before.args.names.now c.before.before.before.before.before.before.before.before.args.file.now c.before.before.before.before.before.before.before.before.args.again.now (back_graph c.before.before.before.before.before.before.before.before.args.shape c.before.before.before.before.before.before.before.before.args.hops.now c.before.before.before.before.before.before.before.before.args.names.now c.before.before.before.before.before.before.before.before.args.file.now c.before.before.before.before.before.before.before.before.args.again.now c.before.before.before.given_answer-given.ensures c.before.if-given-ne0.true) c.before.if-given-ne0.true in
+returns c = let g = back_refused c.args.shape c.args.hops.now c.args.names.now c.args.file.now c.args.again.now (back_graph c.args.shape c.args.hops.now c.args.names.now c.args.file.now c.args.again.now c.given_answer-given.ensures c.if-given-ne0.true) c.if-given-ne0.true in
     (c.refusal.ensures ∙ g.0, g.1)
 
 refuse-requires : tie.Need-refuse-requires
@@ -25,7 +25,7 @@ refusal-requires-2 : tie.Need-refusal-requires-then-again-hops
 refusal-requires-2 c κs = search rules
 
 returns-2 : tie.Need-returns-then-again-hops
-returns-2 c = let g = back_refused c.before.before.before.before.before.before.before.before.before.before.args.shape c.before.before.before.before.before.before.before.before.before.before.args.hops.now c.before.before.before.before.before.before.before.before.before.before.args.names.now c.before.before.before.before.before.before.before.before.before.before.args.file.now c.before.before.before.before.before.before.before.before.before.before.args.again.now (c.before.refuse.ensures ∙ back_capacity c.before.before.before.before.before.before.before.before.before.before.args.shape c.before.before.before.before.before.before.before.before.before.before.args.hops.now c.before.before.before.before.before.before.before.before.before.before.args.names.now c.before.before.before.before.before.before.before.before.before.before.args.file.now c.before.before.before.before.before.before.before.before.before.before.args.again.now c.before.before.before.before.before.given_answer-given.ensures c.before.before.before.if-given-ne0.false c.before.before.if-again-hops.true) (row_refuses c.before.refuse.ensures (omega arith)) in
+returns-2 c = let g = back_refused c.args.shape c.args.hops.now c.args.names.now c.args.file.now c.args.again.now (c.refuse.ensures ∙ back_capacity c.args.shape c.args.hops.now c.args.names.now c.args.file.now c.args.again.now c.given_answer-given.ensures c.if-given-ne0.false c.if-again-hops.true) (row_refuses c.refuse.ensures (omega arith)) in
     (c.refusal-then-again-hops.ensures ∙ g.0, g.1)
 
 write-requires : tie.Need-write-written-requires
@@ -38,8 +38,8 @@ same_length : tie.Need-shape_of-file-then-answer-ne0
 same_length c = search rules
 
 returns-3 : tie.Need-returns-then-answer-ne0
-returns-3 c = let u = back_unwritten c.before.before.before.before.before.before.before.before.before.before.before.before.before.before.before.before.args.shape c.before.before.before.before.before.before.before.before.before.before.before.before.before.before.before.before.args.hops.now c.before.before.before.before.before.before.before.before.before.before.before.before.before.before.before.before.args.names.now c.before.before.before.before.before.before.before.before.before.before.before.before.before.before.before.before.args.file.now c.before.before.before.before.before.before.before.before.before.before.before.before.before.before.before.before.args.again.now c.before.before.before.before.before.before.before.before.before.before.before.given_answer-given.ensures c.before.before.before.before.before.before.before.before.before.if-given-ne0.false c.before.before.before.before.before.before.before.before.if-again-hops.false c.before.before.before.before.before.before.write-written.ensures.0 c.before.before.before.before.before.before.write-written.ensures.1 c.before.if-answer-ne0.true in
-    let g = back_refused c.before.before.before.before.before.before.before.before.before.before.before.before.before.before.before.before.args.shape c.before.before.before.before.before.before.before.before.before.before.before.before.before.before.before.before.args.hops.now c.before.before.before.before.before.before.before.before.before.before.before.before.before.before.before.before.args.names.now c.before.before.before.before.before.before.before.before.before.before.before.before.before.before.before.before.args.file.now c.before.before.before.before.before.before.before.before.before.before.before.before.before.before.before.before.args.again.now u.0 c.before.if-answer-ne0.true in
+returns-3 c = let u = back_unwritten c.args.shape c.args.hops.now c.args.names.now c.args.file.now c.args.again.now c.given_answer-given.ensures c.if-given-ne0.false c.if-again-hops.false c.write-written.ensures.0 c.write-written.ensures.1 c.if-answer-ne0.true in
+    let g = back_refused c.args.shape c.args.hops.now c.args.names.now c.args.file.now c.args.again.now u.0 c.if-answer-ne0.true in
     (c.refusal-then-answer-ne0.ensures ∙ g.0, (u.1 ∙ g.1.0, g.1.1))
 
 sub_read : tie.Need-slice_bounds-read-count
@@ -49,8 +49,8 @@ part-read-start : tie.Need-slice_bounds-read-start
 part-read-start c = search rules
 
 part-read-end : tie.Need-slice_bounds-read-end
-part-read-end c = let (y, n) = put_accepted c.before.before.before.before.before.before.before.before.before.before.before.before.before.before.before.before.args.shape c.before.before.before.before.before.before.before.before.before.before.before.before.before.before.before.before.args.hops.now c.before.before.before.before.before.before.before.before.before.before.before.before.before.before.before.before.args.names.now _ c.before.before.before.before.before.before.write-written.ensures.0 c.before.if-answer-ne0.false in
-    omega (arith, written_capacity c.before.before.before.before.before.before.before.before.before.before.before.before.before.before.before.before.args.shape c.before.before.before.before.before.before.before.before.before.before.before.before.before.before.before.before.args.hops.now c.before.before.before.before.before.before.before.before.before.before.before.before.before.before.before.before.args.names.now c.before.before.before.before.before.before.before.before.before.before.before.before.before.before.before.before.args.file.now c.before.before.before.before.before.before.before.before.before.before.before.before.before.before.before.before.args.again.now c.before.before.before.before.before.before.before.before.before.before.before.given_answer-given.ensures c.before.before.before.before.before.before.before.before.before.if-given-ne0.false c.before.before.before.before.before.before.before.before.if-again-hops.false y)
+part-read-end c = let (y, n) = put_accepted c.args.shape c.args.hops.now c.args.names.now _ c.write-written.ensures.0 c.if-answer-ne0.false in
+    omega (arith, written_capacity c.args.shape c.args.hops.now c.args.names.now c.args.file.now c.args.again.now c.given_answer-given.ensures c.if-given-ne0.false c.if-again-hops.false y)
 
 read-requires : tie.Need-read-requires
 read-requires c κs = search rules
@@ -62,8 +62,8 @@ same-length-3 : tie.Need-shape_of-again
 same-length-3 c = search rules
 
 returns-4 : tie.Need-returns
-returns-4 c = let (y, n) = put_accepted c.before.before.before.before.before.before.before.before.before.before.before.before.before.before.before.before.before.before.before.before.before.args.shape c.before.before.before.before.before.before.before.before.before.before.before.before.before.before.before.before.before.before.before.before.before.args.hops.now c.before.before.before.before.before.before.before.before.before.before.before.before.before.before.before.before.before.before.before.before.before.args.names.now _ c.before.before.before.before.before.before.before.before.before.before.before.write-written.ensures.0 c.before.before.before.before.before.before.if-answer-ne0.false in
-    back_gives c.before.before.before.before.before.before.before.before.before.before.before.before.before.before.before.before.before.before.before.before.before.args.shape c.before.before.before.before.before.before.before.before.before.before.before.before.before.before.before.before.before.before.before.before.before.args.hops.now c.before.before.before.before.before.before.before.before.before.before.before.before.before.before.before.before.before.before.before.before.before.args.names.now c.before.before.before.before.before.before.before.before.before.before.before.before.before.before.before.before.before.before.before.before.before.args.file.now c.before.before.before.before.before.before.before.before.before.before.before.before.before.before.before.before.before.before.before.before.before.args.again.now c.before.before.before.before.before.before.before.before.before.before.before.before.before.before.before.before.given_answer-given.ensures c.before.before.before.before.before.before.before.before.before.before.before.before.before.before.if-given-ne0.false c.before.before.before.before.before.before.before.before.before.before.before.before.before.if-again-hops.false y n c.before.before.before.before.before.before.before.before.before.before.before.write-written.ensures.1 c.before.before.read.ensures.0 c.before.before.read.ensures.1
+returns-4 c = let (y, n) = put_accepted c.args.shape c.args.hops.now c.args.names.now _ c.write-written.ensures.0 c.if-answer-ne0.false in
+    back_gives c.args.shape c.args.hops.now c.args.names.now c.args.file.now c.args.again.now c.given_answer-given.ensures c.if-given-ne0.false c.if-again-hops.false y n c.write-written.ensures.1 c.read.ensures.0 c.read.ensures.1
 
 pub graph_back_spec : {M : Type 1} → statement M
 graph_back_spec =

@@ -17,10 +17,10 @@ unwritten-requires c κs = search rules
 returns : tie.Need-returns-then-given-ne0
 returns c =
     c.unwritten.ensures ∙
-    refused_gives _ _ _ _ (given_speaks _ _ _ _ c.before.before.before.given_answer-given.ensures c.before.if-given-ne0.true) c.before.if-given-ne0.true
+    refused_gives _ _ _ _ (given_speaks _ _ _ _ c.given_answer-given.ensures c.if-given-ne0.true) c.if-given-ne0.true
 
 encoded-length-requires : tie.Need-encoded_length-length-requires
-encoded-length-requires c κs = given_few _ _ _ 0 c.before.before.given_answer-given.ensures c.if-given-ne0.false
+encoded-length-requires c κs = given_few _ _ _ 0 c.given_answer-given.ensures c.if-given-ne0.false
 
 refuse-requires : tie.Need-refuse-requires
 refuse-requires c κs = search rules
@@ -30,9 +30,9 @@ unwritten-requires-2 c κs = search rules
 
 returns-2 : tie.Need-returns-then-capacity-length
 returns-2 c =
-    let r = c.before.refuse.ensures in
+    let r = c.refuse.ensures in
     c.unwritten-then-capacity-length.ensures ∙
-    refused_gives _ _ _ _ (r ∙ capacity_speaks _ _ _ _ c.before.before.before.before.before.before.given_answer-given.ensures c.before.before.before.before.if-given-ne0.false c.before.before.before.encoded_length-length.ensures c.before.before.if-capacity-length.true)
+    refused_gives _ _ _ _ (r ∙ capacity_speaks _ _ _ _ c.given_answer-given.ensures c.if-given-ne0.false c.encoded_length-length.ensures c.if-capacity-length.true)
     (λ z. omega (arith, ap (λ (x : Answer). x.number) r))
 
 accept-requires : tie.Need-accept-answer-requires
@@ -41,8 +41,8 @@ accept-requires c κs = search rules
 returns-3 : tie.Need-returns
 returns-3 c =
     accepted_gives _ _ _ _ c.accept-answer.ensures
-    (none_speaks _ _ _ _ c.before.before.before.before.before.given_answer-given.ensures c.before.before.before.if-given-ne0.false c.before.before.encoded_length-length.ensures c.before.if-capacity-length.false)
-    c.before.before.encoded_length-length.ensures
+    (none_speaks _ _ _ _ c.given_answer-given.ensures c.if-given-ne0.false c.encoded_length-length.ensures c.if-capacity-length.false)
+    c.encoded_length-length.ensures
 
 pub foreseen_spec : {M : Type 1} → statement M
 foreseen_spec =

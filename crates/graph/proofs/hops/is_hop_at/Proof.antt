@@ -12,7 +12,7 @@ is-same-requires c κs = search rules
 
 returns : tie.Need-returns
 unfolding is
-returns c = rw (c.is_same.ensures, c.before.hop_at.ensures)
+returns c = rw (c.is_same.ensures, c.hop_at.ensures)
 
 pub is_hop_at_spec : {M : Type 1} → statement M
 is_hop_at_spec = tie.close (tie.spec hop-at-requires is-same-requires returns)

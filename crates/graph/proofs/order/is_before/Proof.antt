@@ -15,7 +15,7 @@ is-below-requires : tie.Need-is_below-requires
 is-below-requires c κs = search rules
 
 returns : tie.Need-returns
-returns c = sums_before c.is_below.ensures c.before.before.sum_of.ensures c.before.sum_of-2.ensures
+returns c = sums_before c.is_below.ensures c.sum_of.ensures c.sum_of-2.ensures
 
 pub is_before_spec : {M : Type 1} → statement M
 is_before_spec = tie.close (tie.spec sum-of-requires sum-of-requires-2 is-below-requires returns)

@@ -12,7 +12,7 @@ sum-of-requires-2 : tie.Need-sum_of-requires-2
 sum-of-requires-2 c κs = search rules
 
 returns : tie.Need-returns
-returns c = sums_same c.before.sum_of.ensures c.sum_of-2.ensures
+returns c = sums_same c.sum_of.ensures c.sum_of-2.ensures
 
 pub is_same_spec : {M : Type 1} → statement M
 is_same_spec = tie.close (tie.spec sum-of-requires sum-of-requires-2 returns)

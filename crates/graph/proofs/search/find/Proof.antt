@@ -9,7 +9,7 @@ hop-count-requires : tie.Need-hop_count-requires
 hop-count-requires c κs = search rules
 
 find-between-requires : tie.Need-find_between-requires
-find-between-requires c κs = (c.before.before.requires, (whole_bracket _ _ c.hop_count.ensures, whole_absent _ _ c.hop_count.ensures))
+find-between-requires c κs = (c.requires, (whole_bracket _ _ c.hop_count.ensures, whole_absent _ _ c.hop_count.ensures))
 
 returns : tie.Need-returns
 returns c = search rules

@@ -17,13 +17,13 @@ found-or-gap-requires : tie.Need-found_or_gap-requires
 found-or-gap-requires c κs = search rules
 
 returns : tie.Need-returns-then-at-past
-returns c = c.found_or_gap.ensures ∙ find_found _ _ c.before.before.before.lower_between-at.ensures (omega arith) c.before.is_hop_at.ensures
+returns c = c.found_or_gap.ensures ∙ find_found _ _ c.lower_between-at.ensures (omega arith) c.is_hop_at.ensures
 
 found-or-gap-requires-2 : tie.Need-found_or_gap-requires-2
 found-or-gap-requires-2 c κs = search rules
 
 returns-2 : tie.Need-returns
-returns-2 c = c.found_or_gap-2.ensures ∙ find_end _ _ c.before.before.lower_between-at.ensures c.before.if-at-past.false c.before.before.before.before.requires.1.1
+returns-2 c = c.found_or_gap-2.ensures ∙ find_end _ _ c.lower_between-at.ensures c.if-at-past.false c.requires.1.1
 
 pub find_between_spec : {M : Type 1} → statement M
 find_between_spec =

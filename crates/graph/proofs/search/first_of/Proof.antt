@@ -13,7 +13,7 @@ lower-place-requires c κs = search rules
 
 returns : tie.Need-returns
 unfolding first_of
-returns c = c.lower_place.ensures ∙ rw c.before.hop_of.ensures
+returns c = c.lower_place.ensures ∙ rw c.hop_of.ensures
 
 pub first_of_spec : {M : Type 1} → statement M
 first_of_spec = tie.close (tie.spec hop-of-requires lower-place-requires returns)

@@ -26,7 +26,7 @@ sum-of-requires c κs = search rules
 
 loop-holds : tie.Need-loop-lo-init invariant-loop decreases-loop
 loop-holds c =
-    let st = c.before.before in
+    let st = c in
     (st.requires.1.lo_le, st.requires.1.hi_le, sum_bracket _ _ st.requires.1 c.sum_of-sought.ensures)
 
 sub-mid : tie.Need-overflow_sub-mid invariant-loop decreases-loop
@@ -52,11 +52,11 @@ loop-less c = search rules
 
 loop-again : tie.Need-loop-lo-preserved-then-is_below invariant-loop decreases-loop
 loop-again c =
-    let st = c.before.before.before.before.before.before.before.before in (
+    let st = c in (
       omega arith,
       omega arith,
-      λ g q. raise _ g st.requires.0 _ _ _ (c.before.before.before.before.before.loop-lo.invariant.2 g q) (omega arith) (omega arith)
-          (sums_met c.before.before.before.hop_at.ensures c.before.is_below.ensures c.before.before.sum_of.ensures q c.if-is_below.true),
+      λ g q. raise _ g st.requires.0 _ _ _ (c.loop-lo.invariant.2 g q) (omega arith) (omega arith)
+          (sums_met c.hop_at.ensures c.is_below.ensures c.sum_of.ensures q c.if-is_below.true),
     )
 
 loop-less-2 : tie.Need-loop-lo-smaller invariant-loop decreases-loop
@@ -64,15 +64,15 @@ loop-less-2 c = search rules
 
 loop-again-2 : tie.Need-loop-lo-preserved invariant-loop decreases-loop
 loop-again-2 c =
-    let st = c.before.before.before.before.before.before.before.before in (
+    let st = c in (
       omega arith,
       omega arith,
-      λ g q. cut _ g st.requires.0 _ _ _ (c.before.before.before.before.before.loop-lo.invariant.2 g q) (omega arith) (omega arith)
-          (sums_met c.before.before.before.hop_at.ensures c.before.is_below.ensures c.before.before.sum_of.ensures q c.if-is_below.false),
+      λ g q. cut _ g st.requires.0 _ _ _ (c.loop-lo.invariant.2 g q) (omega arith) (omega arith)
+          (sums_met c.hop_at.ensures c.is_below.ensures c.sum_of.ensures q c.if-is_below.false),
     )
 
 returns : tie.Need-returns invariant-loop decreases-loop
-returns c = sym (lower_met _ _ (c.before.loop-lo.invariant.2 _ c.before.before.sum_of-sought.ensures) c.loop-lo-test.false)
+returns c = sym (lower_met _ _ (c.loop-lo.invariant.2 _ c.sum_of-sought.ensures) c.loop-lo-test.false)
 
 pub lower_between_spec : {M : Type 1} → statement M
 lower_between_spec =

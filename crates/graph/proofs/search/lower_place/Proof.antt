@@ -9,7 +9,7 @@ hop-count-requires : tie.Need-hop_count-requires
 hop-count-requires c κs = search rules
 
 lower-between-requires : tie.Need-lower_between-requires
-lower-between-requires c κs = (c.before.before.requires, whole_bracket _ _ c.hop_count.ensures)
+lower-between-requires c κs = (c.requires, whole_bracket _ _ c.hop_count.ensures)
 
 returns : tie.Need-returns
 returns c = c.lower_between.ensures

@@ -10,7 +10,7 @@ ring-answer-requires : tie.Need-ring_answer-ringed-requires
 ring-answer-requires c κs = search rules
 
 returns : tie.Need-returns-then-ringed-ne0
-returns c = later_ringed _ _ _ c.before.before.ring_answer-ringed.ensures c.if-ringed-ne0.true
+returns c = later_ringed _ _ _ c.ring_answer-ringed.ensures c.if-ringed-ne0.true
 
 hop-count-requires : tie.Need-hop_count-requires
 hop-count-requires c κs = search rules
@@ -19,13 +19,13 @@ refuse-requires : tie.Need-refuse-requires
 refuse-requires c κs = search rules
 
 returns-2 : tie.Need-returns-then-capacity-hop_count
-returns-2 c = c.refuse.ensures ∙ later_narrow _ _ _ c.before.before.before.before.before.ring_answer-ringed.ensures c.before.before.before.if-ringed-ne0.false (omega arith)
+returns-2 c = c.refuse.ensures ∙ later_narrow _ _ _ c.ring_answer-ringed.ensures c.if-ringed-ne0.false (omega arith)
 
 accept-requires : tie.Need-accept-requires
 accept-requires c κs = search rules
 
 returns-3 : tie.Need-returns
-returns-3 c = c.accept.ensures ∙ later_accepts _ _ _ c.before.before.before.before.before.ring_answer-ringed.ensures c.before.before.before.if-ringed-ne0.false (omega arith)
+returns-3 c = c.accept.ensures ∙ later_accepts _ _ _ c.ring_answer-ringed.ensures c.if-ringed-ne0.false (omega arith)
 
 pub later_answer_spec : {M : Type 1} → statement M
 later_answer_spec =

@@ -12,7 +12,7 @@ check-requires c κs = search rules
 
 returns : tie.Need-returns-then-checked-ne0
 returns c =
-    let d = mark_refused _ _ _ _ c.before.before.check-checked.ensures c.if-checked-ne0.true in
+    let d = mark_refused _ _ _ _ c.check-checked.ensures c.if-checked-ne0.true in
     (d, output_same _ _ _ _ (rw d at c.if-checked-ne0.true))
 
 sense-answer-requires : tie.Need-sense_answer-sensed-requires
@@ -20,35 +20,35 @@ sense-answer-requires c κs = search rules
 
 returns-2 : tie.Need-returns-then-sensed-ne0
 returns-2 c =
-    let d = mark_sensed _ _ _ _ c.before.before.before.before.before.check-checked.ensures c.before.before.before.if-checked-ne0.false c.before.before.sense_answer-sensed.ensures c.if-sensed-ne0.true in
+    let d = mark_sensed _ _ _ _ c.check-checked.ensures c.if-checked-ne0.false c.sense_answer-sensed.ensures c.if-sensed-ne0.true in
     (d, output_same _ _ _ _ (rw d at c.if-sensed-ne0.true))
 
 starts-of-requires : tie.Need-starts_of-starts-requires
-starts-of-requires c κs = admitted_indexable (check_admitted _ _ (rw c.before.before.before.before.before.check-checked.ensures at c.before.before.before.if-checked-ne0.false))
+starts-of-requires c κs = admitted_indexable (check_admitted _ _ (rw c.check-checked.ensures at c.if-checked-ne0.false))
 
 later-answer-requires : tie.Need-later_answer-answer-requires
-later-answer-requires c κs = record { admitted = check_admitted _ _ (rw c.before.before.before.before.before.before.before.check-checked.ensures at c.before.before.before.before.before.if-checked-ne0.false); table = c.before.starts_of-starts.ensures }
+later-answer-requires c κs = record { admitted = check_admitted _ _ (rw c.check-checked.ensures at c.if-checked-ne0.false); table = c.starts_of-starts.ensures }
 
 mark-in-requires : tie.Need-mark_in-requires
 mark-in-requires c κs =
-    let st = c.before.before.before.before.before.before.before.before.before.before.before.before.before.before.before in
-    let e = c.before.before.before.before.before.before.before.before.before.before.before.before.check-checked.ensures in
-    let z = c.before.before.before.before.before.before.before.before.before.before.if-checked-ne0.false in
-    let d = mark_later _ _ _ st.args.marks.now e z c.before.before.before.before.before.before.before.before.before.sense_answer-sensed.ensures c.before.before.before.before.before.before.before.if-sensed-ne0.false c.before.before.before.before.later_answer-answer.ensures in
-    let y = rw d at c.before.before.if-answer-eq0.true in
-    (record { admitted = check_admitted _ _ (rw e at z); table = c.before.before.before.before.before.before.starts_of-starts.ensures }, (mark_ringless _ _ _ _ y, mark_capacity _ _ _ _ y))
+    let st = c in
+    let e = c.check-checked.ensures in
+    let z = c.if-checked-ne0.false in
+    let d = mark_later _ _ _ st.args.marks.now e z c.sense_answer-sensed.ensures c.if-sensed-ne0.false c.later_answer-answer.ensures in
+    let y = rw d at c.if-answer-eq0.true in
+    (record { admitted = check_admitted _ _ (rw e at z); table = c.starts_of-starts.ensures }, (mark_ringless _ _ _ _ y, mark_capacity _ _ _ _ y))
 
 same_length : tie.Need-shape_of-marks
 same_length c = search rules
 
 returns-3 : tie.Need-returns-then-answer-eq0
 returns-3 c =
-    let d = mark_later _ _ _ _ c.before.before.before.before.before.before.before.before.before.before.before.before.before.before.before.check-checked.ensures c.before.before.before.before.before.before.before.before.before.before.before.before.before.if-checked-ne0.false c.before.before.before.before.before.before.before.before.before.before.before.before.sense_answer-sensed.ensures c.before.before.before.before.before.before.before.before.before.before.if-sensed-ne0.false c.before.before.before.before.before.before.before.later_answer-answer.ensures in
-    (d, output_marked _ _ _ _ (rw d at c.before.before.before.before.before.if-answer-eq0.true) c.before.before.mark_in.ensures)
+    let d = mark_later _ _ _ _ c.check-checked.ensures c.if-checked-ne0.false c.sense_answer-sensed.ensures c.if-sensed-ne0.false c.later_answer-answer.ensures in
+    (d, output_marked _ _ _ _ (rw d at c.if-answer-eq0.true) c.mark_in.ensures)
 
 returns-4 : tie.Need-returns-else-answer-eq0
 returns-4 c =
-    let d = mark_later _ _ _ _ c.before.before.before.before.before.before.before.before.before.before.check-checked.ensures c.before.before.before.before.before.before.before.before.if-checked-ne0.false c.before.before.before.before.before.before.before.sense_answer-sensed.ensures c.before.before.before.before.before.if-sensed-ne0.false c.before.before.later_answer-answer.ensures in
+    let d = mark_later _ _ _ _ c.check-checked.ensures c.if-checked-ne0.false c.sense_answer-sensed.ensures c.if-sensed-ne0.false c.later_answer-answer.ensures in
     (d, output_same _ _ _ _ (rw d at c.if-answer-eq0.false))
 
 pub mark_spec : {M : Type 1} → statement M

@@ -11,22 +11,22 @@ check-requires : tie.Need-check-checked-requires
 check-requires c κs = search rules
 
 returns : tie.Need-returns-then-checked-ne0
-returns c = mark_refused _ _ _ _ c.before.before.check-checked.ensures c.if-checked-ne0.true
+returns c = mark_refused _ _ _ _ c.check-checked.ensures c.if-checked-ne0.true
 
 sense-answer-requires : tie.Need-sense_answer-sensed-requires
 sense-answer-requires c κs = search rules
 
 returns-2 : tie.Need-returns-then-sensed-ne0
-returns-2 c = mark_sensed _ _ _ _ c.before.before.before.before.before.check-checked.ensures c.before.before.before.if-checked-ne0.false c.before.before.sense_answer-sensed.ensures c.if-sensed-ne0.true
+returns-2 c = mark_sensed _ _ _ _ c.check-checked.ensures c.if-checked-ne0.false c.sense_answer-sensed.ensures c.if-sensed-ne0.true
 
 starts-of-requires : tie.Need-starts_of-starts-requires
-starts-of-requires c κs = admitted_indexable (check_admitted _ _ (rw c.before.before.before.before.before.check-checked.ensures at c.before.before.before.if-checked-ne0.false))
+starts-of-requires c κs = admitted_indexable (check_admitted _ _ (rw c.check-checked.ensures at c.if-checked-ne0.false))
 
 later-answer-requires : tie.Need-later_answer-requires
-later-answer-requires c κs = record { admitted = check_admitted _ _ (rw c.before.before.before.before.before.before.before.check-checked.ensures at c.before.before.before.before.before.if-checked-ne0.false); table = c.before.starts_of-starts.ensures }
+later-answer-requires c κs = record { admitted = check_admitted _ _ (rw c.check-checked.ensures at c.if-checked-ne0.false); table = c.starts_of-starts.ensures }
 
 returns-3 : tie.Need-returns
-returns-3 c = mark_later _ _ _ _ c.before.before.before.before.before.before.before.before.check-checked.ensures c.before.before.before.before.before.before.if-checked-ne0.false c.before.before.before.before.before.sense_answer-sensed.ensures c.before.before.before.if-sensed-ne0.false c.later_answer.ensures
+returns-3 c = mark_later _ _ _ _ c.check-checked.ensures c.if-checked-ne0.false c.sense_answer-sensed.ensures c.if-sensed-ne0.false c.later_answer.ensures
 
 pub mark_answer_spec : {M : Type 1} → statement M
 mark_answer_spec =

@@ -23,13 +23,13 @@ refuse-requires-2 : tie.Need-refuse-requires-then-a-ne0
 refuse-requires-2 c κs = search rules
 
 returns-2 : tie.Need-returns-then-a-ne0
-returns-2 c = c.refuse-then-a-ne0.ensures ∙ place_visible _ _ c.before.before.before.label_at-a.ensures c.before.if-a-ne0.true
+returns-2 c = c.refuse-then-a-ne0.ensures ∙ place_visible _ _ c.label_at-a.ensures c.if-a-ne0.true
 
 accept-requires : tie.Need-accept-requires
 accept-requires c κs = search rules
 
 returns-3 : tie.Need-returns
-returns-3 c = c.accept.ensures ∙ place_silent _ _ (omega arith) c.before.before.before.label_at-a.ensures c.before.if-a-ne0.false
+returns-3 c = c.accept.ensures ∙ place_silent _ _ (omega arith) c.label_at-a.ensures c.if-a-ne0.false
 
 pub check_place_spec : {M : Type 1} → statement M
 check_place_spec =

@@ -12,10 +12,10 @@ refuse-requires : tie.Need-refuse-requires
 refuse-requires c κs = search rules
 
 returns : tie.Need-returns-then-rounds-le-MOST_ROUNDS
-returns c = c.accept.ensures ∙ rounds_few _ c.before.if-rounds-le-MOST_ROUNDS.true
+returns c = c.accept.ensures ∙ rounds_few _ c.if-rounds-le-MOST_ROUNDS.true
 
 returns-2 : tie.Need-returns-else-rounds-le-MOST_ROUNDS
-returns-2 c = c.refuse.ensures ∙ rounds_many _ c.before.if-rounds-le-MOST_ROUNDS.false
+returns-2 c = c.refuse.ensures ∙ rounds_many _ c.if-rounds-le-MOST_ROUNDS.false
 
 pub check_rounds_spec : {M : Type 1} → statement M
 check_rounds_spec = tie.close (tie.spec accept-requires refuse-requires returns returns-2)

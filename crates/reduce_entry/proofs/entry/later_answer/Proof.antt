@@ -9,14 +9,14 @@ sense-answer-requires : tie.Need-sense_answer-sensed-requires
 sense-answer-requires c κs = search rules
 
 returns : tie.Need-returns-then-sensed-ne0
-returns c = later_sensed _ _ _ _ _ c.before.before.sense_answer-sensed.ensures c.if-sensed-ne0.true
+returns c = later_sensed _ _ _ _ _ c.sense_answer-sensed.ensures c.if-sensed-ne0.true
 
 ring-answer-requires : tie.Need-ring_answer-ringed-requires
 ring-answer-requires c κs = search rules
 
 returns-2 : tie.Need-returns-then-ringed-ne0
 returns-2 c =
-    later_ringed _ _ _ _ _ c.before.before.before.before.before.sense_answer-sensed.ensures c.before.before.before.if-sensed-ne0.false c.before.before.ring_answer-ringed.ensures c.if-ringed-ne0.true
+    later_ringed _ _ _ _ _ c.sense_answer-sensed.ensures c.if-sensed-ne0.false c.ring_answer-ringed.ensures c.if-ringed-ne0.true
 
 cast-if3 : tie.Need-overflow_cast-shape
 cast-if3 c = search rules
@@ -26,18 +26,18 @@ refuse-requires c κs = search rules
 
 returns-3 : tie.Need-returns-then-entries-shape
 returns-3 c =
-    let s = c.before.before.before.before.before.before.before.before.sense_answer-sensed.ensures in
-    let r = c.before.before.before.before.before.ring_answer-ringed.ensures in
-    c.refuse.ensures ∙ later_narrow _ _ _ _ _ s c.before.before.before.before.before.before.if-sensed-ne0.false r c.before.before.before.if-ringed-ne0.false c.before.if-entries-shape.true
+    let s = c.sense_answer-sensed.ensures in
+    let r = c.ring_answer-ringed.ensures in
+    c.refuse.ensures ∙ later_narrow _ _ _ _ _ s c.if-sensed-ne0.false r c.if-ringed-ne0.false c.if-entries-shape.true
 
 accept-requires : tie.Need-accept-requires
 accept-requires c κs = search rules
 
 returns-4 : tie.Need-returns
 returns-4 c =
-    let s = c.before.before.before.before.before.before.before.before.sense_answer-sensed.ensures in
-    let r = c.before.before.before.before.before.ring_answer-ringed.ensures in
-    c.accept.ensures ∙ later_accepts _ _ _ _ _ s c.before.before.before.before.before.before.if-sensed-ne0.false r c.before.before.before.if-ringed-ne0.false c.before.if-entries-shape.false
+    let s = c.sense_answer-sensed.ensures in
+    let r = c.ring_answer-ringed.ensures in
+    c.accept.ensures ∙ later_accepts _ _ _ _ _ s c.if-sensed-ne0.false r c.if-ringed-ne0.false c.if-entries-shape.false
 
 pub later_answer_spec : {M : Type 1} → statement M
 later_answer_spec =

@@ -11,17 +11,17 @@ check-requires : tie.Need-check-checked-requires
 check-requires c κs = search rules
 
 returns : tie.Need-returns-then-checked-ne0
-returns c = answer_checked _ _ _ _ _ c.before.before.check-checked.ensures c.if-checked-ne0.true
+returns c = answer_checked _ _ _ _ _ c.check-checked.ensures c.if-checked-ne0.true
 
 starts-of-requires : tie.Need-starts_of-starts-requires
-starts-of-requires c κs = admitted_indexable (check_admitted _ _ (rw c.before.before.check-checked.ensures at c.if-checked-ne0.false))
+starts-of-requires c κs = admitted_indexable (check_admitted _ _ (rw c.check-checked.ensures at c.if-checked-ne0.false))
 
 later-answer-requires : tie.Need-later_answer-requires
 later-answer-requires c κs =
-    record { admitted = check_admitted _ _ (rw c.before.before.before.before.check-checked.ensures at c.before.before.if-checked-ne0.false); table = c.before.starts_of-starts.ensures }
+    record { admitted = check_admitted _ _ (rw c.check-checked.ensures at c.if-checked-ne0.false); table = c.starts_of-starts.ensures }
 
 returns-2 : tie.Need-returns
-returns-2 c = answer_later _ _ _ _ _ c.before.before.before.before.before.check-checked.ensures c.before.before.before.if-checked-ne0.false c.later_answer.ensures
+returns-2 c = answer_later _ _ _ _ _ c.check-checked.ensures c.if-checked-ne0.false c.later_answer.ensures
 
 pub reduce_answer_spec : {M : Type 1} → statement M
 reduce_answer_spec =

@@ -35,7 +35,7 @@ element-copy-out-to : tie.Need-bounds-next-i invariant-loop decreases-loop
 element-copy-out-to c = search rules
 
 returns : tie.Need-returns-then-to-rep invariant-loop decreases-loop
-returns c = let v = c.before.before.before.before.loop-passed.invariant in way_compressed _ _ v.3 v.4 v.5
+returns c = let v = c.loop-passed.invariant in way_compressed _ _ v.3 v.4 v.5
 
 mul_next : tie.Need-offset_bounds-next-i-in-loop-passed invariant-loop decreases-loop
 mul_next c = search rules
@@ -52,7 +52,7 @@ loop-less c = search rules
 loop-again : tie.Need-loop-passed-preserved invariant-loop decreases-loop
 unfolding ClosedTable
 loop-again c =
-    let v = c.before.before.before.before.loop-passed.invariant in (
+    let v = c.loop-passed.invariant in (
       omega arith,
       v.5.within _ v.1,
       v.2,
@@ -63,7 +63,7 @@ loop-again c =
     )
 
 returns-2 : tie.Need-returns invariant-loop decreases-loop
-returns-2 c = let v = c.before.loop-passed.invariant in way_compressed _ _ v.3 v.4 v.5
+returns-2 c = let v = c.loop-passed.invariant in way_compressed _ _ v.3 v.4 v.5
 
 pub compress_path_spec : {M : Type 1} → statement M
 compress_path_spec =

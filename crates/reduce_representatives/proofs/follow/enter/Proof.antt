@@ -28,7 +28,7 @@ element-write-next c = search rules
 returns : tie.Need-returns-then-marks-i-eq1
 unfolding with_next is_marked
 returns c =
-    rw (eq-eqb _ 1 c.before.before.before.if-marks-i-eq1.true) (cc)
+    rw (eq-eqb _ 1 c.if-marks-i-eq1.true) (cc)
 
 returns-2 : tie.Need-returns-else-marks-i-eq1
 unfolding with_next is_marked

@@ -28,7 +28,7 @@ element-copy-out-to : tie.Need-bounds-next-i invariant-loop decreases-loop
 element-copy-out-to c = search rules
 
 returns : tie.Need-returns-then-to-at invariant-loop decreases-loop
-returns c = sym (table_steps_rest _ _ _ c.if-to-at.true) ∙ c.before.before.before.loop-k.invariant.2
+returns c = sym (table_steps_rest _ _ _ c.if-to-at.true) ∙ c.loop-k.invariant.2
 
 add-k : tie.Need-overflow_add-k invariant-loop decreases-loop
 add-k c = search rules
@@ -39,11 +39,11 @@ loop-less c = search rules
 loop-again : tie.Need-loop-k-preserved invariant-loop decreases-loop
 unfolding ClosedTable
 loop-again c =
-    let v = c.before.before.before.loop-k.invariant in
-    (omega arith, c.before.before.before.before.requires.1.1 _ v.1, sym (table_steps_on _ _ _ _ (omega arith)) ∙ v.2)
+    let v = c.loop-k.invariant in
+    (omega arith, c.requires.1.1 _ v.1, sym (table_steps_on _ _ _ _ (omega arith)) ∙ v.2)
 
 returns-2 : tie.Need-returns invariant-loop decreases-loop
-returns-2 c = sym (table_steps_done _ _ _ _ (omega arith)) ∙ c.before.loop-k.invariant.2
+returns-2 c = sym (table_steps_done _ _ _ _ (omega arith)) ∙ c.loop-k.invariant.2
 
 pub follow_spec : {M : Type 1} → statement M
 follow_spec =

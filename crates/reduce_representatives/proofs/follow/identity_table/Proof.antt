@@ -36,12 +36,12 @@ loop-less c = omega arith
 
 loop-again : tie.Need-loop-s-preserved invariant-loop decreases-loop
 loop-again c =
-    let v = c.before.loop-s.invariant in
-    (simp length-set v.0, omega arith, filled_more (λ (t : ℕ). t) c.before.loop-s.next (omega arith) refl v.2)
+    let v = c.loop-s.invariant in
+    (simp length-set v.0, omega arith, filled_more (λ (t : ℕ). t) c.loop-s.next (omega arith) refl v.2)
 
 returns : tie.Need-returns invariant-loop decreases-loop
 unfolding IdentityTable
-returns c = λ t l. c.before.loop-s.invariant.2 t (omega arith)
+returns c = λ t l. c.loop-s.invariant.2 t (omega arith)
 
 pub identity_table_spec : {M : Type 1} → statement M
 identity_table_spec =

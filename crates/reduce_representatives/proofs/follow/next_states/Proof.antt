@@ -29,7 +29,7 @@ hop-count-requires c κs = search rules
 loop-holds : tie.Need-loop-i-init invariant-loop decreases-loop
 unfolding IdentityTable
 loop-holds c =
-    (omega arith, search rules, λ s l. rw c.hop_count-i.ensures (ends_none _ _ s _ (c.before.identity_table-next.ensures s l)))
+    (omega arith, search rules, λ s l. rw c.hop_count-i.ensures (ends_none _ _ s _ (c.identity_table-next.ensures s l)))
 
 sub-i : tie.Need-overflow_sub-i invariant-loop decreases-loop
 sub-i c = search rules
@@ -37,7 +37,7 @@ sub-i c = search rules
 enter-requires : tie.Need-enter-requires invariant-loop decreases-loop
 unfolding FromIn
 enter-requires c κs =
-    let st = c.before.before.before.before.before.before.before in
+    let st = c in
     (omega arith, (omega (arith, st.requires.0.capacity), st.requires.1 _ (omega arith)))
 
 loop-less : tie.Need-loop-i-smaller invariant-loop decreases-loop
@@ -46,9 +46,9 @@ loop-less c = omega arith
 loop-again : tie.Need-loop-i-preserved invariant-loop decreases-loop
 unfolding FromIn
 loop-again c =
-    let st = c.before.before.before.before.before.before.before.before in
-    let v = c.before.before.before.loop-i.invariant in
-    let i = c.before.before.before.loop-i.i in
+    let st = c in
+    let v = c.loop-i.invariant in
+    let i = c.loop-i.i in
     let q : i ≡ suc (i - 1) = omega arith in
     let l : i - 1 < count st.args.hops.now = omega arith in
     let f = st.requires.1 (i - 1) l in (
@@ -60,8 +60,8 @@ loop-again c =
 returns : tie.Need-returns invariant-loop decreases-loop
 unfolding NextTable
 returns c =
-    let q : c.before.loop-i.i ≡ 0 = omega arith in
-    λ s l. ends_next_state _ _ (rw q at (c.before.loop-i.invariant.2 s l))
+    let q : c.loop-i.i ≡ 0 = omega arith in
+    λ s l. ends_next_state _ _ (rw q at (c.loop-i.invariant.2 s l))
 
 pub next_states_spec : {M : Type 1} → statement M
 next_states_spec =

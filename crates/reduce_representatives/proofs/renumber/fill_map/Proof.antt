@@ -26,7 +26,7 @@ decreases-loop states news map₀ next₀ s₀ map next s = states - s
 
 loop-holds : tie.Need-loop-s-init invariant-loop decreases-loop
 loop-holds c =
-    let st = c.before.before in
+    let st = c in
     (omega arith, omega arith, refl, tabulate_none _ _, compressed_none _ _ st.requires.1.1.1.0, search rules)
 
 cast-t11 : tie.Need-overflow_cast-s invariant-loop decreases-loop
@@ -34,7 +34,7 @@ cast-t11 c = search rules
 
 follow-requires : tie.Need-follow-rep-requires invariant-loop decreases-loop
 follow-requires c κs =
-    let v = c.before.before.loop-s.invariant in
+    let v = c.loop-s.invariant in
     (omega arith, (omega arith, v.4.closed))
 
 cast-t11-2 : tie.Need-overflow_cast-s-in-loop-s invariant-loop decreases-loop
@@ -42,18 +42,18 @@ cast-t11-2 c = search rules
 
 compress-path-requires : tie.Need-compress_path-requires invariant-loop decreases-loop
 compress-path-requires c κs =
-    let st = c.before.before.before.before.before.before.before in
-    let v = c.before.before.before.before.loop-s.invariant in
+    let st = c in
+    let v = c.loop-s.invariant in
     let noted = v.4 in
-    (omega arith, (omega arith, (omega (arith, noted.long, v.5), (noted.closed, (compressed_terminating noted st.requires.1.1.1.1, c.before.follow-rep.ensures)))))
+    (omega arith, (omega arith, (omega (arith, noted.long, v.5), (noted.closed, (compressed_terminating noted st.requires.1.1.1.1, c.follow-rep.ensures)))))
 
 map-at-requires : tie.Need-map_at-new-requires invariant-loop decreases-loop
 map-at-requires c κs =
-    let st = c.before.before.before.before.before.before.before.before in
-    let v = c.before.before.before.before.before.loop-s in
+    let st = c in
+    let v = c.loop-s in
     omega (
       arith,
-      c.before.before.follow-rep.ensures,
+      c.follow-rep.ensures,
       v.invariant.4.same v.s (omega arith),
       table_steps_in _ st.args.states st.requires.1.1.1.0 st.args.states v.s (omega arith),
     )
@@ -73,15 +73,15 @@ loop-less c = search rules
 loop-again : tie.Need-loop-s-preserved invariant-loop decreases-loop
 unfolding new_number
 loop-again c =
-    let v = c.before.before.before.before.before.before.loop-s in
-    let st = c.before.before.before.before.before.before.before.before.before in (
+    let v = c.loop-s in
+    let st = c in (
       omega arith,
       omega arith,
       simp length-set v.invariant.2,
       tabulate_more (new_number _ st.args.news.now st.args.states) st.args.map.now v.invariant.3
-          (c.map_at-new.ensures ∙ ap (λ (k : ℕ). get_or st.args.news.now k 0) (c.before.before.before.follow-rep.ensures ∙ v.invariant.4.same v.s (omega arith)))
+          (c.map_at-new.ensures ∙ ap (λ (k : ℕ). get_or st.args.news.now k 0) (c.follow-rep.ensures ∙ v.invariant.4.same v.s (omega arith)))
           (omega arith),
-      compressed_then v.invariant.4 c.before.compress_path.ensures,
+      compressed_then v.invariant.4 c.compress_path.ensures,
       v.invariant.5,
     )
 
@@ -89,7 +89,7 @@ same_length : tie.Need-shape_of-map invariant-loop decreases-loop
 same_length c = omega arith
 
 returns : tie.Need-returns invariant-loop decreases-loop
-returns c = tabulate_done _ _ c.before.loop-s.invariant.3 (omega arith) (omega arith)
+returns c = tabulate_done _ _ c.loop-s.invariant.3 (omega arith) (omega arith)
 
 pub fill_map_spec : {M : Type 1} → statement M
 fill_map_spec =

@@ -36,7 +36,7 @@ is-fixed-requires : tie.Need-is_fixed-requires invariant-loop decreases-loop
 is-fixed-requires c κs = search rules
 
 add-found : tie.Need-overflow_add-found invariant-loop decreases-loop
-add-found c = omega (arith, tally_within (is_fixed c.before.before.before.before.args.next.now) c.before.before.before.loop-s.s)
+add-found c = omega (arith, tally_within (is_fixed c.args.next.now) c.loop-s.s)
 
 add-s : tie.Need-overflow_add-s invariant-loop decreases-loop
 add-s c = search rules
@@ -51,24 +51,24 @@ loop-less : tie.Need-loop-s-smaller invariant-loop decreases-loop
 loop-less c = search rules
 
 -- the count after the test
-counted : (c : tie.Joined-is_fixed invariant-loop decreases-loop) → c.if-is_fixed.found ≡ tally (c.before.before.before.loop-s.s + 1) (is_fixed c.before.before.before.before.args.next.now)
+counted : (c : tie.Joined-is_fixed invariant-loop decreases-loop) → c.if-is_fixed.found ≡ tally (c.loop-s.s + 1) (is_fixed c.args.next.now)
 counted c =
-    let v = c.before.before.before.loop-s.invariant in
-    let e = c.before.is_fixed.ensures in
-    ⊎_elim (λ w. w.1 ∙ tally_more _ _ v.2 (sym e ∙ w.0.taken)) (λ w. w.1 ∙ tally_skip _ _ v.2 (sym e ∙ w.0.left)) c.if-is_fixed.branch
+    let v = c.loop-s.invariant in
+    let e = c.is_fixed.ensures in
+    ⊎_elim (λ w. w.found-is ∙ tally_more _ _ v.2 (sym e ∙ w.if-is_fixed.true)) (λ w. w.found-is ∙ tally_skip _ _ v.2 (sym e ∙ w.if-is_fixed.false)) c.if-is_fixed.branch-raw
 
 loop-again : tie.Need-loop-s-preserved invariant-loop decreases-loop
 loop-again c =
-    let v = c.before.before.before.loop-s.invariant in (
+    let v = c.loop-s.invariant in (
       simp length-set v.0,
       omega arith,
       counted c,
-      filled_more (λ (t : ℕ). tally t (is_fixed c.before.before.before.before.args.next.now)) c.before.before.before.loop-s.news (omega arith) (counted c) v.3,
+      filled_more (λ (t : ℕ). tally t (is_fixed c.args.next.now)) c.loop-s.news (omega arith) (counted c) v.3,
     )
 
 returns : tie.Need-returns invariant-loop decreases-loop
 unfolding NewNumbers
-returns c = λ s l. c.before.loop-s.invariant.3 s (omega arith)
+returns c = λ s l. c.loop-s.invariant.3 s (omega arith)
 
 pub new_numbers_spec : {M : Type 1} → statement M
 new_numbers_spec =

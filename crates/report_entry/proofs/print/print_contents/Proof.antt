@@ -21,33 +21,33 @@ read-requires : tie.Need-read-contents-requires
 read-requires c κs = search rules
 
 put-refusal-requires : tie.Need-put_refusal-requires
-put-refusal-requires c κs = text_capacity (refusal_most _) c.before.before.before.before.before.before.before.before.before.requires
+put-refusal-requires c κs = text_capacity (refusal_most _) c.requires
 
 same_length : tie.Need-shape_of-out-then-answer-ne0
 same_length c = search rules
 
 returns : tie.Need-returns-then-answer-ne0
-returns c = put_same (file_refused _ (replicate most_numbers 0) wide c.before.before.before.before.before.before.before.before.read-contents.ensures.0 c.before.before.before.before.if-answer-ne0.true) c.before.before.put_refusal.ensures
+returns c = put_same (file_refused _ (replicate most_numbers 0) wide c.read-contents.ensures.0 c.if-answer-ne0.true) c.put_refusal.ensures
 
 slice-aggregate-part : tie.Need-slice_bounds-part-end
 slice-aggregate-part c = search rules
 
 part-requires : tie.Need-part-requires
 part-requires c κs =
-    (omega arith, omega (arith, file_most _ (replicate most_numbers 0) wide c.before.before.before.before.before.before.read-contents.ensures.0 c.before.before.if-answer-ne0.false))
+    (omega arith, omega (arith, file_most _ (replicate most_numbers 0) wide c.read-contents.ensures.0 c.if-answer-ne0.false))
 
 print-graph-requires : tie.Need-print_graph-requires
 print-graph-requires c κs =
-    let r = c.before.before.before.before.before.before.before.before.read-contents.ensures in
-    (file_admitted _ (replicate most_numbers 0) wide r.0 c.before.before.before.before.if-answer-ne0.false r.1 c.before.part.ensures.0, search rules)
+    let r = c.read-contents.ensures in
+    (file_admitted _ (replicate most_numbers 0) wide r.0 c.if-answer-ne0.false r.1 c.part.ensures.0, search rules)
 
 same-length-2 : tie.Need-shape_of-out
 same-length-2 c = search rules
 
 returns-2 : tie.Need-returns
 returns-2 c =
-    let r = c.before.before.before.before.before.before.before.before.before.before.before.read-contents.ensures in
-    put_same (file_printed _ (replicate most_numbers 0) wide r.0 c.before.before.before.before.before.before.before.if-answer-ne0.false r.1 c.before.before.before.before.part.ensures.0) c.before.before.print_graph.ensures
+    let r = c.read-contents.ensures in
+    put_same (file_printed _ (replicate most_numbers 0) wide r.0 c.if-answer-ne0.false r.1 c.part.ensures.0) c.print_graph.ensures
 
 pub print_contents_spec : {M : Type 1} → statement M
 print_contents_spec =

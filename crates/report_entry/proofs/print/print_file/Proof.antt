@@ -8,7 +8,7 @@ use Rattle.report_entry.proofs.print.print_file.Tie as tie
 
 returns : tie.Need-returns-then-out-lt-MOST_TEXT
 returns c =
-    let e = printed_none _ (printed_of c.before.before.before.args.file.now) c.if-out-lt-MOST_TEXT.true in
+    let e = printed_none _ (printed_of c.args.file.now) c.if-out-lt-MOST_TEXT.true in
     (rw e, (rw e, omega arith))
 
 print-input-requires : tie.Need-print_input-requires
@@ -19,8 +19,8 @@ same_length c = search rules
 
 returns-2 : tie.Need-returns
 returns-2 c =
-    let e = printed_whole _ (printed_of c.before.before.before.before.before.before.before.args.file.now) c.before.before.before.before.if-out-lt-MOST_TEXT.false in
-    let p = c.before.before.print_input.ensures in
+    let e = printed_whole _ (printed_of c.args.file.now) c.if-out-lt-MOST_TEXT.false in
+    let p = c.print_input.ensures in
     (rw e (front_length p), (rw e (front_stands p), front_within p))
 
 pub print_file_spec : {M : Type 1} → statement M

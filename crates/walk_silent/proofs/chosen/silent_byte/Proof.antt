@@ -10,10 +10,10 @@ label-at-requires : tie.Need-label_at-requires
 label-at-requires c κs = search rules
 
 returns : tie.Need-returns-then-label_at-eq0
-returns c = rw (eq-eqb _ _ (sym c.before.before.label_at.ensures ∙ c.if-label_at-eq0.true))
+returns c = rw (eq-eqb _ _ (sym c.label_at.ensures ∙ c.if-label_at-eq0.true))
 
 returns-2 : tie.Need-returns
-returns-2 c = rw (ne_eqb _ _ (λ e. c.if-label_at-eq0.false (c.before.before.label_at.ensures ∙ e)))
+returns-2 c = rw (ne_eqb _ _ (λ e. c.if-label_at-eq0.false (c.label_at.ensures ∙ e)))
 
 pub silent_byte_spec : {M : Type 1} → statement M
 silent_byte_spec = tie.close (tie.spec label-at-requires returns returns-2)

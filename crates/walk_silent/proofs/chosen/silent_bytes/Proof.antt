@@ -43,17 +43,17 @@ loop-less c = search rules
 
 loop-again : tie.Need-loop-i-preserved invariant-loop decreases-loop
 loop-again c =
-    let s = c.before.before.before.before.before in
-    let v = c.before.before.loop-i.invariant in (
+    let s = c in
+    let v = c.loop-i.invariant in (
       search rules,
       omega arith,
       simp length-set v.2,
-      filled_more (λ (j : ℕ). cond (silent_at s.args.hops.now j) 1 0) c.before.before.loop-i.bytes (omega (arith, s.requires)) c.silent_byte.ensures v.3,
+      filled_more (λ (j : ℕ). cond (silent_at s.args.hops.now j) 1 0) c.loop-i.bytes (omega (arith, s.requires)) c.silent_byte.ensures v.3,
     )
 
 returns : tie.Need-returns invariant-loop decreases-loop
 unfolding Chooses chosen_in
-returns c = λ j l. byte_result _ (c.before.loop-i.invariant.3 j (omega arith))
+returns c = λ j l. byte_result _ (c.loop-i.invariant.3 j (omega arith))
 
 pub silent_bytes_spec : {M : Type 1} → statement M
 silent_bytes_spec =
