@@ -96,7 +96,7 @@ loop-again c =
     let lp = c in
     let st = lp in
     passed_next _ _ _ _ _ st.requires.0.ready.ascending lp.loop-i.invariant
-    (⊎_elim (λ w e. leads_is _ _ _ w.1.ensures w.2.ensures w.3.left) (λ w e. clash e (ne_eqb _ _ w.left)) c.if-marks-i-eq1.branch)
+    (⊎_elim (λ w e. leads_is _ _ _ w.to_at.ensures w.leads_to-then-marks-i-eq1.ensures w.if-leads_to-2.false) (λ w e. clash e (ne_eqb _ _ w.if-marks-i-eq1.false)) c.if-marks-i-eq1.branch-raw)
 
 returns-4 : tie.Need-returns invariant-loop decreases-loop
 returns-4 c =

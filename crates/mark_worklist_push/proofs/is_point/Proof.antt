@@ -32,7 +32,7 @@ returns-3 : tie.Need-returns-in-Gap
 returns-3 c =
     let st = c in
     point_missing _ st.requires.0.ascending _ _ _ c.hop_of.ensures c.find_row.ensures c.enum_told-in-Gap-1.given.1
-    (⊎_elim (λ w z e. w.3.left e) (λ w z e. w.left z) c.if-a-eq0.branch)
+    (⊎_elim (λ w z e. w.if-s4-s2.false e) (λ w z e. w.if-a-eq0.false z) c.if-a-eq0.branch-raw)
 
 pub is_point_spec : {M : Type 1} → statement M
 is_point_spec =
