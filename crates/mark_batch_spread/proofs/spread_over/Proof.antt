@@ -32,7 +32,7 @@ visit-at-requires c κs = search rules
 -- the place visited is one of the order
 module _ (c : tie.After-visit_at invariant-loop decreases-loop) where
   abbrev start : tie.Start invariant-loop decreases-loop
-  start = c.before.before.before.before.before.before.before.before
+  start = c.before.before.before.before.before.before.before
 
   below : c.visit_at.result < start.args.n
   below = omega (arith, c.visit_at.ensures, visit_below start.args.down c.loop-k-test.true)
