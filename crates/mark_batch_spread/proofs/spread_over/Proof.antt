@@ -30,21 +30,14 @@ visit-at-requires : tie.Need-visit_at-requires invariant-loop decreases-loop
 visit-at-requires c κs = search rules
 
 -- the place visited is one of the order
-module _ (c : tie.After-visit_at invariant-loop decreases-loop) where
-  abbrev start : tie.Start invariant-loop decreases-loop
-  start = c.before.before.before.before.before.before.before
-
-  below : c.visit_at.result < start.args.n
-  below = omega (arith, c.visit_at.ensures, visit_below start.args.down c.loop-k-test.true)
-
 place-at-requires : tie.Need-place_at-requires invariant-loop decreases-loop
-place-at-requires c κs = omega (arith, below c, (start c).requires.1.0.capacity, c.sized_order.ensures)
+place-at-requires c κs =
+    omega (arith, c.visit_at.ensures, visit_below c.args.down c.loop-k-test.true, c.requires.1.0.capacity, c.sized_order.ensures)
 
 step-at-requires : tie.Need-step_at-requires invariant-loop decreases-loop
 step-at-requires c κs =
-    let p = c in
-    let r = (start p.before).requires in
-    (r.0, (r.1.1, omega (arith, p.place_at.ensures, r.1.0.within p.visit_at.result (below p.before))))
+    let below : c.visit_at.result < c.args.n = omega (arith, c.visit_at.ensures, visit_below c.args.down c.loop-k-test.true) in
+    (c.requires.0, (c.requires.1.1, omega (arith, c.place_at.ensures, c.requires.1.0.within c.visit_at.result below)))
 
 add-k : tie.Need-overflow_add-k invariant-loop decreases-loop
 add-k c = omega arith
@@ -53,15 +46,11 @@ loop-less : tie.Need-loop-k-smaller invariant-loop decreases-loop
 loop-less c = omega arith
 
 loop-again : tie.Need-loop-k-preserved invariant-loop decreases-loop
-loop-again c =
-    let p = c in
-    let v = p.before in
-    let a = (start v).args in
-    let loop = v.loop-k in (
-      omega arith,
-      along_more a.hops.now a.marks.now a.back (visited_hop a.sorted.now a.n a.down) a.words.now loop.k
-          (p.place_at.ensures ∙ ap (λ (j : ℕ). get_or a.sorted.now j 0) v.visit_at.ensures) loop.invariant.1 c.step_at.ensures,
-    )
+loop-again c = (
+  omega arith,
+  along_more c.args.hops.now c.args.marks.now c.args.back (visited_hop c.args.sorted.now c.args.n c.args.down) c.args.words.now c.loop-k.k
+      (c.place_at.ensures ∙ ap (λ (j : ℕ). get_or c.args.sorted.now j 0) c.visit_at.ensures) c.loop-k.invariant.1 c.step_at.ensures,
+)
 
 returns : tie.Need-returns invariant-loop decreases-loop
 returns c =
