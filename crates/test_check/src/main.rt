@@ -43,11 +43,9 @@ fn put(hops: &mut [u16], at: usize, number: u16) {
 
 // Hops in ascending order, four a state: the hop at place i is i / 4, i % 4, 0, of no line.
 fn fill(hops: &mut [u16]) {
-    let mut i = 0;
-    while i < 4097 {
+    for i in 0..4097 {
         put(hops, 4 * i, (i / 4) as u16);
         put(hops, 4 * i + 1, (i % 4) as u16);
-        i += 1;
     }
 }
 

@@ -55,11 +55,8 @@ fn records_of(nums: &[u16]) -> [Hop; RECORDS]
         to: 0,
         line: 0,
     }; RECORDS];
-    let n = hop_count(nums);
-    let mut i = 0;
-    while i < n {
+    for i in 0..hop_count(nums) {
         hops[i] = hop_at(nums, i);
-        i += 1;
     }
     hops
 }
@@ -107,15 +104,7 @@ fn few(
 }
 
 fn ones(marks: &[u8]) -> usize {
-    let mut n = 0;
-    let mut i = 0;
-    while i < marks.len() {
-        if marks[i] == 1 {
-            n += 1;
-        }
-        i += 1;
-    }
-    n
+    marks.iter().filter(|mark| **mark == 1).count()
 }
 
 // A list at the limit of 4,096 hops, five a state: the silent one leads to the next state, the
@@ -136,10 +125,8 @@ fn stair(i: usize) -> Hop
 
 fn stairs() -> [u16; NUMBERS_A_HOP * RECORDS] {
     let mut nums = [0u16; NUMBERS_A_HOP * RECORDS];
-    let mut i = 0;
-    while i < RECORDS {
+    for i in 0..RECORDS {
         put_hop(&mut nums, i, stair(i));
-        i += 1;
     }
     nums
 }
