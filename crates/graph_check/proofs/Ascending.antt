@@ -43,16 +43,16 @@ module _ (hs : List ℕ) where
     goes_on e = record {
       some = omega arith;
       kept = let q : i ≡ i + 1 - 1 = omega arith in subst (λ (j : ℕ). SumAt j sum) q s;
-      none_falls = least_more _ i r.none-falls (ap not (sym rises_by) ∙ e);
+      none_falls = least_more _ i r.none_falls (ap not (sym rises_by) ∙ e);
     }
 
     pub falls : i < count hs → not up ≡ true → i ≡ first_not_ascending hs
     unfolding first_not_ascending
-    falls l e = sym (least_found _ (count hs) l r.none-falls (ap not (sym rises_by) ∙ e))
+    falls l e = sym (least_found _ (count hs) l r.none_falls (ap not (sym rises_by) ∙ e))
 
   pub ends : {n i last : ℕ} → n ≡ count hs → i ≤ n → n ≤ i → Risen i last → n ≡ first_not_ascending hs
   unfolding first_not_ascending
-  ends e l m r = e ∙ sym (least_done _ (omega arith) (omega arith) r.none-falls)
+  ends e l m r = e ∙ sym (least_done _ (omega arith) (omega arith) r.none_falls)
 
   -- a list without hops
   pub empty : count hs ≡ 0 → 0 ≡ first_not_ascending hs

@@ -178,7 +178,7 @@ module _ (sh : Shape) (hs : List ℕ) where
 
   -- "accepted" is said of the admitted graphs and of no others
   pub check_admitted : (check_of sh hs).number ≡ 0 → Admitted sh hs
-  check_admitted = check_means.zero-admits
+  check_admitted = check_means.zero_admits
 
   pub admitted_check : Admitted sh hs → check_of sh hs ≡ accepted
   unfolding first_outside first_not_ascending

@@ -3,7 +3,7 @@
 -- Assumes nothing.
 use Prim.Native.Nat.{ℕ, ◌<◌, ◌≤◌}
 use mathlib.Core.Path.{◌≡◌, refl, sym, ◌∙◌}
-use mathlib.Core.Bool.{Bool, true, false, ◌&&◌, ◌||◌, or_false}
+use mathlib.Core.Bool.{Bool, true, false, ◌&&◌, ◌||◌, or-false}
 use mathlib.Core.List.{List}
 use mathlib.Core.Logic.{◌⊎◌, inl, inr, ⊎_elim}
 use lib.Dec.{eqb}
@@ -111,7 +111,7 @@ module _ (hs : List ℕ) where
 
     pub answers_last : (s2 a s3 : ℕ) → hop_answers hs (closing u) s2 a s3 ≡ false → a ≡ 0 → closing u s3 s2 ≡ answers hs (closing u) s2 a s3
     unfolding answers
-    answers_last s2 a s3 e z = rw (eq-eqb a 0 z, e) (sym (or_false (closing u s3 s2)))
+    answers_last s2 a s3 e z = rw (eq-eqb a 0 z, e) (sym (or-false (closing u s3 s2)))
 
     pub answers_yes : (s2 a s3 : ℕ) → Answered hs (In u) s2 a s3 → answers hs (closing u) s2 a s3 ≡ true
     answers_yes s2 a s3 (s4, x, y) = reaches_yes hs (closing u) s2 a s3 (s4, x, closing_yes u s3 s4 y)

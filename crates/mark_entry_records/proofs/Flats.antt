@@ -1,9 +1,9 @@
 -- Laws of the flat list of records: writing it record by record, and what the entries say of more
 -- records than a graph may have hops.
 --     done ys xs i     xs with the first i of ys written at its front
---     done-n           all of ys are written
---     done-length      it is as long as xs
---     done-step        one record more
+--     done_n           all of ys are written
+--     done_length      it is as long as xs
+--     done_step        one record more
 -- Assumes nothing.
 use Prim.Native.Nat.{ℕ, suc, ◌+◌, ◌<◌, ◌≤◌}
 use mathlib.Core.Path.{◌≡◌, refl, sym, ◌∙◌, ap}

@@ -1,6 +1,6 @@
 -- The decimal of a number shows that number, and has no zero in front, for every number of 64 bits.
 -- Assumes nothing.
-use Prim.Native.Nat.{ℕ, zero, suc, ◌+◌, ◌*◌, ◌/◌, ◌%◌, ◌^◌, ◌<◌, ◌≤◌}
+use Prim.Native.Nat.{ℕ, zero, suc, ◌+◌, ◌-◌, ◌*◌, ◌/◌, ◌%◌, ◌^◌, ◌<◌, ◌≤◌}
 use mathlib.Core.Path.{◌≡◌, refl}
 use mathlib.Core.Bool.{Bool, true, false, cond}
 use mathlib.Core.List.{List, [], ◌∷◌, ◌++◌}
@@ -19,7 +19,7 @@ limit (suc k) = 10 * limit k
 shown_append : (n : ℕ) (xs ys : List ℕ) → digits_value n (xs ++ ys) ≡ digits_value (digits_value n xs) ys
 unfolding digits_value
 shown_append n [] ys = refl
-shown_append n (x ∷ xs) ys = shown_append _ xs ys
+shown_append n (x ∷ xs) ys = shown_append (10 * n + (x - 48)) xs ys
 
 digits_show : (k n : ℕ) → n < limit k → digits_value 0 (digits k n) ≡ n
 unfolding digits limit digits_value

@@ -19,45 +19,45 @@ use Rattle.audit_matched.proofs.Rows.{on_none, on_done, state_skipped, state_mor
 use Rattle.audit_matched.proofs.stamp_state.Statement.{statement}
 use Rattle.audit_matched.proofs.stamp_state.Tie as tie
 
-abbrev invariant-loop : tie.invariant-loop
+abbrev invariant-loop : tie.invariant-loop-i
 invariant-loop hops1 starts1 hops2 map images seen stamps₀ k at past i₀ stamps i =
     (past ≡ first_of hops1 (at + 1)) × (past ≤ count hops1) × (first_of hops1 at ≤ i) × (i ≤ past) × (length stamps ≡ length stamps₀) ×
     StampedFrom hops1 hops2 map seen (mapped map at) k (first_of hops1 at) i stamps₀ stamps
 
-abbrev decreases-loop : tie.decreases-loop
+abbrev decreases-loop : tie.decreases-loop-i
 decreases-loop hops1 starts1 hops2 map images seen stamps₀ k at past i₀ stamps i = past - i
 
-map-at-requires : tie.Need-map-at-requires invariant-loop decreases-loop
+map-at-requires : tie.Need-map_at-v-requires invariant-loop decreases-loop
 map-at-requires c κs = search rules
 
-wide-requires : tie.Need-wide-requires invariant-loop decreases-loop
+wide-requires : tie.Need-wide-at-requires invariant-loop decreases-loop
 wide-requires c κs = search rules
 
-shared-slice-read-if1 : tie.Need-shared-slice-read-if1 invariant-loop decreases-loop
+shared-slice-read-if1 : tie.Need-bounds-seen-at invariant-loop decreases-loop
 shared-slice-read-if1 c = search rules
 
-add-start-of : tie.Need-overflow-add-start-of invariant-loop decreases-loop
+add-start-of : tie.Need-overflow_add-at invariant-loop decreases-loop
 add-start-of c = search rules
 
-start-of-requires : tie.Need-start-of-requires invariant-loop decreases-loop
+start-of-requires : tie.Need-start_of-past-requires invariant-loop decreases-loop
 start-of-requires c κs = omega arith
 
-start-of-requires-2 : tie.Need-start-of-requires-2 invariant-loop decreases-loop
+start-of-requires-2 : tie.Need-start_of-i-requires invariant-loop decreases-loop
 start-of-requires-2 c κs = omega arith
 
 -- the map of u, by its index
-map_of : (c : tie.After-wide invariant-loop decreases-loop) → c.before.map_at.result.0 ≡ mapped c.before.before.before.before.before.before.before.args.map.now c.wide.result
-map_of c = c.before.map_at.ensures ∙ ap (mapped c.before.before.before.before.before.before.before.args.map.now) (sym c.wide.ensures)
+map_of : (c : tie.After-wide-at invariant-loop decreases-loop) → c.map_at-v.result.0 ≡ mapped c.args.map.now c.wide-at.result
+map_of c = c.map_at-v.ensures ∙ ap (mapped c.args.map.now) (sym c.wide-at.ensures)
 
-loop-holds : tie.Need-loop-init invariant-loop decreases-loop
+loop-holds : tie.Need-loop-i-init invariant-loop decreases-loop
 loop-holds c =
-    let s = c.before.before.before.before.before.before.before.before.before.before.before.before.before in
+    let s = c in
     let hs = s.args.hops1.now in
     let up = s.requires.0.auditable.admitted.ascending in
-    let at = c.before.before.before.before.before.before.wide.result in
-    let in_table : at + 1 ≤ most_states = omega (arith, c.before.before.before.before.before.before.wide.ensures, s.requires.1.1.1, s.requires.0.auditable.admitted.states_most) in
-    let p : c.before.start_of_lem.result ≡ first_of hs (at + 1) = start_is hs s.args.starts1.now s.requires.0.table _ refl in_table c.before.start_of_lem.ensures in
-    let f : c.start-of2.result ≡ first_of hs at = start_is hs s.args.starts1.now s.requires.0.table _ refl (omega arith) c.start-of2.ensures in (
+    let at = c.wide-at.result in
+    let in_table : at + 1 ≤ most_states = omega (arith, c.wide-at.ensures, s.requires.1.1.1, s.requires.0.auditable.admitted.states_most) in
+    let p : c.start_of-past.result ≡ first_of hs (at + 1) = start_is hs s.args.starts1.now s.requires.0.table _ refl in_table c.start_of-past.ensures in
+    let f : c.start_of-i.result ≡ first_of hs at = start_is hs s.args.starts1.now s.requires.0.table _ refl (omega arith) c.start_of-i.ensures in (
       p,
       omega (arith, first_within hs up (at + 1)),
       omega arith,
@@ -66,24 +66,24 @@ loop-holds c =
       rw f (on_none hs s.args.hops2.now s.args.map.now s.args.seen.now (mapped s.args.map.now at) s.args.k (first_of hs at) s.args.stamps.now),
     )
 
-stamp-hop-requires : tie.Need-stamp-hop-requires invariant-loop decreases-loop
+stamp-hop-requires : tie.Need-stamp_hop-requires invariant-loop decreases-loop
 stamp-hop-requires c κs =
-    let s = c.before.before.before.before.before.before.before.before.before.before.before.before.before.before.before.before in
-    omega (arith, c.before.before.loop.invariant, c.before.loop-test, s.requires.0.auditable.admitted.hops_most)
+    let s = c in
+    omega (arith, c.loop-i.invariant, c.loop-i-test, s.requires.0.auditable.admitted.hops_most)
 
-add-i : tie.Need-overflow-add-i invariant-loop decreases-loop
+add-i : tie.Need-overflow_add-i invariant-loop decreases-loop
 add-i c = search rules
 
-loop-less : tie.Need-loop-smaller invariant-loop decreases-loop
+loop-less : tie.Need-loop-i-smaller invariant-loop decreases-loop
 loop-less c = search rules
 
-loop-again : tie.Need-loop-preserved invariant-loop decreases-loop
+loop-again : tie.Need-loop-i-preserved invariant-loop decreases-loop
 loop-again c =
-    let s = c.before.before.before.before.before.before.before.before.before.before.before.before.before.before.before.before.before.before.before in
-    let v = c.before.before.before.before.before.loop.invariant in
-    let at = c.before.before.before.before.before.before.before.before.before.before.before.before.wide.result in
+    let s = c in
+    let v = c.loop-i.invariant in
+    let at = c.wide-at.result in
     let own = map_of c.before.before.before.before.before.before.before.before.before.before.before.before in
-    let seen-too = and_left (eqb (get_or s.args.seen.now at 0) 1) _ c.before.before.before.before.before.before.before.before.if1.true in (
+    let seen-too = and_left (eqb (get_or s.args.seen.now at 0) 1) _ c.if-seen-at.true in (
       v.0,
       v.1,
       omega arith,
@@ -91,29 +91,29 @@ loop-again c =
       omega arith,
       state_more s.args.hops1.now s.args.hops2.now s.args.map.now s.args.seen.now (mapped s.args.map.now at) s.args.k
           s.requires.0.auditable.admitted.ascending at own s.requires.0.auditable.ready s.args.images.now s.requires.0.imaged (and_yes seen-too (eq-eqb _ _ own))
-          s.args.stamps.now c.before.before.before.before.before.loop.stamps (omega arith) v.2 (omega arith) c.before.before.stamp-hop.ensures v.5,
+          s.args.stamps.now c.loop-i.stamps (omega arith) v.2 (omega arith) c.stamp_hop.ensures v.5,
     )
 
-same_length : tie.Need-same-length invariant-loop decreases-loop
+same_length : tie.Need-shape_of-stamps invariant-loop decreases-loop
 same_length c = omega arith
 
-returns : tie.Need-returns invariant-loop decreases-loop
+returns : tie.Need-returns-after-loop-i invariant-loop decreases-loop
 returns c =
-    let s = c.before.before.before.before.before.before.before.before.before.before.before.before.before.before.before in
-    let v = c.before.loop.invariant in
-    let at = c.before.before.before.before.before.before.before.before.wide.result in
-    let class : s.args.r.0 ≡ mapped s.args.map.now at = sym (eqb-true _ _ (and_right (eqb (get_or s.args.seen.now at 0) 1) _ c.before.before.before.before.if1.true)) ∙ map_of c.before.before.before.before.before.before.before.before in
-    rw (class, ← c.before.before.before.before.before.before.before.before.wide.ensures)
+    let s = c in
+    let v = c.loop-i.invariant in
+    let at = c.wide-at.result in
+    let class : s.args.r.0 ≡ mapped s.args.map.now at = sym (eqb-true _ _ (and_right (eqb (get_or s.args.seen.now at 0) 1) _ c.if-seen-at.true)) ∙ map_of c.before.before.before.before.before.before.before.before in
+    rw (class, ← c.wide-at.ensures)
     (on_done s.args.hops1.now s.args.hops2.now s.args.map.now s.args.seen.now (mapped s.args.map.now at) s.args.k _ _ _ (omega arith) (omega arith) v.5)
 
-returns-2 : tie.Need-returns-2 invariant-loop decreases-loop
+returns-2 : tie.Need-returns-else-seen-at invariant-loop decreases-loop
 returns-2 c =
-    let s = c.before.before.before.before.before.before.before.before.before.before.before in
+    let s = c in
     state_skipped s.args.hops1.now s.args.hops2.now s.args.map.now s.args.seen.now s.args.r.0 s.args.k s.requires.0.auditable.admitted.ascending s.args.u.0
-    c.before.before.before.before.before.map_at.ensures (rw c.before.before.before.before.wide.ensures at c.if1.false) _
+    c.map_at-v.ensures (rw c.wide-at.ensures at c.if-seen-at.false) _
 
-pub stamp-state-spec : {M : Type 1} → statement M
-stamp-state-spec =
+pub stamp_state_spec : {M : Type 1} → statement M
+stamp_state_spec =
     tie.close
     (tie.spec
     invariant-loop

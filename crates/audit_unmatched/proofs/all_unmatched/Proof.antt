@@ -10,29 +10,29 @@ use Rattle.audit_unmatched.proofs.Unmatched.{fresh_start}
 use Rattle.audit_unmatched.proofs.all_unmatched.Statement.{statement}
 use Rattle.audit_unmatched.proofs.all_unmatched.Tie as tie
 
-starts-of-requires : tie.Need-starts-of-requires
-starts-of-requires c κs = admitted_indexable c.before.before.before.requires.0.admitted
+starts-of-requires : tie.Need-starts_of-starts1-requires
+starts-of-requires c κs = admitted_indexable c.requires.0.admitted
 
-silent-bytes-requires : tie.Need-silent-bytes-requires
-silent-bytes-requires c κs = c.before.before.before.before.requires.0.admitted.hops_most
+silent-bytes-requires : tie.Need-silent_bytes-silent-requires
+silent-bytes-requires c κs = c.requires.0.admitted.hops_most
 
-slice-aggregate-unmatched-faults : tie.Need-slice-aggregate-unmatched-faults
+slice-aggregate-unmatched-faults : tie.Need-slice_bounds-unmatched_faults-end
 slice-aggregate-unmatched-faults c = search rules
 
-slice-aggregate-unmatched-faults-2 : tie.Need-slice-aggregate-unmatched-faults-2
+slice-aggregate-unmatched-faults-2 : tie.Need-slice_bounds-unmatched_faults-end-2
 slice-aggregate-unmatched-faults-2 c = search rules
 
-slice-aggregate-unmatched-faults-3 : tie.Need-slice-aggregate-unmatched-faults-3
+slice-aggregate-unmatched-faults-3 : tie.Need-slice_bounds-unmatched_faults-end-3
 slice-aggregate-unmatched-faults-3 c = search rules
 
-slice-aggregate-unmatched-faults-4 : tie.Need-slice-aggregate-unmatched-faults-4
+slice-aggregate-unmatched-faults-4 : tie.Need-slice_bounds-unmatched_faults-end-4
 slice-aggregate-unmatched-faults-4 c = search rules
 
-unmatched-faults-requires : tie.Need-unmatched-faults-requires
+unmatched-faults-requires : tie.Need-unmatched_faults-requires
 unmatched-faults-requires c κs =
-    let s = c.before.before.before.before.before.before.before.before.before.before in
+    let s = c in
     let a = s.requires.0 in
-    let table = c.before.before.before.before.before.before.starts-of.ensures in
+    let table = c.starts_of-starts1.ensures in
     let most = a.admitted.states_most in
     let few = a.ready.hops_most in (
       record {
@@ -42,7 +42,7 @@ unmatched-faults-requires c κs =
             tabled = record { admitted = a.admitted; table = table };
             byte_a_hop = omega (arith, slice-aggregate-unmatched-faults c.before.before.before, a.admitted.hops_most);
           };
-          silent = c.before.before.before.before.before.silent-bytes.ensures;
+          silent = c.silent_bytes-silent.ensures;
         };
         table = s.requires.1.0;
       },
@@ -61,8 +61,8 @@ unmatched-faults-requires c κs =
 returns : tie.Need-returns
 returns c = search rules
 
-pub all-unmatched-spec : {M : Type 1} → statement M
-all-unmatched-spec =
+pub all_unmatched_spec : {M : Type 1} → statement M
+all_unmatched_spec =
     tie.close
     (tie.spec
     starts-of-requires

@@ -5,14 +5,14 @@ use borrow.Author.Tests.{lt-ltb, le-ltb}
 use Rattle.audit_unmatched.proofs.share_of.Statement.{statement}
 use Rattle.audit_unmatched.proofs.share_of.Tie as tie
 
-returns : tie.Need-returns
-returns c = (refl, rw (lt-ltb _ _ c.if1.true) refl)
+returns : tie.Need-returns-then-place-none
+returns c = (refl, rw (lt-ltb _ _ c.if-place-none.true) refl)
 
-no-fault-requires : tie.Need-no-fault-requires
+no-fault-requires : tie.Need-no_fault-requires
 no-fault-requires c κs = search rules
 
-returns-2 : tie.Need-returns-2
-returns-2 c = (refl, rw (le-ltb _ _ c.before.if1.false) c.no-fault.ensures)
+returns-2 : tie.Need-returns
+returns-2 c = (refl, rw (le-ltb _ _ c.if-place-none.false) c.no_fault.ensures)
 
-pub share-of-spec : {M : Type 1} → statement M
-share-of-spec = tie.close (tie.spec returns no-fault-requires returns-2)
+pub share_of_spec : {M : Type 1} → statement M
+share_of_spec = tie.close (tie.spec returns no-fault-requires returns-2)

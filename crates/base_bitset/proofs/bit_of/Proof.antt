@@ -7,11 +7,11 @@ use borrow.Author.Rules.{rules}
 use Rattle.base_bitset.proofs.bit_of.Statement.{statement}
 use Rattle.base_bitset.proofs.bit_of.Tie as tie
 
-shl-result : tie.Need-overflow-shl-result
+shl-result : tie.Need-overflow_shl-result
 shl-result c = search rules
 
 returns : tie.Need-returns
 returns c = ap (λ (n : ℕ). n % 2 ^ 64) (one-mul (2 ^ c.args.b)) ∙ mod-eq_of_lt (pow-lt c.requires)
 
-pub bit-of-spec : {M : Type 1} → statement M
-bit-of-spec = tie.close (tie.spec shl-result returns)
+pub bit_of_spec : {M : Type 1} → statement M
+bit_of_spec = tie.close (tie.spec shl-result returns)

@@ -7,5 +7,5 @@ use Rattle.base_bitset.proofs.holds.Tie as tie
 returns : tie.Need-returns
 returns c = cut_holds 64 c.args.word c.args.other c.ranges.word.fits c.ranges.other.fits
 
-pub holds-spec : {M : Type 1} → statement M
-holds-spec = tie.close (tie.spec returns)
+pub holds_spec : {M : Type 1} → statement M
+holds_spec = tie.close (tie.spec returns)

@@ -6,34 +6,34 @@ use Rattle.c_file.proofs.Results.{written_answer}
 use Rattle.c_file.proofs.write_into.Statement.{statement}
 use Rattle.c_file.proofs.write_into.Tie as tie
 
-write-answer-requires : tie.Need-write-answer-requires
+write-answer-requires : tie.Need-write_answer-unwritten-requires
 write-answer-requires c κs = search rules
 
-short-number-requires : tie.Need-short-number-requires
+short-number-requires : tie.Need-short_number-requires
 short-number-requires c κs = search rules
 
-returns : tie.Need-returns
+returns : tie.Need-returns-then-answer-lt4
 returns c =
-    let l = c.before.before.if1.true in
-    (rw c.before.write-answer.ensures at c.short-number.ensures, (short_kept 4 _ _ _ l, short_answer_after 4 _ _ l))
+    let l = c.if-answer-lt4.true in
+    (rw c.write_answer-unwritten.ensures at c.short_number.ensures, (short_kept 4 _ _ _ l, short_answer_after 4 _ _ l))
 
-write-requires : tie.Need-write-requires
+write-requires : tie.Need-write-written-requires
 write-requires c κs = search rules
 
-put-figure-answer-requires : tie.Need-put-figure-answer-requires
+put-figure-answer-requires : tie.Need-put_figure_answer-requires
 put-figure-answer-requires c κs = search rules
 
-same_length : tie.Need-same-length
+same_length : tie.Need-shape_of-out
 same_length c = search rules
 
-same-length-2 : tie.Need-same-length-2
+same-length-2 : tie.Need-shape_of-answer
 same-length-2 c = search rules
 
-returns-2 : tie.Need-returns-2
+returns-2 : tie.Need-returns
 returns-2 c =
-    let w = c.before.before.before.before.before.before.write.ensures in
-    let l = c.before.before.before.before.before.before.before.before.if1.false in
-    let t = rw w.0 at c.before.before.put-figure-answer.ensures in
+    let w = c.write-written.ensures in
+    let l = c.if-answer-lt4.false in
+    let t = rw w.0 at c.put_figure_answer.ensures in
     rw long_left (rw written_answer at t.0, (w.1, t.1))
 
 pub write_into_spec : {M : Type 1} → statement M

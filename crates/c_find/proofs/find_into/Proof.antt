@@ -5,18 +5,18 @@ use Rattle.graph_find.specs.Find.{find_of}
 use Rattle.c_find.proofs.find_into.Statement.{statement}
 use Rattle.c_find.proofs.find_into.Tie as tie
 
-find-requires : tie.Need-find-requires
+find-requires : tie.Need-find-finding-requires
 find-requires c κs = search rules
 
-put-finding-requires : tie.Need-put-finding-requires
+put-finding-requires : tie.Need-put_finding-requires
 put-finding-requires c κs = search rules
 
-same_length : tie.Need-same-length
+same_length : tie.Need-shape_of-answer
 same_length c = search rules
 
 returns : tie.Need-returns
 unfolding find_of
-returns c = rw c.before.before.before.before.find.ensures at c.before.before.put-finding.ensures
+returns c = rw c.find-finding.ensures at c.put_finding.ensures
 
-pub find-into-spec : {M : Type 1} → statement M
-find-into-spec = tie.close (tie.spec find-requires put-finding-requires same_length returns)
+pub find_into_spec : {M : Type 1} → statement M
+find_into_spec = tie.close (tie.spec find-requires put-finding-requires same_length returns)

@@ -4,17 +4,17 @@ use borrow.Author.Rules.{rules}
 use Rattle.c_mark.proofs.check_into.Statement.{statement}
 use Rattle.c_mark.proofs.check_into.Tie as tie
 
-check-requires : tie.Need-check-requires
+check-requires : tie.Need-check-a-requires
 check-requires c κs = search rules
 
-put-plain-answer-requires : tie.Need-put-plain-answer-requires
+put-plain-answer-requires : tie.Need-put_plain_answer-requires
 put-plain-answer-requires c κs = search rules
 
-same_length : tie.Need-same-length
+same_length : tie.Need-shape_of-answer
 same_length c = search rules
 
 returns : tie.Need-returns
-returns c = rw c.before.before.before.before.check.ensures at c.before.before.put-plain-answer.ensures
+returns c = rw c.check-a.ensures at c.put_plain_answer.ensures
 
-pub check-into-spec : {M : Type 1} → statement M
-check-into-spec = tie.close (tie.spec check-requires put-plain-answer-requires same_length returns)
+pub check_into_spec : {M : Type 1} → statement M
+check_into_spec = tie.close (tie.spec check-requires put-plain-answer-requires same_length returns)

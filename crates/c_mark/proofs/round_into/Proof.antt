@@ -5,22 +5,22 @@ use Rattle.mark_entry_round.specs.Question.{question_of}
 use Rattle.c_mark.proofs.round_into.Statement.{statement}
 use Rattle.c_mark.proofs.round_into.Tie as tie
 
-round-question-requires : tie.Need-round-question-requires
+round-question-requires : tie.Need-round_question-question-requires
 round-question-requires c κs = search rules
 
-cast-put-figure-answer : tie.Need-overflow-cast-put-figure-answer
+cast-put-figure-answer : tie.Need-overflow_cast-question
 cast-put-figure-answer c = search rules
 
-put-figure-answer-requires : tie.Need-put-figure-answer-requires
+put-figure-answer-requires : tie.Need-put_figure_answer-requires
 put-figure-answer-requires c κs = search rules
 
-same_length : tie.Need-same-length
+same_length : tie.Need-shape_of-answer
 same_length c = search rules
 
 returns : tie.Need-returns
 unfolding question_of
-returns c = rw c.before.before.before.before.before.round-question.ensures at c.before.before.put-figure-answer.ensures
+returns c = rw c.round_question-question.ensures at c.put_figure_answer.ensures
 
-pub round-into-spec : {M : Type 1} → statement M
-round-into-spec =
+pub round_into_spec : {M : Type 1} → statement M
+round_into_spec =
     tie.close (tie.spec round-question-requires cast-put-figure-answer put-figure-answer-requires same_length returns)

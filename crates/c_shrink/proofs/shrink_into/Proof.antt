@@ -6,41 +6,41 @@ use Rattle.c_shrink.proofs.Results.{shrunk_answer}
 use Rattle.c_shrink.proofs.shrink_into.Statement.{statement}
 use Rattle.c_shrink.proofs.shrink_into.Tie as tie
 
-reduce-answer-requires : tie.Need-reduce-answer-requires
+reduce-answer-requires : tie.Need-reduce_answer-unwritten-requires
 reduce-answer-requires c κs = search rules
 
-short-number-requires : tie.Need-short-number-requires
+short-number-requires : tie.Need-short_number-requires
 short-number-requires c κs = search rules
 
-returns : tie.Need-returns
+returns : tie.Need-returns-then-answer-lt8
 returns c =
-    let l = c.before.before.if1.true in
-    (rw c.before.reduce-answer.ensures at c.short-number.ensures, (short_kept 8 _ _ _ l, (short_kept 8 _ _ _ l, short_answer_after 8 _ _ l)))
+    let l = c.if-answer-lt8.true in
+    (rw c.reduce_answer-unwritten.ensures at c.short_number.ensures, (short_kept 8 _ _ _ l, (short_kept 8 _ _ _ l, short_answer_after 8 _ _ l)))
 
-shrink-requires : tie.Need-shrink-requires
+shrink-requires : tie.Need-shrink-shrinking-requires
 shrink-requires c κs = search rules
 
-put-shrinking-requires : tie.Need-put-shrinking-requires
+put-shrinking-requires : tie.Need-put_shrinking-requires
 put-shrinking-requires c κs = search rules
 
-same_length : tie.Need-same-length
+same_length : tie.Need-shape_of-map
 same_length c = search rules
 
-same-length-2 : tie.Need-same-length-2
+same-length-2 : tie.Need-shape_of-short
 same-length-2 c = search rules
 
-same-length-3 : tie.Need-same-length-3
+same-length-3 : tie.Need-shape_of-answer
 same-length-3 c = search rules
 
-returns-2 : tie.Need-returns-2
+returns-2 : tie.Need-returns
 returns-2 c =
-    let w = c.before.before.before.before.before.before.before.before.shrink.ensures in
-    let l = c.before.before.before.before.before.before.before.before.before.before.before.if1.false in
-    let t = rw w.0 at c.before.before.put-shrinking.ensures in
+    let w = c.shrink-shrinking.ensures in
+    let l = c.if-answer-lt8.false in
+    let t = rw w.0 at c.put_shrinking.ensures in
     rw (long_left, long_left) (rw shrunk_answer at t.0, (w.1.0, (w.1.1, t.1)))
 
-pub shrink-into-spec : {M : Type 1} → statement M
-shrink-into-spec =
+pub shrink_into_spec : {M : Type 1} → statement M
+shrink_into_spec =
     tie.close
     (tie.spec
     reduce-answer-requires

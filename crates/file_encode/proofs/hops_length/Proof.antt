@@ -8,24 +8,24 @@ use borrow.Author.Rules.{rules}
 use Rattle.file_encode.proofs.hops_length.Statement.{statement}
 use Rattle.file_encode.proofs.hops_length.Tie as tie
 
-hop-count-requires : tie.Need-hop-count-requires
+hop-count-requires : tie.Need-hop_count-n-requires
 hop-count-requires c κs = search rules
 
-returns : tie.Need-returns
-returns c = sym (ap length (hops_none c.before.before.before.args.hops.now (sym c.before.hop-count.ensures ∙ c.if1.true)))
+returns : tie.Need-returns-then-n-eq0
+returns c = sym (ap length (hops_none c.args.hops.now (sym c.hop_count-n.ensures ∙ c.if-n-eq0.true)))
 
-cast-field-length : tie.Need-overflow-cast-field-length
+cast-field-length : tie.Need-overflow_cast-n
 cast-field-length c = search rules
 
-field-length-requires : tie.Need-field-length-requires
+field-length-requires : tie.Need-field_length-requires
 field-length-requires c κs = search rules
 
-returns-2 : tie.Need-returns-2
+returns-2 : tie.Need-returns
 returns-2 c =
-    c.field-length.ensures ∙ ap field_length c.before.before.hop-count.ensures ∙
-    sym (length_hops_some c.before.before.before.before.args.hops.now (λ z. c.before.if1.false (c.before.before.hop-count.ensures ∙ z)))
+    c.field_length.ensures ∙ ap field_length c.hop_count-n.ensures ∙
+    sym (length_hops_some c.args.hops.now (λ z. c.if-n-eq0.false (c.hop_count-n.ensures ∙ z)))
 
-pub hops-length-spec : {M : Type 1} → statement M
-hops-length-spec =
+pub hops_length_spec : {M : Type 1} → statement M
+hops_length_spec =
     tie.close
     (tie.spec hop-count-requires returns cast-field-length field-length-requires returns-2)

@@ -6,11 +6,11 @@ use Rattle.file_encode.proofs.Encoded.{initial_none, initial_some}
 use Rattle.file_encode.proofs.initial_length.Statement.{statement}
 use Rattle.file_encode.proofs.initial_length.Tie as tie
 
-returns : tie.Need-returns
-returns c = sym (ap length (initial_none c.before.before.args.shape c.if1.true))
+returns : tie.Need-returns-then-shape-eq0
+returns c = sym (ap length (initial_none c.args.shape c.if-shape-eq0.true))
 
-returns-2 : tie.Need-returns-2
-returns-2 c = sym (ap length (initial_some c.before.before.args.shape c.if1.false))
+returns-2 : tie.Need-returns
+returns-2 c = sym (ap length (initial_some c.args.shape c.if-shape-eq0.false))
 
-pub initial-length-spec : {M : Type 1} → statement M
-initial-length-spec = tie.close (tie.spec returns returns-2)
+pub initial_length_spec : {M : Type 1} → statement M
+initial_length_spec = tie.close (tie.spec returns returns-2)

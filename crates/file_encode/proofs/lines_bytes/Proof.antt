@@ -8,28 +8,28 @@ use borrow.Author.Rules.{rules}
 use Rattle.file_encode.proofs.lines_bytes.Statement.{statement}
 use Rattle.file_encode.proofs.lines_bytes.Tie as tie
 
-has-line-requires : tie.Need-has-line-requires
+has-line-requires : tie.Need-has_line-requires
 has-line-requires c κs = search rules
 
-hop-count-requires : tie.Need-hop-count-requires
+hop-count-requires : tie.Need-hop_count-requires
 hop-count-requires c κs = search rules
 
-cast-lines-length : tie.Need-overflow-cast-lines-length
+cast-lines-length : tie.Need-overflow_cast-hop_count
 cast-lines-length c = search rules
 
-lines-length-requires : tie.Need-lines-length-requires
+lines-length-requires : tie.Need-lines_length-requires
 lines-length-requires c κs = search rules
 
-returns : tie.Need-returns
+returns : tie.Need-returns-then-has_line
 returns c =
-    let t = c.before.before in
-    c.lines-length.ensures ∙ ap lines_length c.before.hop-count.ensures ∙
-    sym (length_lines_some t.before.before.before.args.hops.now (sym t.before.has-line.ensures ∙ t.if1.true))
+    let t = c in
+    c.lines_length.ensures ∙ ap lines_length c.hop_count.ensures ∙
+    sym (length_lines_some t.args.hops.now (sym t.has_line.ensures ∙ t.if-has_line.true))
 
-returns-2 : tie.Need-returns-2
-returns-2 c = sym (ap length (lines_none c.before.before.before.args.hops.now (sym c.before.has-line.ensures ∙ c.if1.false)))
+returns-2 : tie.Need-returns
+returns-2 c = sym (ap length (lines_none c.args.hops.now (sym c.has_line.ensures ∙ c.if-has_line.false)))
 
-pub lines-bytes-spec : {M : Type 1} → statement M
-lines-bytes-spec =
+pub lines_bytes_spec : {M : Type 1} → statement M
+lines_bytes_spec =
     tie.close
     (tie.spec has-line-requires hop-count-requires cast-lines-length lines-length-requires returns returns-2)

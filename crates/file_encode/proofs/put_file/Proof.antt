@@ -8,75 +8,75 @@ use borrow.Author.Rules.{rules}
 use Rattle.file_encode.proofs.put_file.Statement.{statement}
 use Rattle.file_encode.proofs.put_file.Tie as tie
 
-initial-length-requires : tie.Need-initial-length-requires
+initial-length-requires : tie.Need-initial_length-hops_at-requires
 initial-length-requires c κs = search rules
 
-add-hops-at : tie.Need-overflow-add-hops-at
+add-hops-at : tie.Need-overflow_add-hops_at
 add-hops-at c =
-    let st = c.before.before.before.before in
+    let st = c in
     omega (arith, length_encode st.args.shape st.args.hops.now st.args.names.now, st.requires.1)
 
-hops-length-requires : tie.Need-hops-length-requires
-hops-length-requires c κs = c.before.before.before.before.requires.0.hops_fit
+hops-length-requires : tie.Need-hops_length-requires
+hops-length-requires c κs = c.requires.0.hops_fit
 
-add-names-at : tie.Need-overflow-add-names-at
+add-names-at : tie.Need-overflow_add-names_at
 add-names-at c =
-    let st = c.before.before.before.before.before in
+    let st = c in
     omega (arith, length_encode st.args.shape st.args.hops.now st.args.names.now, st.requires.1)
 
-add-lines-at : tie.Need-overflow-add-lines-at
+add-lines-at : tie.Need-overflow_add-lines_at
 add-lines-at c =
-    let st = c.before.before.before.before.before in
+    let st = c in
     omega (arith, length_encode st.args.shape st.args.hops.now st.args.names.now, st.requires.1)
 
-bits-of-requires : tie.Need-bits-of-requires
+bits-of-requires : tie.Need-bits_of-bits-requires
 bits-of-requires c κs =
-    let st = c.before.before.before.before.before in
-    lines_behind st.args.shape st.args.hops.now st.args.names.now (ap (λ (n : ℕ). initial_place + n) c.before.initial-length.ensures) (ap (λ (n : ℕ). initial_place + c.before.initial-length.result + n) c.hops-length.ensures) refl st.requires.1
+    let st = c in
+    lines_behind st.args.shape st.args.hops.now st.args.names.now (ap (λ (n : ℕ). initial_place + n) c.initial_length-hops_at.ensures) (ap (λ (n : ℕ). initial_place + c.initial_length-hops_at.result + n) c.hops_length.ensures) refl st.requires.1
 
-put-head-requires : tie.Need-put-head-requires
+put-head-requires : tie.Need-put_head-requires
 put-head-requires c κs =
-    let k = c.before.before in
-    let st = k.before.before.before.before.before in
+    let k = c in
+    let st = k in
     (st.requires.0.states_fit, (st.requires.0.labels_fit, omega (arith, length_encode st.args.shape st.args.hops.now st.args.names.now, st.requires.0.fits)))
 
-put-initial-requires : tie.Need-put-initial-requires
+put-initial-requires : tie.Need-put_initial-requires
 put-initial-requires c κs =
-    let k = c.before.before.before.before.before.before in
-    let st = k.before.before.before.before.before in
+    let k = c in
+    let st = k in
     (st.requires.0.initial_fits, omega (arith, length_encode st.args.shape st.args.hops.now st.args.names.now, st.requires.0.fits))
 
-put-hops-requires : tie.Need-put-hops-requires
+put-hops-requires : tie.Need-put_hops-requires
 put-hops-requires c κs =
-    let k = c.before.before.before.before.before.before.before.before.before.before in
-    let st = k.before.before.before.before.before in
-    (st.requires.0.hops_fit, omega (arith, length_encode st.args.shape st.args.hops.now st.args.names.now, st.requires.0.fits, k.before.initial-length.ensures))
+    let k = c in
+    let st = k in
+    (st.requires.0.hops_fit, omega (arith, length_encode st.args.shape st.args.hops.now st.args.names.now, st.requires.0.fits, k.initial_length-hops_at.ensures))
 
-put-bytes-requires : tie.Need-put-bytes-requires
+put-bytes-requires : tie.Need-put_bytes-requires
 put-bytes-requires c κs =
-    let k = c.before.before.before.before.before.before.before.before.before.before.before.before.before.before in
-    let st = k.before.before.before.before.before in
-    omega (arith, length_encode st.args.shape st.args.hops.now st.args.names.now, st.requires.0.fits, k.before.initial-length.ensures, k.hops-length.ensures)
+    let k = c in
+    let st = k in
+    omega (arith, length_encode st.args.shape st.args.hops.now st.args.names.now, st.requires.0.fits, k.initial_length-hops_at.ensures, k.hops_length.ensures)
 
-put-lines-of-requires : tie.Need-put-lines-of-requires
+put-lines-of-requires : tie.Need-put_lines_of-requires
 put-lines-of-requires c κs =
-    let k = c.before.before.before.before.before.before.before.before.before.before.before.before.before.before.before.before.before.before in
-    let st = k.before.before.before.before.before in (
-      lines_behind st.args.shape st.args.hops.now st.args.names.now (ap (λ (n : ℕ). initial_place + n) k.before.initial-length.ensures) (ap (λ (n : ℕ). initial_place + k.before.initial-length.result + n) k.hops-length.ensures) refl st.requires.1,
-      omega (arith, length_encode st.args.shape st.args.hops.now st.args.names.now, st.requires.0.fits, k.before.initial-length.ensures, k.hops-length.ensures, c.before.before.before.before.before.before.before.before.before.before.before.before.before.before.out.given),
+    let k = c in
+    let st = k in (
+      lines_behind st.args.shape st.args.hops.now st.args.names.now (ap (λ (n : ℕ). initial_place + n) k.initial_length-hops_at.ensures) (ap (λ (n : ℕ). initial_place + k.initial_length-hops_at.result + n) k.hops_length.ensures) refl st.requires.1,
+      omega (arith, length_encode st.args.shape st.args.hops.now st.args.names.now, st.requires.0.fits, k.initial_length-hops_at.ensures, k.hops_length.ensures, c.out-1.given),
     )
 
-same_length : tie.Need-same-length
+same_length : tie.Need-shape_of-out
 same_length c = search rules
 
 returns : tie.Need-returns
 returns c =
-    let k = c.before.before.before.before.before.before.before.before.before.before.before.before.before.before.before.before.before.before.before.before.before in
-    let st = k.before.before.before.before.before in
-    file_put st.args.shape st.args.hops.now st.args.names.now (ap (λ (n : ℕ). initial_place + n) k.before.initial-length.ensures) (ap (λ (n : ℕ). initial_place + k.before.initial-length.result + n) k.hops-length.ensures) refl st.args.out.now c.before.before.before.before.before.before.before.before.before.before.before.before.before.before.before.before.before.before.before.before.bits_of.ensures c.before.before.before.before.before.before.before.before.before.before.before.before.before.before.before.before.before.before.put-head.ensures c.before.before.before.before.before.before.before.before.before.before.before.before.before.before.put-initial.ensures c.before.before.before.before.before.before.before.before.before.before.put-hops.ensures c.before.before.before.before.before.before.put-bytes.ensures c.before.before.put-lines-of.ensures
+    let k = c in
+    let st = k in
+    file_put st.args.shape st.args.hops.now st.args.names.now (ap (λ (n : ℕ). initial_place + n) k.initial_length-hops_at.ensures) (ap (λ (n : ℕ). initial_place + k.initial_length-hops_at.result + n) k.hops_length.ensures) refl st.args.out.now c.bits_of-bits.ensures c.put_head.ensures c.put_initial.ensures c.put_hops.ensures c.put_bytes.ensures c.put_lines_of.ensures
 
-pub put-file-spec : {M : Type 1} → statement M
-put-file-spec =
+pub put_file_spec : {M : Type 1} → statement M
+put_file_spec =
     tie.close
     (tie.spec
     initial-length-requires

@@ -8,21 +8,21 @@ use borrow.Author.Rules.{rules}
 use Rattle.file_encode.proofs.put_initial.Statement.{statement}
 use Rattle.file_encode.proofs.put_initial.Tie as tie
 
-cast-put-number : tie.Need-overflow-cast-put-number
+cast-put-number : tie.Need-overflow_cast-shape
 cast-put-number c = search rules
 
-put-number-requires : tie.Need-put-number-requires
-put-number-requires c κs = omega (arith, ap length (initial_some c.before.before.before.before.before.args.shape c.before.before.if1.true), c.before.before.before.before.before.requires)
+put-number-requires : tie.Need-put_number-requires
+put-number-requires c κs = omega (arith, ap length (initial_some c.args.shape c.if-shape-ne0.true), c.requires)
 
-same_length : tie.Need-same-length
+same_length : tie.Need-shape_of-out
 same_length c = search rules
 
-returns : tie.Need-returns
-returns c = initial_put c.before.before.before.before.before.before.before.before.args.at c.before.before.before.before.before.before.before.before.args.out.now c.before.before.before.before.before.before.before.before.args.shape c.before.before.before.before.before.if1.true c.before.before.put-number.ensures
+returns : tie.Need-returns-then-shape-ne0
+returns c = initial_put c.args.at c.args.out.now c.args.shape c.if-shape-ne0.true c.put_number.ensures
 
-returns-2 : tie.Need-returns-2
-returns-2 c = initial_put_none c.before.before.before.args.at c.before.before.before.args.out.now c.before.before.before.args.shape c.if1.false
+returns-2 : tie.Need-returns-else-shape-ne0
+returns-2 c = initial_put_none c.args.at c.args.out.now c.args.shape c.if-shape-ne0.false
 
-pub put-initial-spec : {M : Type 1} → statement M
-put-initial-spec =
+pub put_initial_spec : {M : Type 1} → statement M
+put_initial_spec =
     tie.close (tie.spec cast-put-number put-number-requires same_length returns returns-2)

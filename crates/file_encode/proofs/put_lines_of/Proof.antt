@@ -7,22 +7,22 @@ use borrow.Author.Rules.{rules}
 use Rattle.file_encode.proofs.put_lines_of.Statement.{statement}
 use Rattle.file_encode.proofs.put_lines_of.Tie as tie
 
-put-lines-requires : tie.Need-put-lines-requires
+put-lines-requires : tie.Need-put_lines-requires
 put-lines-requires c κs =
-    let st = c.before.before.before.before in
-    omega (arith, st.requires.1, length_lines_some st.args.hops.now (sym st.requires.0 ∙ c.before.if1.true))
+    let st = c in
+    omega (arith, st.requires.1, length_lines_some st.args.hops.now (sym st.requires.0 ∙ c.if-lined.true))
 
-same_length : tie.Need-same-length
+same_length : tie.Need-shape_of-out
 same_length c = search rules
 
-returns : tie.Need-returns
+returns : tie.Need-returns-then-lined
 returns c =
-    let st = c.before.before.before.before.before.before.before in
-    lines_put st.args.at st.args.out.now st.args.hops.now st.requires.0 c.before.before.before.before.if1.true c.before.before.put-lines.ensures
+    let st = c in
+    lines_put st.args.at st.args.out.now st.args.hops.now st.requires.0 c.if-lined.true c.put_lines.ensures
 
-returns-2 : tie.Need-returns-2
-returns-2 c = let st = c.before.before.before in lines_put_none st.args.at st.args.out.now st.args.hops.now st.requires.0 c.if1.false
+returns-2 : tie.Need-returns-else-lined
+returns-2 c = let st = c in lines_put_none st.args.at st.args.out.now st.args.hops.now st.requires.0 c.if-lined.false
 
-pub put-lines-of-spec : {M : Type 1} → statement M
-put-lines-of-spec =
+pub put_lines_of_spec : {M : Type 1} → statement M
+put_lines_of_spec =
     tie.close (tie.spec put-lines-requires same_length returns returns-2)

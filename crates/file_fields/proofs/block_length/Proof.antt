@@ -9,28 +9,28 @@ use borrow.Author.Rules.{rules}
 use Rattle.file_fields.proofs.block_length.Statement.{statement}
 use Rattle.file_fields.proofs.block_length.Tie as tie
 
-has-names-requires : tie.Need-has-names-requires
+has-names-requires : tie.Need-has_names-requires
 has-names-requires c κs = search rules
 
-lines-place-requires : tie.Need-lines-place-requires
+lines-place-requires : tie.Need-lines_place-requires
 lines-place-requires c κs = search rules
 
-names-place-requires : tie.Need-names-place-requires
+names-place-requires : tie.Need-names_place-requires
 names-place-requires c κs = search rules
 
-sub-result : tie.Need-overflow-sub-result
-sub-result c = omega (arith, names_before_lines c.before.before.before.before.before.args.file.now)
+sub-result : tie.Need-overflow_sub-result
+sub-result c = omega (arith, names_before_lines c.args.file.now)
 
-returns : tie.Need-returns
+returns : tie.Need-returns-then-has_names
 unfolding block_length
-returns c = chosen c.before.before.before.has-names.ensures c.before.before.if1.true _ _ (cc)
+returns c = chosen c.has_names.ensures c.if-has_names.true _ _ (cc)
 
-returns-2 : tie.Need-returns-2
+returns-2 : tie.Need-returns
 unfolding block_length
-returns-2 c = other c.before.has-names.ensures c.if1.false _ _ refl
+returns-2 c = other c.has_names.ensures c.if-has_names.false _ _ refl
 
-pub block-length-spec : {M : Type 1} → statement M
-block-length-spec =
+pub block_length_spec : {M : Type 1} → statement M
+block_length_spec =
     tie.close
     (tie.spec
     has-names-requires

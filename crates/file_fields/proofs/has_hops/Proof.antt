@@ -4,12 +4,12 @@ use borrow.Author.Rules.{rules}
 use Rattle.file_fields.proofs.has_hops.Statement.{statement}
 use Rattle.file_fields.proofs.has_hops.Tie as tie
 
-byte-at-requires : tie.Need-byte-at-requires
+byte-at-requires : tie.Need-byte_at-requires
 byte-at-requires c κs = search rules
 
 returns : tie.Need-returns
 unfolding has_hops
 returns c = cc
 
-pub has-hops-spec : {M : Type 1} → statement M
-has-hops-spec = tie.close (tie.spec byte-at-requires returns)
+pub has_hops_spec : {M : Type 1} → statement M
+has_hops_spec = tie.close (tie.spec byte-at-requires returns)

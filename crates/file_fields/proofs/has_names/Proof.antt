@@ -4,12 +4,12 @@ use borrow.Author.Rules.{rules}
 use Rattle.file_fields.proofs.has_names.Statement.{statement}
 use Rattle.file_fields.proofs.has_names.Tie as tie
 
-byte-at-requires : tie.Need-byte-at-requires
+byte-at-requires : tie.Need-byte_at-requires
 byte-at-requires c κs = search rules
 
 returns : tie.Need-returns
 unfolding has_names
 returns c = cc
 
-pub has-names-spec : {M : Type 1} → statement M
-has-names-spec = tie.close (tie.spec byte-at-requires returns)
+pub has_names_spec : {M : Type 1} → statement M
+has_names_spec = tie.close (tie.spec byte-at-requires returns)

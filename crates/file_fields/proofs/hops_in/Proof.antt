@@ -9,23 +9,23 @@ use borrow.Author.Rules.{rules}
 use Rattle.file_fields.proofs.hops_in.Statement.{statement}
 use Rattle.file_fields.proofs.hops_in.Tie as tie
 
-has-hops-requires : tie.Need-has-hops-requires
+has-hops-requires : tie.Need-has_hops-requires
 has-hops-requires c κs = search rules
 
-hops-place-requires : tie.Need-hops-place-requires
+hops-place-requires : tie.Need-hops_place-requires
 hops-place-requires c κs = search rules
 
-number-at-requires : tie.Need-number-at-requires
-number-at-requires c κs = omega (arith, hops_place_most c.before.before.before.before.args.file.now)
+number-at-requires : tie.Need-number_at-requires
+number-at-requires c κs = omega (arith, hops_place_most c.args.file.now)
 
-returns : tie.Need-returns
+returns : tie.Need-returns-then-has_hops
 unfolding hops_in
-returns c = chosen c.before.before.before.has-hops.ensures c.before.before.if1.true _ _ (rw (← c.before.hops-place.ensures) c.number_at.ensures)
+returns c = chosen c.has_hops.ensures c.if-has_hops.true _ _ (rw (← c.hops_place.ensures) c.number_at.ensures)
 
-returns-2 : tie.Need-returns-2
+returns-2 : tie.Need-returns
 unfolding hops_in
-returns-2 c = other c.before.has-hops.ensures c.if1.false _ _ refl
+returns-2 c = other c.has_hops.ensures c.if-has_hops.false _ _ refl
 
-pub hops-in-spec : {M : Type 1} → statement M
-hops-in-spec =
+pub hops_in_spec : {M : Type 1} → statement M
+hops_in_spec =
     tie.close (tie.spec has-hops-requires hops-place-requires number-at-requires returns returns-2)

@@ -7,19 +7,19 @@ use borrow.Author.Rules.{rules}
 use Rattle.file_fields.proofs.hops_place.Statement.{statement}
 use Rattle.file_fields.proofs.hops_place.Tie as tie
 
-has-initial-requires : tie.Need-has-initial-requires
+has-initial-requires : tie.Need-has_initial-requires
 has-initial-requires c κs = search rules
 
-add-result : tie.Need-overflow-add-result
+add-result : tie.Need-overflow_add-result
 add-result c = search rules
 
-returns : tie.Need-returns
+returns : tie.Need-returns-then-has_initial
 unfolding hops_place
-returns c = chosen c.before.has-initial.ensures c.if1.true _ _ refl
+returns c = chosen c.has_initial.ensures c.if-has_initial.true _ _ refl
 
-returns-2 : tie.Need-returns-2
+returns-2 : tie.Need-returns
 unfolding hops_place
-returns-2 c = other c.before.has-initial.ensures c.if1.false _ _ refl
+returns-2 c = other c.has_initial.ensures c.if-has_initial.false _ _ refl
 
-pub hops-place-spec : {M : Type 1} → statement M
-hops-place-spec = tie.close (tie.spec has-initial-requires add-result returns returns-2)
+pub hops_place_spec : {M : Type 1} → statement M
+hops_place_spec = tie.close (tie.spec has-initial-requires add-result returns returns-2)

@@ -7,19 +7,19 @@ use borrow.Author.Rules.{rules}
 use Rattle.file_fields.proofs.initial_in.Statement.{statement}
 use Rattle.file_fields.proofs.initial_in.Tie as tie
 
-has-initial-requires : tie.Need-has-initial-requires
+has-initial-requires : tie.Need-has_initial-requires
 has-initial-requires c κs = search rules
 
-number-at-requires : tie.Need-number-at-requires
+number-at-requires : tie.Need-number_at-requires
 number-at-requires c κs = search rules
 
-returns : tie.Need-returns
+returns : tie.Need-returns-then-has_initial
 unfolding initial_in
-returns c = chosen c.before.before.has-initial.ensures c.before.if1.true _ _ c.number_at.ensures
+returns c = chosen c.has_initial.ensures c.if-has_initial.true _ _ c.number_at.ensures
 
-returns-2 : tie.Need-returns-2
+returns-2 : tie.Need-returns
 unfolding initial_in
-returns-2 c = other c.before.has-initial.ensures c.if1.false _ _ refl
+returns-2 c = other c.has_initial.ensures c.if-has_initial.false _ _ refl
 
-pub initial-in-spec : {M : Type 1} → statement M
-initial-in-spec = tie.close (tie.spec has-initial-requires number-at-requires returns returns-2)
+pub initial_in_spec : {M : Type 1} → statement M
+initial_in_spec = tie.close (tie.spec has-initial-requires number-at-requires returns returns-2)

@@ -4,15 +4,15 @@ use borrow.Author.Rules.{rules}
 use Rattle.file_fields.proofs.lines_in.Statement.{statement}
 use Rattle.file_fields.proofs.lines_in.Tie as tie
 
-has-lines-requires : tie.Need-has-lines-requires
+has-lines-requires : tie.Need-has_lines-stand-requires
 has-lines-requires c κs = search rules
 
-lines-place-requires : tie.Need-lines-place-requires
+lines-place-requires : tie.Need-lines_place-at-requires
 lines-place-requires c κs = search rules
 
 returns : tie.Need-returns
 unfolding lines_in
 returns c = cc
 
-pub lines-in-spec : {M : Type 1} → statement M
-lines-in-spec = tie.close (tie.spec has-lines-requires lines-place-requires returns)
+pub lines_in_spec : {M : Type 1} → statement M
+lines_in_spec = tie.close (tie.spec has-lines-requires lines-place-requires returns)

@@ -6,10 +6,10 @@ use borrow.Author.Rules.{rules}
 use Rattle.file_fields.proofs.lines_place.Statement.{statement}
 use Rattle.file_fields.proofs.lines_place.Tie as tie
 
-line-bytes-in-requires : tie.Need-line-bytes-in-requires
+line-bytes-in-requires : tie.Need-line_bytes_in-requires
 line-bytes-in-requires c κs = search rules
 
-sub-result : tie.Need-overflow-sub-result
+sub-result : tie.Need-overflow_sub-result
 unfolding needed_length
 sub-result c = omega arith
 
@@ -17,5 +17,5 @@ returns : tie.Need-returns
 unfolding needed_length
 returns c = omega arith
 
-pub lines-place-spec : {M : Type 1} → statement M
-lines-place-spec = tie.close (tie.spec line-bytes-in-requires sub-result returns)
+pub lines_place_spec : {M : Type 1} → statement M
+lines_place_spec = tie.close (tie.spec line-bytes-in-requires sub-result returns)

@@ -6,29 +6,29 @@ use borrow.Author.Rules.{rules}
 use Rattle.file_fields.proofs.names_place.Statement.{statement}
 use Rattle.file_fields.proofs.names_place.Tie as tie
 
-hops-place-requires : tie.Need-hops-place-requires
+hops-place-requires : tie.Need-hops_place-place-requires
 hops-place-requires c κs = search rules
 
-has-hops-requires : tie.Need-has-hops-requires
+has-hops-requires : tie.Need-has_hops-requires
 has-hops-requires c κs = search rules
 
-hops-in-requires : tie.Need-hops-in-requires
+hops-in-requires : tie.Need-hops_in-requires
 hops-in-requires c κs = search rules
 
-field-length-requires : tie.Need-field-length-requires
+field-length-requires : tie.Need-field_length-requires
 field-length-requires c κs = search rules
 
-add-result : tie.Need-overflow-add-result
-add-result c = omega (arith, c.before.before.before.before.hops-place.ensures, hops_place_most c.before.before.before.before.before.before.args.file.now, c.field-length.ensures)
+add-result : tie.Need-overflow_add-result
+add-result c = omega (arith, c.hops_place-place.ensures, hops_place_most c.args.file.now, c.field_length.ensures)
 
-returns : tie.Need-returns
-returns c = place_with_hops _ c.before.before.before.before.hops-place.ensures c.before.before.before.has-hops.ensures c.before.before.if1.true c.before.hops-in.ensures c.field-length.ensures
+returns : tie.Need-returns-then-has_hops
+returns c = place_with_hops _ c.hops_place-place.ensures c.has_hops.ensures c.if-has_hops.true c.hops_in.ensures c.field_length.ensures
 
-returns-2 : tie.Need-returns-2
-returns-2 c = place_without _ c.before.before.hops-place.ensures c.before.has-hops.ensures c.if1.false
+returns-2 : tie.Need-returns
+returns-2 c = place_without _ c.hops_place-place.ensures c.has_hops.ensures c.if-has_hops.false
 
-pub names-place-spec : {M : Type 1} → statement M
-names-place-spec =
+pub names_place_spec : {M : Type 1} → statement M
+names_place_spec =
     tie.close
     (tie.spec
     hops-place-requires

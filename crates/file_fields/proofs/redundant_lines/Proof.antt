@@ -8,30 +8,30 @@ use borrow.Author.Rules.{rules}
 use Rattle.file_fields.proofs.redundant_lines.Statement.{statement}
 use Rattle.file_fields.proofs.redundant_lines.Tie as tie
 
-has-lines-requires : tie.Need-has-lines-requires
+has-lines-requires : tie.Need-has_lines-requires
 has-lines-requires c κs = search rules
 
-lines-place-requires : tie.Need-lines-place-requires
+lines-place-requires : tie.Need-lines_place-requires
 lines-place-requires c κs = search rules
 
-hops-in-requires : tie.Need-hops-in-requires
+hops-in-requires : tie.Need-hops_in-requires
 hops-in-requires c κs = search rules
 
-cast-are-zero : tie.Need-overflow-cast-are-zero
+cast-are-zero : tie.Need-overflow_cast-hops_in
 cast-are-zero c = search rules
 
-are-zero-requires : tie.Need-are-zero-requires
+are-zero-requires : tie.Need-are_zero-requires
 unfolding needed_length
-are-zero-requires c κs = omega (arith, lines_on c.before.before.before.before.before.args.file.now (sym c.before.before.before.has-lines.ensures ∙ c.before.before.if1.true))
+are-zero-requires c κs = omega (arith, lines_on c.args.file.now (sym c.has_lines.ensures ∙ c.if-has_lines.true))
 
-returns : tie.Need-returns
-returns c = rw (sym c.before.before.before.before.has-lines.ensures ∙ c.before.before.before.if1.true) (cc)
+returns : tie.Need-returns-then-has_lines
+returns c = rw (sym c.has_lines.ensures ∙ c.if-has_lines.true) (cc)
 
-returns-2 : tie.Need-returns-2
-returns-2 c = rw (sym c.before.has-lines.ensures ∙ c.if1.false)
+returns-2 : tie.Need-returns
+returns-2 c = rw (sym c.has_lines.ensures ∙ c.if-has_lines.false)
 
-pub redundant-lines-spec : {M : Type 1} → statement M
-redundant-lines-spec =
+pub redundant_lines_spec : {M : Type 1} → statement M
+redundant_lines_spec =
     tie.close
     (tie.spec
     has-lines-requires

@@ -9,88 +9,88 @@ use borrow.Author.Rules.{rules}
 use Rattle.file_format.proofs.rest_answer.Statement.{statement}
 use Rattle.file_format.proofs.rest_answer.Tie as tie
 
-names-in-requires : tie.Need-names-in-requires
+names-in-requires : tie.Need-names_in-n-requires
 names-in-requires c κs = search rules
 
-cast-n : tie.Need-overflow-cast-n
+cast-n : tie.Need-overflow_cast-n
 cast-n c = search rules
 
-end-of-requires : tie.Need-end-of-requires
+end-of-requires : tie.Need-end_of-names_end-requires
 end-of-requires c κs = search rules
 
-line-bytes-in-requires : tie.Need-line-bytes-in-requires
+line-bytes-in-requires : tie.Need-line_bytes_in-requires
 line-bytes-in-requires c κs = search rules
 
-add-end : tie.Need-overflow-add-end
+add-end : tie.Need-overflow_add-end
 add-end c =
-    let a = c.before.before.before.before.before.args in
+    let a = c.args in
     omega (
       arith,
-      name_most a.rest.now (λ i. omega (arith, c.before.before.before.shared-slice-known2.given i)) c.before.before.names_in.result,
-      line_bytes_most a.file.now (λ i. omega (arith, c.before.before.before.before.shared-slice-known.given i)),
+      name_most a.rest.now (λ i. omega (arith, c.shared_slice_known-2-1.given i)) c.names_in-n.result,
+      line_bytes_most a.file.now (λ i. omega (arith, c.shared_slice_known-1.given i)),
     )
 
 refuse-requires : tie.Need-refuse-requires
 refuse-requires c κs = search rules
 
-returns : tie.Need-returns
+returns : tie.Need-returns-then-rest-end
 returns c =
-    let l = c.before.before in
-    c.refuse.ensures ∙ rest_early l.before.before.before.before.before.requires l.before.before.names_in.ensures l.before.end_of_lem.ensures l.line-bytes-in.ensures c.before.if1.true
+    let l = c in
+    c.refuse.ensures ∙ rest_early l.requires l.names_in-n.ensures l.end_of-names_end.ensures l.line_bytes_in.ensures c.if-rest-end.true
 
-add-refuse : tie.Need-overflow-add-refuse
+add-refuse : tie.Need-overflow_add-place
 add-refuse c = search rules
 
-refuse-requires-2 : tie.Need-refuse-requires-2
+refuse-requires-2 : tie.Need-refuse-requires-then-end-rest
 refuse-requires-2 c κs = search rules
 
-returns-2 : tie.Need-returns-2
+returns-2 : tie.Need-returns-then-end-rest
 returns-2 c =
-    let l = c.before.before.before in
-    c.refuse2.ensures ∙ rest_left l.before.before.before.before.before.requires l.before.before.names_in.ensures l.before.end_of_lem.ensures l.line-bytes-in.ensures c.before.if2.true
+    let l = c in
+    c.refuse-then-end-rest.ensures ∙ rest_left l.requires l.names_in-n.ensures l.end_of-names_end.ensures l.line_bytes_in.ensures c.if-end-rest.true
 
-redundant-bit-requires : tie.Need-redundant-bit-requires
+redundant-bit-requires : tie.Need-redundant_bit-requires
 redundant-bit-requires c κs =
-    let l = c.before.before in
-    rest_exact l.before.before.before.before.before.requires l.before.before.names_in.ensures l.before.end_of_lem.ensures l.line-bytes-in.ensures (omega arith)
+    let l = c in
+    rest_exact l.requires l.names_in-n.ensures l.end_of-names_end.ensures l.line_bytes_in.ensures (omega arith)
 
-refuse-requires-3 : tie.Need-refuse-requires-3
+refuse-requires-3 : tie.Need-refuse-requires-then-redundant_bit
 refuse-requires-3 c κs = search rules
 
-returns-3 : tie.Need-returns-3
+returns-3 : tie.Need-returns-then-redundant_bit
 returns-3 c =
-    let l = c.before.before.before.before.before in
-    c.refuse3.ensures ∙ rest_redundant l.before.before.before.before.before.requires l.before.before.names_in.ensures l.before.end_of_lem.ensures l.line-bytes-in.ensures (omega arith) c.before.before.redundant-bit.ensures c.before.if3.true
+    let l = c in
+    c.refuse-then-redundant_bit.ensures ∙ rest_redundant l.requires l.names_in-n.ensures l.end_of-names_end.ensures l.line_bytes_in.ensures (omega arith) c.redundant_bit.ensures c.if-redundant_bit.true
 
-slice-aggregate-first-bad : tie.Need-slice-aggregate-first-bad
+slice-aggregate-first-bad : tie.Need-slice_bounds-first_bad-end
 slice-aggregate-first-bad c = search rules
 
-first-bad-requires : tie.Need-first-bad-requires
+first-bad-requires : tie.Need-first_bad-bad-requires
 first-bad-requires c κs =
-    let l = c.before.before.before.before.before in
-    rest_searchable l.before.before.before.before.before.requires l.before.before.names_in.ensures l.before.end_of_lem.ensures l.line-bytes-in.ensures (omega arith) (omega arith)
+    let l = c in
+    rest_searchable l.requires l.names_in-n.ensures l.end_of-names_end.ensures l.line_bytes_in.ensures (omega arith) (omega arith)
 
-add-refuse-2 : tie.Need-overflow-add-refuse-2
+add-refuse-2 : tie.Need-overflow_add-place-then-bad-names_end
 add-refuse-2 c = search rules
 
-refuse-requires-4 : tie.Need-refuse-requires-4
+refuse-requires-4 : tie.Need-refuse-requires-then-bad-names_end
 refuse-requires-4 c κs = search rules
 
-returns-4 : tie.Need-returns-4
+returns-4 : tie.Need-returns-then-bad-names_end
 returns-4 c =
-    let l = c.before.before.before.before.before.before.before.before.before in
-    c.refuse4.ensures ∙ rest_bad l.before.before.before.before.before.requires l.before.before.names_in.ensures l.before.end_of_lem.ensures l.line-bytes-in.ensures (omega arith) c.before.before.before.before.before.before.redundant-bit.ensures c.before.before.before.before.before.if3.false c.before.before.before.first-bad.ensures c.before.if4.true
+    let l = c in
+    c.refuse-then-bad-names_end.ensures ∙ rest_bad l.requires l.names_in-n.ensures l.end_of-names_end.ensures l.line_bytes_in.ensures (omega arith) c.redundant_bit.ensures c.if-redundant_bit.false c.first_bad-bad.ensures c.if-bad-names_end.true
 
 accept-requires : tie.Need-accept-requires
 accept-requires c κs = search rules
 
-returns-5 : tie.Need-returns-5
+returns-5 : tie.Need-returns
 returns-5 c =
-    let l = c.before.before.before.before.before.before.before.before.before in
-    c.accept.ensures ∙ rest_good l.before.before.before.before.before.requires l.before.before.names_in.ensures l.before.end_of_lem.ensures l.line-bytes-in.ensures (omega arith) c.before.before.before.before.before.before.redundant-bit.ensures c.before.before.before.before.before.if3.false c.before.before.before.first-bad.ensures c.before.if4.false
+    let l = c in
+    c.accept.ensures ∙ rest_good l.requires l.names_in-n.ensures l.end_of-names_end.ensures l.line_bytes_in.ensures (omega arith) c.redundant_bit.ensures c.if-redundant_bit.false c.first_bad-bad.ensures c.if-bad-names_end.false
 
-pub rest-answer-spec : {M : Type 1} → statement M
-rest-answer-spec =
+pub rest_answer_spec : {M : Type 1} → statement M
+rest_answer_spec =
     tie.close
     (tie.spec
     names-in-requires

@@ -13,50 +13,50 @@ use Rattle.file_lines.proofs.Laws.{zero_line}
 use Rattle.file_lines.proofs.are_zero.Statement.{statement}
 use Rattle.file_lines.proofs.are_zero.Tie as tie
 
-abbrev invariant-loop : tie.invariant-loop
+abbrev invariant-loop : tie.invariant-loop-i
 invariant-loop file at n i₀ i = (all i (zero_line file at) ≡ true) × (i ≤ n) × (line_place at n ≤ length file)
 
-abbrev decreases-loop : tie.decreases-loop
+abbrev decreases-loop : tie.decreases-loop-i
 decreases-loop file at n i₀ i = n - i
 
-loop-holds : tie.Need-loop-init invariant-loop decreases-loop
-loop-holds c = (all_none (zero_line c.before.args.file.now c.before.args.at), omega arith, c.before.requires)
+loop-holds : tie.Need-loop-i-init invariant-loop decreases-loop
+loop-holds c = (all_none (zero_line c.args.file.now c.args.at), omega arith, c.requires)
 
-mul-number-in : tie.Need-overflow-mul-number-in invariant-loop decreases-loop
+mul-number-in : tie.Need-overflow_mul-i invariant-loop decreases-loop
 mul-number-in c = search rules
 
-add-number-in : tie.Need-overflow-add-number-in invariant-loop decreases-loop
+add-number-in : tie.Need-overflow_add-at invariant-loop decreases-loop
 add-number-in c = search rules
 
-number-in-requires : tie.Need-number-in-requires invariant-loop decreases-loop
+number-in-requires : tie.Need-number_in-requires invariant-loop decreases-loop
 number-in-requires c κs = search rules
 
-returns : tie.Need-returns invariant-loop decreases-loop
+returns : tie.Need-returns-then-number_in-ne0 invariant-loop decreases-loop
 unfolding zero_lines
 returns c =
-    let a = c.before.before.before.before.before.args in
-    sym (all_fails (zero_line a.file.now a.at) a.n c.before.before.loop-test.true (ne_eqb _ _ (λ e. c.if1.true (c.before.number_in.ensures ∙ e))))
+    let a = c.args in
+    sym (all_fails (zero_line a.file.now a.at) a.n c.loop-i-test.true (ne_eqb _ _ (λ e. c.if-number_in-ne0.true (c.number_in.ensures ∙ e))))
 
-add-i : tie.Need-overflow-add-i invariant-loop decreases-loop
+add-i : tie.Need-overflow_add-i invariant-loop decreases-loop
 add-i c = search rules
 
-loop-less : tie.Need-loop-smaller invariant-loop decreases-loop
+loop-less : tie.Need-loop-i-smaller invariant-loop decreases-loop
 loop-less c = search rules
 
-loop-again : tie.Need-loop-preserved invariant-loop decreases-loop
+loop-again : tie.Need-loop-i-preserved invariant-loop decreases-loop
 loop-again c =
-    let a = c.before.before.before.before.before.args in
-    let v = c.before.before.before.loop in
-    (all_more (zero_line a.file.now a.at) v.i v.invariant.0 (eq-eqb _ _ (sym c.before.number_in.ensures ∙ c.if1.false)), omega arith, v.invariant.2)
+    let a = c.args in
+    let v = c.loop-i in
+    (all_more (zero_line a.file.now a.at) v.i v.invariant.0 (eq-eqb _ _ (sym c.number_in.ensures ∙ c.if-number_in-ne0.false)), omega arith, v.invariant.2)
 
-returns-2 : tie.Need-returns-2 invariant-loop decreases-loop
+returns-2 : tie.Need-returns invariant-loop decreases-loop
 unfolding zero_lines
 returns-2 c =
-    let a = c.before.before.before.args in
-    sym (all_done (zero_line a.file.now a.at) c.before.loop.invariant.1 (omega arith) c.before.loop.invariant.0)
+    let a = c.args in
+    sym (all_done (zero_line a.file.now a.at) c.loop-i.invariant.1 (omega arith) c.loop-i.invariant.0)
 
-pub are-zero-spec : {M : Type 1} → statement M
-are-zero-spec =
+pub are_zero_spec : {M : Type 1} → statement M
+are_zero_spec =
     tie.close
     (tie.spec
     invariant-loop

@@ -5,23 +5,23 @@ use Rattle.file_lines.specs.LineField.{line_in}
 use Rattle.file_lines.proofs.line_in.Statement.{statement}
 use Rattle.file_lines.proofs.line_in.Tie as tie
 
-mul-number-in : tie.Need-overflow-mul-number-in
-mul-number-in c = omega (arith, c.before.before.requires c.if1.true)
+mul-number-in : tie.Need-overflow_mul-i
+mul-number-in c = omega (arith, c.requires c.if-lines.true)
 
-add-number-in : tie.Need-overflow-add-number-in
-add-number-in c = omega (arith, c.before.before.before.requires c.before.if1.true)
+add-number-in : tie.Need-overflow_add-lines
+add-number-in c = omega (arith, c.requires c.if-lines.true)
 
-number-in-requires : tie.Need-number-in-requires
-number-in-requires c κs = omega (arith, c.before.before.before.requires c.before.if1.true)
+number-in-requires : tie.Need-number_in-requires
+number-in-requires c κs = omega (arith, c.requires c.if-lines.true)
 
-returns : tie.Need-returns
+returns : tie.Need-returns-then-lines
 unfolding line_in
-returns c = rw c.before.before.if1.true c.number_in.ensures
+returns c = rw c.if-lines.true c.number_in.ensures
 
-returns-2 : tie.Need-returns-2
+returns-2 : tie.Need-returns
 unfolding line_in
-returns-2 c = rw c.if1.false
+returns-2 c = rw c.if-lines.false
 
-pub line-in-spec : {M : Type 1} → statement M
-line-in-spec =
+pub line_in_spec : {M : Type 1} → statement M
+line_in_spec =
     tie.close (tie.spec mul-number-in add-number-in number-in-requires returns returns-2)

@@ -13,55 +13,55 @@ use Rattle.file_lines.proofs.put_lines.Statement.{statement}
 use Rattle.file_lines.proofs.put_lines.Tie as tie
 use Rattle.base_outputs.specs.Concat.{concat}
 
-abbrev invariant-loop : tie.invariant-loop
+abbrev invariant-loop : tie.invariant-loop-i
 invariant-loop out₀ at hops n i₀ out i =
     (out ≡ over_at at (concat i (line_bytes hops)) out₀) × (length out ≡ length out₀) × (i ≤ n) × (n ≡ count hops) × (line_place at (count hops) ≤ length out₀)
 
-abbrev decreases-loop : tie.decreases-loop
+abbrev decreases-loop : tie.decreases-loop-i
 decreases-loop out₀ at hops n i₀ out i = n - i
 
-hop-count-requires : tie.Need-hop-count-requires invariant-loop decreases-loop
+hop-count-requires : tie.Need-hop_count-n-requires invariant-loop decreases-loop
 hop-count-requires c κs = search rules
 
-loop-holds : tie.Need-loop-init invariant-loop decreases-loop
+loop-holds : tie.Need-loop-i-init invariant-loop decreases-loop
 loop-holds c =
-    let a = c.before.before.before.args in
-    (lines_none a.hops.now a.at a.out.now, refl, omega arith, c.hop-count.ensures, c.before.before.before.requires)
+    let a = c.args in
+    (lines_none a.hops.now a.at a.out.now, refl, omega arith, c.hop_count-n.ensures, c.requires)
 
-mul-put-number : tie.Need-overflow-mul-put-number invariant-loop decreases-loop
+mul-put-number : tie.Need-overflow_mul-i invariant-loop decreases-loop
 mul-put-number c = search rules
 
-add-put-number : tie.Need-overflow-add-put-number invariant-loop decreases-loop
+add-put-number : tie.Need-overflow_add-at invariant-loop decreases-loop
 add-put-number c = search rules
 
-line-at-requires : tie.Need-line-at-requires invariant-loop decreases-loop
+line-at-requires : tie.Need-line_at-requires invariant-loop decreases-loop
 line-at-requires c κs = search rules
 
-put-number-requires : tie.Need-put-number-requires invariant-loop decreases-loop
+put-number-requires : tie.Need-put_number-requires invariant-loop decreases-loop
 put-number-requires c κs = search rules
 
-add-i : tie.Need-overflow-add-i invariant-loop decreases-loop
+add-i : tie.Need-overflow_add-i invariant-loop decreases-loop
 add-i c = search rules
 
-loop-less : tie.Need-loop-smaller invariant-loop decreases-loop
+loop-less : tie.Need-loop-i-smaller invariant-loop decreases-loop
 loop-less c = search rules
 
-loop-again : tie.Need-loop-preserved invariant-loop decreases-loop
+loop-again : tie.Need-loop-i-preserved invariant-loop decreases-loop
 loop-again c =
-    let a = c.before.before.before.before.before.before.before.before.before.before.args in
-    let v = c.before.before.before.before.before.before.loop.invariant in
-    (lines_more a.hops.now a.at a.out.now v.0 c.before.before.before.line_at.ensures c.before.before.put-number.ensures (omega arith) v.4, omega arith, omega arith, v.3, v.4)
+    let a = c.args in
+    let v = c.loop-i.invariant in
+    (lines_more a.hops.now a.at a.out.now v.0 c.line_at.ensures c.put_number.ensures (omega arith) v.4, omega arith, omega arith, v.3, v.4)
 
-same_length : tie.Need-same-length invariant-loop decreases-loop
+same_length : tie.Need-shape_of-out invariant-loop decreases-loop
 same_length c = search rules
 
 returns : tie.Need-returns invariant-loop decreases-loop
 returns c =
-    let a = c.before.before.before.before.before.args in
-    lines_done a.hops.now a.at a.out.now c.before.loop.invariant.0 c.before.loop.invariant.3 (omega arith) (omega arith)
+    let a = c.args in
+    lines_done a.hops.now a.at a.out.now c.loop-i.invariant.0 c.loop-i.invariant.3 (omega arith) (omega arith)
 
-pub put-lines-spec : {M : Type 1} → statement M
-put-lines-spec =
+pub put_lines_spec : {M : Type 1} → statement M
+put_lines_spec =
     tie.close
     (tie.spec
     invariant-loop

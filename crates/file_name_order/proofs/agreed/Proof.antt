@@ -11,73 +11,73 @@ use Rattle.file_name_order.proofs.Fours.{agree_more}
 use Rattle.file_name_order.proofs.agreed.Statement.{statement}
 use Rattle.file_name_order.proofs.agreed.Tie as tie
 
-abbrev invariant-loop : tie.invariant-loop
+abbrev invariant-loop : tie.invariant-loop-i
 invariant-loop block p q n i₀ i = (n ≡ get_or block p 0) × (get_or block q 0 ≡ n) × (i ≤ n + 1) × Lies block p × Lies block q × Agree block p q i
 
-abbrev decreases-loop : tie.decreases-loop
+abbrev decreases-loop : tie.decreases-loop-i
 decreases-loop block p q n i₀ i = n + 1 - i
 
-shared-slice-read-n : tie.Need-shared-slice-read-n invariant-loop decreases-loop
+shared-slice-read-n : tie.Need-bounds-block-p invariant-loop decreases-loop
 shared-slice-read-n c = search rules
 
-cast-n : tie.Need-overflow-cast-n invariant-loop decreases-loop
+cast-n : tie.Need-overflow_cast-n invariant-loop decreases-loop
 cast-n c = search rules
 
-shared-slice-read-if1 : tie.Need-shared-slice-read-if1 invariant-loop decreases-loop
+shared-slice-read-if1 : tie.Need-bounds-block-q invariant-loop decreases-loop
 shared-slice-read-if1 c = search rules
 
-cast-if1 : tie.Need-overflow-cast-if1 invariant-loop decreases-loop
+cast-if1 : tie.Need-overflow_cast-block invariant-loop decreases-loop
 cast-if1 c = search rules
 
-returns : tie.Need-returns invariant-loop decreases-loop
+returns : tie.Need-returns-then-block-q invariant-loop decreases-loop
 returns c = (below_none _, omega arith)
 
-loop-holds : tie.Need-loop-init invariant-loop decreases-loop
+loop-holds : tie.Need-loop-i-init invariant-loop decreases-loop
 loop-holds c = (search rules, search rules, omega arith, search rules, search rules, below_none _)
 
-add-loop : tie.Need-overflow-add-loop invariant-loop decreases-loop
+add-loop : tie.Need-overflow_add-i invariant-loop decreases-loop
 add-loop c = search rules
 
-add-four-in : tie.Need-overflow-add-four-in invariant-loop decreases-loop
+add-four-in : tie.Need-overflow_add-p invariant-loop decreases-loop
 add-four-in c = search rules
 
-four-in-requires : tie.Need-four-in-requires invariant-loop decreases-loop
+four-in-requires : tie.Need-four_in-requires invariant-loop decreases-loop
 four-in-requires c κs = omega arith
 
-add-four-in-2 : tie.Need-overflow-add-four-in-2 invariant-loop decreases-loop
+add-four-in-2 : tie.Need-overflow_add-q invariant-loop decreases-loop
 add-four-in-2 c = omega arith
 
-four-in-requires-2 : tie.Need-four-in-requires-2 invariant-loop decreases-loop
+four-in-requires-2 : tie.Need-four_in-requires-in-loop-i invariant-loop decreases-loop
 four-in-requires-2 c κs = omega arith
 
-returns-2 : tie.Need-returns-2 invariant-loop decreases-loop
+returns-2 : tie.Need-returns-then-four_in invariant-loop decreases-loop
 returns-2 c = search rules
 
-add-i : tie.Need-overflow-add-i invariant-loop decreases-loop
+add-i : tie.Need-overflow_add-i-in-loop-i invariant-loop decreases-loop
 add-i c = search rules
 
-loop-less : tie.Need-loop-smaller invariant-loop decreases-loop
+loop-less : tie.Need-loop-i-smaller invariant-loop decreases-loop
 loop-less c = omega arith
 
-loop-again : tie.Need-loop-preserved invariant-loop decreases-loop
+loop-again : tie.Need-loop-i-preserved invariant-loop decreases-loop
 loop-again c =
-    let at = c.before.before.before.before in
-    let v = at.loop.invariant in
-    let st = at.before.before.before.before.before in (
+    let at = c in
+    let v = at.loop-i.invariant in
+    let st = at in (
       search rules,
       search rules,
       omega arith,
       search rules,
       search rules,
-      agree_more st.args.block.now (λ j. (at.before.before.shared-slice-known3.given j).fits) st.args.p st.args.q at.loop.i v.5
-          (sym c.before.before.four-in.ensures ∙ c.if2.false ∙ c.before.four-in2.ensures),
+      agree_more st.args.block.now (λ j. (at.shared_slice_known-3-1.given j).fits) st.args.p st.args.q at.loop-i.i v.5
+          (sym c.four_in.ensures ∙ c.if-four_in.false ∙ c.four_in-in-loop-i.ensures),
     )
 
-returns-3 : tie.Need-returns-3 invariant-loop decreases-loop
+returns-3 : tie.Need-returns invariant-loop decreases-loop
 returns-3 c = search rules
 
-pub agreed-spec : {M : Type 1} → statement M
-agreed-spec =
+pub agreed_spec : {M : Type 1} → statement M
+agreed_spec =
     tie.close
     (tie.spec
     invariant-loop

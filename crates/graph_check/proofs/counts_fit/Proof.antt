@@ -4,21 +4,21 @@ use Rattle.graph_check.specs.Check.{counts_fit}
 use Rattle.graph_check.proofs.counts_fit.Statement.{statement}
 use Rattle.graph_check.proofs.counts_fit.Tie as tie
 
-hop-count-requires : tie.Need-hop-count-requires
+hop-count-requires : tie.Need-hop_count-n-requires
 hop-count-requires c κs = search rules
 
-is-whole-requires : tie.Need-is-whole-requires
+is-whole-requires : tie.Need-is_whole-whole-requires
 is-whole-requires c κs = search rules
 
-cast-result : tie.Need-overflow-cast-result
+cast-result : tie.Need-overflow_cast-result
 cast-result c = search rules
 
-cast-result-2 : tie.Need-overflow-cast-result-2
+cast-result-2 : tie.Need-overflow_cast-result-2
 cast-result-2 c = search rules
 
 returns : tie.Need-returns
 unfolding counts_fit
 returns c = cc
 
-pub counts-fit-spec : {M : Type 1} → statement M
-counts-fit-spec = tie.close (tie.spec hop-count-requires is-whole-requires cast-result cast-result-2 returns)
+pub counts_fit_spec : {M : Type 1} → statement M
+counts_fit_spec = tie.close (tie.spec hop-count-requires is-whole-requires cast-result cast-result-2 returns)

@@ -12,42 +12,42 @@ use Rattle.base_bounded.proofs.Quantifiers.{least_none, least_more, least_found,
 use Rattle.graph_check.proofs.first_outside.Statement.{statement}
 use Rattle.graph_check.proofs.first_outside.Tie as tie
 
-abbrev invariant-loop : tie.invariant-loop
+abbrev invariant-loop : tie.invariant-loop-i
 invariant-loop shape hops n i₀ i = (n ≡ count hops) × (i ≤ n) × (least i (λ (j : ℕ). not (inside shape hops j)) ≡ i)
 
-abbrev decreases-loop : tie.decreases-loop
+abbrev decreases-loop : tie.decreases-loop-i
 decreases-loop shape hops n i₀ i = n - i
 
-hop-count-requires : tie.Need-hop-count-requires invariant-loop decreases-loop
+hop-count-requires : tie.Need-hop_count-n-requires invariant-loop decreases-loop
 hop-count-requires c κs = search rules
 
-loop-holds : tie.Need-loop-init invariant-loop decreases-loop
+loop-holds : tie.Need-loop-i-init invariant-loop decreases-loop
 loop-holds c = (search rules, search rules, least_none _)
 
-is-inside-requires : tie.Need-is-inside-requires invariant-loop decreases-loop
+is-inside-requires : tie.Need-is_inside-requires invariant-loop decreases-loop
 is-inside-requires c κs = search rules
 
-returns : tie.Need-returns invariant-loop decreases-loop
+returns : tie.Need-returns-then-not-is_inside invariant-loop decreases-loop
 unfolding first_outside
 returns c =
-    sym (least_found _ _ (omega arith) c.before.before.before.loop.invariant.2 (ap not (sym c.before.is-inside.ensures) ∙ c.if1.true))
+    sym (least_found _ _ (omega arith) c.loop-i.invariant.2 (ap not (sym c.is_inside.ensures) ∙ c.if-not-is_inside.true-raw))
 
-add-i : tie.Need-overflow-add-i invariant-loop decreases-loop
+add-i : tie.Need-overflow_add-i invariant-loop decreases-loop
 add-i c = search rules
 
-loop-less : tie.Need-loop-smaller invariant-loop decreases-loop
+loop-less : tie.Need-loop-i-smaller invariant-loop decreases-loop
 loop-less c = search rules
 
-loop-again : tie.Need-loop-preserved invariant-loop decreases-loop
+loop-again : tie.Need-loop-i-preserved invariant-loop decreases-loop
 loop-again c =
-    (search rules, omega arith, least_more _ _ c.before.before.before.loop.invariant.2 (ap not (sym c.before.is-inside.ensures) ∙ c.if1.false))
+    (search rules, omega arith, least_more _ _ c.loop-i.invariant.2 (ap not (sym c.is_inside.ensures) ∙ c.if-not-is_inside.false-raw))
 
-returns-2 : tie.Need-returns-2 invariant-loop decreases-loop
+returns-2 : tie.Need-returns invariant-loop decreases-loop
 unfolding first_outside
-returns-2 c = c.before.before.hop-count.ensures ∙ sym (least_done _ (omega arith) (omega arith) c.before.loop.invariant.2)
+returns-2 c = c.hop_count-n.ensures ∙ sym (least_done _ (omega arith) (omega arith) c.loop-i.invariant.2)
 
-pub first-outside-spec : {M : Type 1} → statement M
-first-outside-spec =
+pub first_outside_spec : {M : Type 1} → statement M
+first_outside_spec =
     tie.close
     (tie.spec
     invariant-loop

@@ -5,20 +5,20 @@ use Rattle.graph_hops_of.proofs.Chosen.{chosen_refused, chosen_first, chosen_sec
 use Rattle.graph_hops_of.proofs.choose.Statement.{statement}
 use Rattle.graph_hops_of.proofs.choose.Tie as tie
 
-both-pass-requires : tie.Need-both-pass-requires
+both-pass-requires : tie.Need-both_pass-requires
 both-pass-requires c κs = search rules
 
-returns : tie.Need-returns
-returns c = chosen_refused _ _ _ _ _ _ c.before.both-pass.ensures c.if1.true
+returns : tie.Need-returns-then-not-both_pass
+returns c = chosen_refused _ _ _ _ _ _ c.both_pass.ensures c.if-not-both_pass.true-raw
 
-returns-2 : tie.Need-returns-2
-returns-2 c = chosen_first _ _ _ _ _ _ c.before.before.before.both-pass.ensures c.before.before.if1.false c.if2.true
+returns-2 : tie.Need-returns-then-side-state
+returns-2 c = chosen_first _ _ _ _ _ _ c.both_pass.ensures c.if-not-both_pass.false-raw c.if-side-state.true
 
-returns-3 : tie.Need-returns-3
-returns-3 c = chosen_second _ _ _ _ _ _ c.before.before.before.before.before.both-pass.ensures c.before.before.before.before.if1.false c.before.before.if2.false c.if3.true
+returns-3 : tie.Need-returns-then-side-state-2
+returns-3 c = chosen_second _ _ _ _ _ _ c.both_pass.ensures c.if-not-both_pass.false-raw c.if-side-state.false c.if-side-state-2.true
 
-returns-4 : tie.Need-returns-4
-returns-4 c = chosen_none _ _ _ _ _ _ c.before.before.before.before.before.both-pass.ensures c.before.before.before.before.if1.false c.before.before.if2.false c.if3.false
+returns-4 : tie.Need-returns
+returns-4 c = chosen_none _ _ _ _ _ _ c.both_pass.ensures c.if-not-both_pass.false-raw c.if-side-state.false c.if-side-state-2.false
 
 pub choose_spec : {M : Type 1} → statement M
 choose_spec = tie.close (tie.spec both-pass-requires returns returns-2 returns-3 returns-4)

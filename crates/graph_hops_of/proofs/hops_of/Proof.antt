@@ -9,47 +9,47 @@ use Rattle.graph_hops_of.proofs.Chosen.{chosen_hops}
 use Rattle.graph_hops_of.proofs.hops_of.Statement.{statement}
 use Rattle.graph_hops_of.proofs.hops_of.Tie as tie
 
-choose-requires : tie.Need-choose-requires
+choose-requires : tie.Need-choose-which-requires
 choose-requires c κs = search rules
 
-out-of-requires : tie.Need-out-of-requires
+out-of-requires : tie.Need-out_of-requires
 out-of-requires c κs =
-    let t = (chosen_hops _ _ _ _ _ _).0 (sym c.before.choose.ensures ∙ c.if1.true) in
+    let t = (chosen_hops _ _ _ _ _ _).0 (sym c.choose-which.ensures ∙ c.if-which-eq1.true) in
     (t.admitted.ascending, omega (arith, t.present, t.admitted.states_most))
 
-returns : tie.Need-returns
+returns : tie.Need-returns-then-which-eq1
 unfolding hops_of_side hops_of_address
 returns c =
-    let e = c.before.before.choose.ensures in
-    let f = eq-eqb _ 1 c.before.if1.true in
-    (rw (← e, f) c.out_of_lem.ensures.0, rw (← e, f) c.out_of_lem.ensures.1)
+    let e = c.choose-which.ensures in
+    let f = eq-eqb _ 1 c.if-which-eq1.true in
+    (rw (← e, f) c.out_of.ensures.0, rw (← e, f) c.out_of.ensures.1)
 
-out-of-requires-2 : tie.Need-out-of-requires-2
+out-of-requires-2 : tie.Need-out_of-requires-then-which-eq2
 out-of-requires-2 c κs =
-    let t = (chosen_hops _ _ _ _ _ _).1 (sym c.before.before.choose.ensures ∙ c.if2.true) in
+    let t = (chosen_hops _ _ _ _ _ _).1 (sym c.choose-which.ensures ∙ c.if-which-eq2.true) in
     (t.admitted.ascending, omega (arith, t.present, t.admitted.states_most))
 
-returns-2 : tie.Need-returns-2
+returns-2 : tie.Need-returns-then-which-eq2
 unfolding hops_of_side hops_of_address
 returns-2 c =
-    let e = c.before.before.before.choose.ensures in
-    let f = ne_eqb _ 1 c.before.before.if1.false in
-    let g = eq-eqb _ 2 c.before.if2.true in
-    (rw (← e, f, g) c.out-of2.ensures.0, rw (← e, f, g) c.out-of2.ensures.1)
+    let e = c.choose-which.ensures in
+    let f = ne_eqb _ 1 c.if-which-eq1.false in
+    let g = eq-eqb _ 2 c.if-which-eq2.true in
+    (rw (← e, f, g) c.out_of-then-which-eq2.ensures.0, rw (← e, f, g) c.out_of-then-which-eq2.ensures.1)
 
 part-requires : tie.Need-part-requires
 part-requires c κs = search rules
 
-returns-3 : tie.Need-returns-3
+returns-3 : tie.Need-returns
 unfolding hops_of_side hops_of_address
 returns-3 c =
-    let e = c.before.before.before.choose.ensures in
-    let f = ne_eqb _ 1 c.before.before.if1.false in
-    let g = ne_eqb _ 2 c.before.if2.false in
+    let e = c.choose-which.ensures in
+    let f = ne_eqb _ 1 c.if-which-eq1.false in
+    let g = ne_eqb _ 2 c.if-which-eq2.false in
     (rw (← e, f, g) c.part.ensures.0, rw (← e, f, g) c.part.ensures.1)
 
-pub hops-of-spec : {M : Type 1} → statement M
-hops-of-spec =
+pub hops_of_spec : {M : Type 1} → statement M
+hops_of_spec =
     tie.close
     (tie.spec
     choose-requires

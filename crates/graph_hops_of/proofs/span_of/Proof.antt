@@ -9,38 +9,38 @@ use Rattle.graph_hops_of.proofs.Chosen.{chosen_hops}
 use Rattle.graph_hops_of.proofs.span_of.Statement.{statement}
 use Rattle.graph_hops_of.proofs.span_of.Tie as tie
 
-choose-requires : tie.Need-choose-requires
+choose-requires : tie.Need-choose-which-requires
 choose-requires c κs = search rules
 
-span-in-requires : tie.Need-span-in-requires
+span-in-requires : tie.Need-span_in-requires
 span-in-requires c κs =
-    let t = (chosen_hops _ _ _ _ _ _).0 (sym c.before.choose.ensures ∙ c.if1.true) in
+    let t = (chosen_hops _ _ _ _ _ _).0 (sym c.choose-which.ensures ∙ c.if-which-eq1.true) in
     (t.admitted.ascending, (t.admitted.hops_most, omega (arith, t.present, t.admitted.states_most)))
 
-returns : tie.Need-returns
+returns : tie.Need-returns-then-which-eq1
 unfolding span_of
-returns c = rw (← c.before.before.choose.ensures, eq-eqb _ 1 c.before.if1.true) c.span-in.ensures
+returns c = rw (← c.choose-which.ensures, eq-eqb _ 1 c.if-which-eq1.true) c.span_in.ensures
 
-span-in-requires-2 : tie.Need-span-in-requires-2
+span-in-requires-2 : tie.Need-span_in-requires-then-which-eq2
 span-in-requires-2 c κs =
-    let t = (chosen_hops _ _ _ _ _ _).1 (sym c.before.before.choose.ensures ∙ c.if2.true) in
+    let t = (chosen_hops _ _ _ _ _ _).1 (sym c.choose-which.ensures ∙ c.if-which-eq2.true) in
     (t.admitted.ascending, (t.admitted.hops_most, omega (arith, t.present, t.admitted.states_most)))
 
-returns-2 : tie.Need-returns-2
+returns-2 : tie.Need-returns-then-which-eq2
 unfolding span_of
 returns-2 c =
-    rw (← c.before.before.before.choose.ensures, ne_eqb _ 1 c.before.before.if1.false, eq-eqb _ 2 c.before.if2.true) c.span-in2.ensures
+    rw (← c.choose-which.ensures, ne_eqb _ 1 c.if-which-eq1.false, eq-eqb _ 2 c.if-which-eq2.true) c.span_in-then-which-eq2.ensures
 
-no-span-requires : tie.Need-no-span-requires
+no-span-requires : tie.Need-no_span-requires
 no-span-requires c κs = search rules
 
-returns-3 : tie.Need-returns-3
+returns-3 : tie.Need-returns
 unfolding span_of
 returns-3 c =
-    rw (← c.before.before.before.choose.ensures, ne_eqb _ 1 c.before.before.if1.false, ne_eqb _ 2 c.before.if2.false) c.no_span.ensures
+    rw (← c.choose-which.ensures, ne_eqb _ 1 c.if-which-eq1.false, ne_eqb _ 2 c.if-which-eq2.false) c.no_span.ensures
 
-pub span-of-spec : {M : Type 1} → statement M
-span-of-spec =
+pub span_of_spec : {M : Type 1} → statement M
+span_of_spec =
     tie.close
     (tie.spec
     choose-requires

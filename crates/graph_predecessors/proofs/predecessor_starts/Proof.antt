@@ -7,15 +7,15 @@ use Rattle.graph_predecessors.proofs.PredecessorIndex.{targets_column}
 use Rattle.graph_predecessors.proofs.predecessor_starts.Statement.{statement}
 use Rattle.graph_predecessors.proofs.predecessor_starts.Tie as tie
 
-hop-count-requires : tie.Need-hop-count-requires
+hop-count-requires : tie.Need-hop_count-n-requires
 hop-count-requires c κs = search rules
 
-key-starts-requires : tie.Need-key-starts-requires
-key-starts-requires c κs = targets_column _ c.before.before.requires c.hop-count.ensures
+key-starts-requires : tie.Need-key_starts-requires
+key-starts-requires c κs = targets_column _ c.requires c.hop_count-n.ensures
 
 returns : tie.Need-returns
 unfolding KeyStarts PredecessorStarts
-returns c = rw c.before.hop-count.ensures at c.key-starts.ensures
+returns c = rw c.hop_count-n.ensures at c.key_starts.ensures
 
-pub predecessor-starts-spec : {M : Type 1} → statement M
-predecessor-starts-spec = tie.close (tie.spec hop-count-requires key-starts-requires returns)
+pub predecessor_starts_spec : {M : Type 1} → statement M
+predecessor_starts_spec = tie.close (tie.spec hop-count-requires key-starts-requires returns)

@@ -5,34 +5,34 @@ use Rattle.graph_successors.proofs.Rows.{index_bracket, index_absent}
 use Rattle.graph_successors.proofs.find_row.Statement.{statement}
 use Rattle.graph_successors.proofs.find_row.Tie as tie
 
-wide-requires : tie.Need-wide-requires
+wide-requires : tie.Need-wide-s-requires
 wide-requires c κs = search rules
 
-start-of-requires : tie.Need-start-of-requires
+start-of-requires : tie.Need-start_of-requires
 start-of-requires c κs = search rules
 
-add-start-of : tie.Need-overflow-add-start-of
+add-start-of : tie.Need-overflow_add-s
 add-start-of c = search rules
 
-start-of-requires-2 : tie.Need-start-of-requires-2
+start-of-requires-2 : tie.Need-start_of-requires-2
 start-of-requires-2 c κs = search rules
 
-find-between-requires : tie.Need-find-between-requires
+find-between-requires : tie.Need-find_between-requires
 find-between-requires c κs =
-    let st = c.before.before.before.before in
-    let s = c.before.before.wide.ensures in (
+    let st = c in
+    let s = c.wide-s.ensures in (
       st.requires.0.ascending,
       (
-        index_bracket _ _ st.requires.0.ascending st.requires.1.0 _ s st.requires.1.1 c.before.start_of_lem.ensures c.start-of2.ensures,
-        index_absent _ _ st.requires.0.ascending st.requires.1.0 _ s st.requires.1.1 c.start-of2.ensures,
+        index_bracket _ _ st.requires.0.ascending st.requires.1.0 _ s st.requires.1.1 c.start_of.ensures c.start_of-2.ensures,
+        index_absent _ _ st.requires.0.ascending st.requires.1.0 _ s st.requires.1.1 c.start_of-2.ensures,
       ),
     )
 
 returns : tie.Need-returns
 returns c = search rules
 
-pub find-row-spec : {M : Type 1} → statement M
-find-row-spec =
+pub find_row_spec : {M : Type 1} → statement M
+find_row_spec =
     tie.close
     (tie.spec
     wide-requires

@@ -12,25 +12,25 @@ use Rattle.graph_successors.proofs.labelled_from.Tie as tie
 wide-requires : tie.Need-wide-requires
 wide-requires c κs = search rules
 
-start-of-requires : tie.Need-start-of-requires
+start-of-requires : tie.Need-start_of-requires
 start-of-requires c κs = search rules
 
-returns : tie.Need-returns
+returns : tie.Need-returns-then-a-eq0
 unfolding labelled_from first_of
 returns c =
-    let st = c.before.before.before.before.before in
-    let first = start_is _ _ st.requires.1.0 _ c.before.wide.ensures (omega (arith, st.requires.1.1)) c.start_of_lem.ensures in
-    rw c.before.before.if1.true first
+    let st = c in
+    let first = start_is _ _ st.requires.1.0 _ c.wide.ensures (omega (arith, st.requires.1.1)) c.start_of.ensures in
+    rw c.if-a-eq0.true first
 
-hop-of-requires : tie.Need-hop-of-requires
+hop-of-requires : tie.Need-hop_of-requires
 hop-of-requires c κs = search rules
 
-lower-row-requires : tie.Need-lower-row-requires
-lower-row-requires c κs = let st = c.before.before.before.before in (st.requires.0, (st.requires.1.0, rw c.hop-of.ensures st.requires.1.1))
+lower-row-requires : tie.Need-lower_row-requires
+lower-row-requires c κs = let st = c in (st.requires.0, (st.requires.1.0, rw c.hop_of.ensures st.requires.1.1))
 
-returns-2 : tie.Need-returns-2
+returns-2 : tie.Need-returns
 unfolding labelled_from
-returns-2 c = c.lower-row.ensures ∙ rw c.before.hop-of.ensures
+returns-2 c = c.lower_row.ensures ∙ rw c.hop_of.ensures
 
-pub labelled-from-spec : {M : Type 1} → statement M
-labelled-from-spec = tie.close (tie.spec wide-requires start-of-requires returns hop-of-requires lower-row-requires returns-2)
+pub labelled_from_spec : {M : Type 1} → statement M
+labelled_from_spec = tie.close (tie.spec wide-requires start-of-requires returns hop-of-requires lower-row-requires returns-2)

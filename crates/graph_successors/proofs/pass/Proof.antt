@@ -12,49 +12,49 @@ use Rattle.graph_successors.proofs.Firsts.{first_below, first_is}
 use Rattle.graph_successors.proofs.pass.Statement.{statement}
 use Rattle.graph_successors.proofs.pass.Tie as tie
 
-abbrev invariant-loop : tie.invariant-loop
+abbrev invariant-loop : tie.invariant-loop-i
 invariant-loop hops at s n i₀ i = (n ≡ count hops) × (i ≤ n) × ((j : ℕ) → j < i → from hops j < s + 1)
 
-abbrev decreases-loop : tie.decreases-loop
+abbrev decreases-loop : tie.decreases-loop-i
 decreases-loop hops at s n i₀ i = n - i
 
-hop-count-requires : tie.Need-hop-count-requires invariant-loop decreases-loop
+hop-count-requires : tie.Need-hop_count-n-requires invariant-loop decreases-loop
 hop-count-requires c κs = search rules
 
-loop-holds : tie.Need-loop-init invariant-loop decreases-loop
+loop-holds : tie.Need-loop-i-init invariant-loop decreases-loop
 loop-holds c =
-    let st = c.before.before in (
-      c.hop-count.ensures,
+    let st = c in (
+      c.hop_count-n.ensures,
       omega (arith, first_within st.args.hops.now st.requires.0.ascending st.args.s),
       λ j l. omega (arith, first_below st.args.hops.now st.requires.0.ascending st.args.s {j = j} (omega (arith, l, st.requires.1))),
     )
 
-hop-at-requires : tie.Need-hop-at-requires invariant-loop decreases-loop
+hop-at-requires : tie.Need-hop_at-requires invariant-loop decreases-loop
 hop-at-requires c κs = search rules
 
 wide-requires : tie.Need-wide-requires invariant-loop decreases-loop
 wide-requires c κs = search rules
 
-returns : tie.Need-returns invariant-loop decreases-loop
+returns : tie.Need-returns-then-wide-s invariant-loop decreases-loop
 returns c =
-    let st = c.before.before.before.before.before.before.before in
-    first_is st.args.hops.now st.requires.0.ascending (st.args.s + 1) (omega arith) c.before.before.before.before.loop.invariant.2
-    (λ l. omega (arith, ap (λ (h : Hop). h.from) c.before.before.hop-at.ensures))
+    let st = c in
+    first_is st.args.hops.now st.requires.0.ascending (st.args.s + 1) (omega arith) c.loop-i.invariant.2
+    (λ l. omega (arith, ap (λ (h : Hop). h.from) c.hop_at.ensures))
 
-add-i : tie.Need-overflow-add-i invariant-loop decreases-loop
+add-i : tie.Need-overflow_add-i invariant-loop decreases-loop
 add-i c = search rules
 
-loop-less : tie.Need-loop-smaller invariant-loop decreases-loop
+loop-less : tie.Need-loop-i-smaller invariant-loop decreases-loop
 loop-less c = search rules
 
-loop-again : tie.Need-loop-preserved invariant-loop decreases-loop
+loop-again : tie.Need-loop-i-preserved invariant-loop decreases-loop
 loop-again c =
-    (omega arith, omega arith, below_more _ _ c.before.before.before.before.loop.invariant.2 (omega (arith, ap (λ (h : Hop). h.from) c.before.before.hop-at.ensures)))
+    (omega arith, omega arith, below_more _ _ c.loop-i.invariant.2 (omega (arith, ap (λ (h : Hop). h.from) c.hop_at.ensures)))
 
-returns-2 : tie.Need-returns-2 invariant-loop decreases-loop
+returns-2 : tie.Need-returns invariant-loop decreases-loop
 returns-2 c =
-    let st = c.before.before.before.before in
-    first_is st.args.hops.now st.requires.0.ascending (st.args.s + 1) (omega arith) c.before.loop.invariant.2 (λ l. absurd (omega arith))
+    let st = c in
+    first_is st.args.hops.now st.requires.0.ascending (st.args.s + 1) (omega arith) c.loop-i.invariant.2 (λ l. absurd (omega arith))
 
 pub pass_spec : {M : Type 1} → statement M
 pass_spec =

@@ -5,14 +5,14 @@ use Rattle.mark_batch.proofs.Trying.{back_nowhere}
 use Rattle.mark_batch.proofs.after_table.Statement.{statement}
 use Rattle.mark_batch.proofs.after_table.Tie as tie
 
-returns : tie.Need-returns
-returns c = rw (after_nowhere c.before.before.before.args.sense c.if1.true) (back_nowhere _ _)
+returns : tie.Need-returns-then-sense
+returns c = rw (after_nowhere c.args.sense c.if-sense.true) (back_nowhere _ _)
 
 gather-requires : tie.Need-gather-requires
 gather-requires c κs = search rules
 
-returns-2 : tie.Need-returns-2
-returns-2 c = rw (after_walks c.before.before.before.before.before.args.sense c.before.before.if1.false) c.gather.ensures
+returns-2 : tie.Need-returns
+returns-2 c = rw (after_walks c.args.sense c.if-sense.false) c.gather.ensures
 
-pub after-table-spec : {M : Type 1} → statement M
-after-table-spec = tie.close (tie.spec returns gather-requires returns-2)
+pub after_table_spec : {M : Type 1} → statement M
+after_table_spec = tie.close (tie.spec returns gather-requires returns-2)

@@ -4,17 +4,17 @@ use Rattle.mark_senses.proofs.Row.{closing_single, closing_walks}
 use Rattle.mark_batch.proofs.closing_table.Statement.{statement}
 use Rattle.mark_batch.proofs.closing_table.Tie as tie
 
-pass-once-requires : tie.Need-pass-once-requires
+pass-once-requires : tie.Need-pass_once-requires
 pass-once-requires c κs = search rules
 
-returns : tie.Need-returns
-returns c = rw (closing_single c.before.before.before.before.before.args.sense c.before.before.if1.true) c.pass-once.ensures
+returns : tie.Need-returns-then-sense
+returns c = rw (closing_single c.args.sense c.if-sense.true) c.pass_once.ensures
 
-pass-on-requires : tie.Need-pass-on-requires
+pass-on-requires : tie.Need-pass_on-requires
 pass-on-requires c κs = search rules
 
-returns-2 : tie.Need-returns-2
-returns-2 c = rw (closing_walks c.before.before.before.before.before.args.sense c.before.before.if1.false) c.pass_on.ensures
+returns-2 : tie.Need-returns-else-sense
+returns-2 c = rw (closing_walks c.args.sense c.if-sense.false) c.pass_on.ensures
 
-pub closing-table-spec : {M : Type 1} → statement M
-closing-table-spec = tie.close (tie.spec pass-once-requires pass-on-requires returns returns-2)
+pub closing_table_spec : {M : Type 1} → statement M
+closing_table_spec = tie.close (tie.spec pass-once-requires pass-on-requires returns returns-2)

@@ -7,37 +7,37 @@ use Rattle.mark_batch.proofs.Trying.{Tables, filtered_swept}
 use Rattle.mark_batch.proofs.try_batch.Statement.{statement}
 use Rattle.mark_batch.proofs.try_batch.Tie as tie
 
-put-keys-requires : tie.Need-put-keys-requires
-put-keys-requires c κs = let st = c.before.before.before in (st.requires.0.admitted, (st.requires.1.1.0, (st.requires.1.1.1, refl)))
+put-keys-requires : tie.Need-put_keys-requires
+put-keys-requires c κs = let st = c in (st.requires.0.admitted, (st.requires.1.1.0, (st.requires.1.1.1, refl)))
 
-closing-table-requires : tie.Need-closing-table-requires
-closing-table-requires c κs = let st = c.before.before.before.before.before.before in (st.requires.0.ready, (st.requires.0.ordered, st.requires.1.0.capacity))
+closing-table-requires : tie.Need-closing_table-requires
+closing-table-requires c κs = let st = c in (st.requires.0.ready, (st.requires.0.ordered, st.requires.1.0.capacity))
 
-after-table-requires : tie.Need-after-table-requires
-after-table-requires c κs = let st = c.before.before.before.before.before.before.before.before.before in (st.requires.0.ready, (st.requires.0.ordered, st.requires.1.0.capacity))
+after-table-requires : tie.Need-after_table-requires
+after-table-requires c κs = let st = c in (st.requires.0.ready, (st.requires.0.ordered, st.requires.1.0.capacity))
 
-put-keys-requires-2 : tie.Need-put-keys-requires-2
-put-keys-requires-2 c κs = let st = c.before.before.before.before.before.before.before.before.before.before.before in (st.requires.0.admitted, (st.requires.1.1.0, (st.requires.1.1.1, refl)))
+put-keys-requires-2 : tie.Need-put_keys-requires-2
+put-keys-requires-2 c κs = let st = c in (st.requires.0.admitted, (st.requires.1.1.0, (st.requires.1.1.1, refl)))
 
-put-answers-requires : tie.Need-put-answers-requires
-put-answers-requires c κs = let st = c.before.before.before.before.before.before.before.before.before.before.before.before.before.before.before in st.requires.0.admitted
+put-answers-requires : tie.Need-put_answers-requires
+put-answers-requires c κs = let st = c in st.requires.0.admitted
 
-before-table-requires : tie.Need-before-table-requires
-before-table-requires c κs = let st = c.before.before.before.before.before.before.before.before.before.before.before.before.before.before.before.before.before.before in (st.requires.0.ready, (st.requires.0.ordered, st.requires.1.0.capacity))
+before-table-requires : tie.Need-before_table-requires
+before-table-requires c κs = let st = c in (st.requires.0.ready, (st.requires.0.ordered, st.requires.1.0.capacity))
 
-record-touched-requires : tie.Need-record-touched-requires
+record-touched-requires : tie.Need-record_touched-requires
 record-touched-requires c κs = search rules
 
 clear-requires : tie.Need-clear-requires
 clear-requires c κs = search rules
 
-put-keys-requires-3 : tie.Need-put-keys-requires-3
-put-keys-requires-3 c κs = let st = c.before.before.before.before.before.before.before.before.before.before.before.before.before.before.before.before.before.before.before.before.before.before.before.before.before.before in (st.requires.0.admitted, (st.requires.1.1.0, (st.requires.1.1.1, c.before.clear.ensures)))
+put-keys-requires-3 : tie.Need-put_keys-requires-3
+put-keys-requires-3 c κs = let st = c in (st.requires.0.admitted, (st.requires.1.1.0, (st.requires.1.1.1, c.clear.ensures)))
 
 filter-requires : tie.Need-filter-requires
-filter-requires c κs = let st = c.before.before.before.before.before.before.before.before.before.before.before.before.before.before.before.before.before.before.before.before.before.before.before.before.before.before.before.before.before.before in (st.requires.0.ready, st.requires.1.0.capacity)
+filter-requires c κs = let st = c in (st.requires.0.ready, st.requires.1.0.capacity)
 
-same_length : tie.Need-same-length
+same_length : tie.Need-shape_of-marks
 same_length c = search rules
 
 returns : tie.Need-returns
@@ -58,18 +58,18 @@ returns c =
       followed = _;
       labels = _;
       taken = _;
-      ends_are = at-ends.put-keys.ensures;
-      closed_are = at-closing.closing-table.ensures;
+      ends_are = at-ends.put_keys.ensures;
+      closed_are = at-closing.closing_table.ensures;
       followed_are = at_after.after_table.ensures;
-      labels_are = at-labels.put-keys2.ensures;
-      taken_are = at-answers.put-answers.ensures;
-      answers_are = at_before.before-table.ensures;
+      labels_are = at-labels.put_keys-2.ensures;
+      taken_are = at-answers.put_answers.ensures;
+      answers_are = at_before.before_table.ensures;
     } in
     filtered_swept (sense_of st.args.sense) st.args.shape st.args.hops.now st.args.marks.now st.requires.1.0 st.args.base st.args.m _ _
-    st.requires.1.1.0 st.requires.1.1.1 at-froms.put-keys3.ensures tables _ _ at-filter.filter.ensures
+    st.requires.1.1.0 st.requires.1.1.1 at-froms.put_keys-3.ensures tables _ _ at-filter.filter.ensures
 
-pub try-batch-spec : {M : Type 1} → statement M
-try-batch-spec =
+pub try_batch_spec : {M : Type 1} → statement M
+try_batch_spec =
     tie.close
     (tie.spec
     put-keys-requires

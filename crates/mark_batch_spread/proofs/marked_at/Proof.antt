@@ -5,12 +5,12 @@ use Rattle.mark_confluence.specs.Internal.MarkSet.{is_marked}
 use Rattle.mark_batch_spread.proofs.marked_at.Statement.{statement}
 use Rattle.mark_batch_spread.proofs.marked_at.Tie as tie
 
-shared-slice-read-result : tie.Need-shared-slice-read-result
+shared-slice-read-result : tie.Need-bounds-marks-i
 shared-slice-read-result c = search rules
 
 returns : tie.Need-returns
 unfolding is_marked
 returns c = refl
 
-pub marked-at-spec : {M : Type 1} → statement M
-marked-at-spec = tie.close (tie.spec shared-slice-read-result returns)
+pub marked_at_spec : {M : Type 1} → statement M
+marked_at_spec = tie.close (tie.spec shared-slice-read-result returns)

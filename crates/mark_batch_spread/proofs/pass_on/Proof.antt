@@ -4,13 +4,13 @@ use Rattle.mark_batch_spread.proofs.Along.{passed_on}
 use Rattle.mark_batch_spread.proofs.pass_on.Statement.{statement}
 use Rattle.mark_batch_spread.proofs.pass_on.Tie as tie
 
-spread-over-requires : tie.Need-spread-over-requires
+spread-over-requires : tie.Need-spread_over-requires
 spread-over-requires c κs = search rules
 
 returns : tie.Need-returns
 returns c =
-    let st = c.before.before.before.before in
-    rw c.spread-over.ensures.1 (passed_on st.requires.1.0 st.args.marks.now st.requires.0 st.args.words.now c.spread-over.ensures.0)
+    let st = c in
+    rw c.spread_over.ensures.1 (passed_on st.requires.1.0 st.args.marks.now st.requires.0 st.args.words.now c.spread_over.ensures.0)
 
-pub pass-on-spec : {M : Type 1} → statement M
-pass-on-spec = tie.close (tie.spec spread-over-requires returns)
+pub pass_on_spec : {M : Type 1} → statement M
+pass_on_spec = tie.close (tie.spec spread-over-requires returns)

@@ -12,45 +12,45 @@ use Rattle.mark_batch.specs.Internal.Batch.{NothingKnown, TriedIn}
 use Rattle.mark_batch_sweeps.proofs.run_to_fixpoint.Statement.{statement}
 use Rattle.mark_batch_sweeps.proofs.run_to_fixpoint.Tie as tie
 
-abbrev invariant-loop : tie.invariant-loop
+abbrev invariant-loop : tie.invariant-loop-lost
 invariant-loop shape hops sorted n sense base m marks₀ touched₀ bit lost₀ all₀ marks touched lost all =
     (length marks ≡ length marks₀) × Swept hops (marked_by sense shape hops) NothingKnown marks₀ marks all
 
-abbrev decreases-loop : tie.decreases-loop
+abbrev decreases-loop : tie.decreases-loop-lost
 decreases-loop shape hops sorted n sense base m marks₀ touched₀ bit lost₀ all₀ marks touched lost all = mark_count hops marks + lost
 
-batch-bit-requires : tie.Need-batch-bit-requires invariant-loop decreases-loop
+batch-bit-requires : tie.Need-batch_bit-bit-requires invariant-loop decreases-loop
 batch-bit-requires c κs = search rules
 
-loop-holds : tie.Need-loop-init invariant-loop decreases-loop
-loop-holds c = (refl, swept_none c.before.before.before.requires.1.0 tt)
+loop-holds : tie.Need-loop-lost-init invariant-loop decreases-loop
+loop-holds c = (refl, swept_none c.requires.1.0 tt)
 
-try-batch-requires : tie.Need-try-batch-requires invariant-loop decreases-loop
-try-batch-requires c κs = let st = c.before.before.before.before.before.before.before in (st.requires.0, (c.before.before.before.loop.invariant.1.marking, st.requires.1.1))
+try-batch-requires : tie.Need-try_batch-lost-requires invariant-loop decreases-loop
+try-batch-requires c κs = let st = c in (st.requires.0, (c.loop-lost.invariant.1.marking, st.requires.1.1))
 
-add-all : tie.Need-overflow-add-all invariant-loop decreases-loop
+add-all : tie.Need-overflow_add-all invariant-loop decreases-loop
 add-all c =
-    let st = c.before.before.before.before.before.before.before.before.before.before in
-    omega (arith, c.before.before.before.before.before.before.loop.invariant.1.fewer, c.before.before.try-batch.ensures.fewer, count_within st.args.hops.now st.args.marks.now, st.requires.0.ready.hops_most)
+    let st = c in
+    omega (arith, c.loop-lost.invariant.1.fewer, c.try_batch-lost.ensures.fewer, count_within st.args.hops.now st.args.marks.now, st.requires.0.ready.hops_most)
 
-loop-less : tie.Need-loop-smaller invariant-loop decreases-loop
-loop-less c = omega (arith, c.before.before.try-batch.ensures.fewer, c.before.before.before.before.before.loop-test.true)
+loop-less : tie.Need-loop-lost-smaller invariant-loop decreases-loop
+loop-less c = omega (arith, c.try_batch-lost.ensures.fewer, c.loop-lost-test.true)
 
-loop-again : tie.Need-loop-preserved invariant-loop decreases-loop
+loop-again : tie.Need-loop-lost-preserved invariant-loop decreases-loop
 loop-again c =
-    let st = c.before.before.before.before.before.before.before.before.before.before.args in
-    let v = c.before.before.before.before.before.before.loop.invariant in
+    let st = c.args in
+    let v = c.loop-lost.invariant in
     let tried = TriedIn (sense_of st.sense) st.hops.now st.base (st.base + st.m) in
-    (c.before.before.try-batch.auto.1.1.1.1.1.1.1.1.0 ∙ v.0, swept_then {B = tried} v.1 c.before.before.try-batch.ensures (λ a b. tt))
+    (c.try_batch-lost.auto.marks ∙ v.0, swept_then {B = tried} v.1 c.try_batch-lost.ensures (λ a b. tt))
 
-same_length : tie.Need-same-length invariant-loop decreases-loop
-same_length c = c.before.loop.invariant.0
+same_length : tie.Need-shape_of-marks invariant-loop decreases-loop
+same_length c = c.loop-lost.invariant.0
 
 returns : tie.Need-returns invariant-loop decreases-loop
-returns c = c.before.loop.invariant.1
+returns c = c.loop-lost.invariant.1
 
-pub run-to-fixpoint-spec : {M : Type 1} → statement M
-run-to-fixpoint-spec =
+pub run_to_fixpoint_spec : {M : Type 1} → statement M
+run_to_fixpoint_spec =
     tie.close
     (tie.spec
     invariant-loop

@@ -3,35 +3,35 @@ use borrow.Author.Rules.{rules}
 use Rattle.mark_batch_tables.proofs.key_at.Statement.{statement}
 use Rattle.mark_batch_tables.proofs.key_at.Tie as tie
 
-enum_told : tie.Need-enum-told
+enum_told : tie.Need-enum_told-1
 enum_told c = search rules
 
-from-at-requires : tie.Need-from-at-requires
+from-at-requires : tie.Need-from_at-requires
 from-at-requires c κs = search rules
 
-enum-told-2 : tie.Need-enum-told-2
+enum-told-2 : tie.Need-enum_told-in-Label
 enum-told-2 c = search rules
 
-label-at-requires : tie.Need-label-at-requires
+label-at-requires : tie.Need-label_at-requires
 label-at-requires c κs = search rules
 
-enum-told-3 : tie.Need-enum-told-3
+enum-told-3 : tie.Need-enum_told-in-To
 enum-told-3 c = search rules
 
-to-at-requires : tie.Need-to-at-requires
+to-at-requires : tie.Need-to_at-requires
 to-at-requires c κs = search rules
 
-returns : tie.Need-returns
-returns c = rw c.before.enum_told.given.1 c.from_at.ensures
+returns : tie.Need-returns-in-From
+returns c = rw c.enum_told-1.given.1 c.from_at.ensures
 
-returns-2 : tie.Need-returns-2
-returns-2 c = rw c.before.enum-told2.given.1 c.label_at.ensures
+returns-2 : tie.Need-returns-in-Label
+returns-2 c = rw c.enum_told-in-Label-1.given.1 c.label_at.ensures
 
-returns-3 : tie.Need-returns-3
-returns-3 c = rw c.before.enum-told3.given.1 c.to_at.ensures
+returns-3 : tie.Need-returns-in-To
+returns-3 c = rw c.enum_told-in-To-1.given.1 c.to_at.ensures
 
-pub key-at-spec : {M : Type 1} → statement M
-key-at-spec =
+pub key_at_spec : {M : Type 1} → statement M
+key_at_spec =
     tie.close
     (tie.spec
     enum_told

@@ -16,58 +16,58 @@ use Rattle.mark_confluence.proofs.Marks.{first_silent, first_visible, length_so_
 use Rattle.mark_confluence.proofs.start_marks.Statement.{statement}
 use Rattle.mark_confluence.proofs.start_marks.Tie as tie
 
-abbrev invariant-loop : tie.invariant-loop
+abbrev invariant-loop : tie.invariant-loop-i
 invariant-loop hops marks₀ past i₀ marks i =
     (past ≡ count hops) × (past ≤ length marks₀) × (i ≤ past) × (marks ≡ on_front (tabulate i (mark_of hops every_pair)) marks₀)
 
-abbrev decreases-loop : tie.decreases-loop
+abbrev decreases-loop : tie.decreases-loop-i
 decreases-loop hops marks₀ past i₀ marks i = past - i
 
-hop-count-requires : tie.Need-hop-count-requires invariant-loop decreases-loop
+hop-count-requires : tie.Need-hop_count-past-requires invariant-loop decreases-loop
 hop-count-requires c κs = search rules
 
-loop-holds : tie.Need-loop-init invariant-loop decreases-loop
-loop-holds c = (c.hop-count.ensures, omega arith, omega arith, tabulate_none _ _)
+loop-holds : tie.Need-loop-i-init invariant-loop decreases-loop
+loop-holds c = (c.hop_count-past.ensures, omega arith, omega arith, tabulate_none _ _)
 
-label-at-requires : tie.Need-label-at-requires invariant-loop decreases-loop
+label-at-requires : tie.Need-label_at-requires invariant-loop decreases-loop
 label-at-requires c κs = search rules
 
-slice-write-marks : tie.Need-slice-write-marks invariant-loop decreases-loop
+slice-write-marks : tie.Need-bounds-marks-i invariant-loop decreases-loop
 slice-write-marks c =
-    let v = c.before.before.before.before.loop.invariant in
-    omega (arith, length_so_far _ _ c.before.before.before.before.loop.i (omega arith) v.3)
+    let v = c.loop-i.invariant in
+    omega (arith, length_so_far _ _ c.loop-i.i (omega arith) v.3)
 
-slice-write-marks-2 : tie.Need-slice-write-marks-2 invariant-loop decreases-loop
+slice-write-marks-2 : tie.Need-bounds-marks-i-else-label_at-eq0 invariant-loop decreases-loop
 slice-write-marks-2 c =
-    let v = c.before.before.before.before.loop.invariant in
-    omega (arith, length_so_far _ _ c.before.before.before.before.loop.i (omega arith) v.3)
+    let v = c.loop-i.invariant in
+    omega (arith, length_so_far _ _ c.loop-i.i (omega arith) v.3)
 
-add-i : tie.Need-overflow-add-i invariant-loop decreases-loop
+add-i : tie.Need-overflow_add-i invariant-loop decreases-loop
 add-i c = omega arith
 
-loop-less : tie.Need-loop-smaller invariant-loop decreases-loop
+loop-less : tie.Need-loop-i-smaller invariant-loop decreases-loop
 loop-less c = omega arith
 
-loop-again : tie.Need-loop-preserved invariant-loop decreases-loop
+loop-again : tie.Need-loop-i-preserved invariant-loop decreases-loop
 loop-again c =
-    let v = c.before.before.before.before.loop.invariant in
-    let a = c.before.before.label_at.ensures in (
+    let v = c.loop-i.invariant in
+    let a = c.label_at.ensures in (
       v.0,
       v.1,
       omega arith,
-      ⊎_elim (λ w. w.1 ∙ tabulate_more _ _ v.3 (first_silent _ _ (sym a ∙ w.0.taken)) (omega arith))
-          (λ w. w.1 ∙ tabulate_more _ _ v.3 (first_visible _ _ (λ q. w.0.left (a ∙ q))) (omega arith)) c.if1.branch,
+      ⊎_elim (λ w. w.marks-is ∙ tabulate_more _ _ v.3 (first_silent _ _ (sym a ∙ w.if-label_at-eq0.true)) (omega arith))
+          (λ w. w.marks-is ∙ tabulate_more _ _ v.3 (first_visible _ _ (λ q. w.if-label_at-eq0.false (a ∙ q))) (omega arith)) c.if-label_at-eq0.branch-raw,
     )
 
-same_length : tie.Need-same-length invariant-loop decreases-loop
-same_length c = length_so_far _ _ c.before.loop.i (omega arith) c.before.loop.invariant.3
+same_length : tie.Need-shape_of-marks invariant-loop decreases-loop
+same_length c = length_so_far _ _ c.loop-i.i (omega arith) c.loop-i.invariant.3
 
 returns : tie.Need-returns invariant-loop decreases-loop
 unfolding marks_of
-returns c = tabulate_done _ _ c.before.loop.invariant.3 (omega arith) (omega arith)
+returns c = tabulate_done _ _ c.loop-i.invariant.3 (omega arith) (omega arith)
 
-pub start-marks-spec : {M : Type 1} → statement M
-start-marks-spec =
+pub start_marks_spec : {M : Type 1} → statement M
+start_marks_spec =
     tie.close
     (tie.spec
     invariant-loop

@@ -7,37 +7,37 @@ use Rattle.mark_diamond.proofs.Rows.{answered_still, answered_else}
 use Rattle.mark_diamond.proofs.is_answered.Statement.{statement}
 use Rattle.mark_diamond.proofs.is_answered.Tie as tie
 
-label-at-requires : tie.Need-label-at-requires
+label-at-requires : tie.Need-label_at-a-requires
 label-at-requires c κs = search rules
 
-to-at-requires : tie.Need-to-at-requires
+to-at-requires : tie.Need-to_at-s3-requires
 to-at-requires c κs = search rules
 
-is-closed-requires : tie.Need-is-closed-requires
+is-closed-requires : tie.Need-is_closed-requires
 is-closed-requires c κs =
-    let st = c.before.before.before.before.before.before.before in
-    (st.requires.0, rw c.before.before.before.to_at.ensures (st.requires.0.ready.to_in _ st.requires.1.0))
+    let st = c in
+    (st.requires.0, rw c.to_at-s3.ensures (st.requires.0.ready.to_in _ st.requires.1.0))
 
-returns : tie.Need-returns
-returns c = answered_still _ _ _ _ c.before.before.before.before.before.before.label_at.ensures c.before.before.before.before.before.to_at.ensures c.before.before.if1.true c.before.is-closed.ensures c.if2.true
+returns : tie.Need-returns-then-is_closed
+returns c = answered_still _ _ _ _ c.label_at-a.ensures c.to_at-s3.ensures c.if-a-eq0.true c.is_closed.ensures c.if-is_closed.true
 
-hop-answers-requires : tie.Need-hop-answers-requires
+hop-answers-requires : tie.Need-hop_answers-requires
 hop-answers-requires c κs =
-    let st = c.before.before.before.before.before.before.before in (
+    let st = c in (
       st.requires.0,
       (
-        rw c.before.before.before.before.label_at.ensures st.requires.1.1.0,
-        (st.requires.1.1.1, rw c.before.before.before.to_at.ensures (st.requires.0.ready.to_in _ st.requires.1.0)),
+        rw c.label_at-a.ensures st.requires.1.1.0,
+        (st.requires.1.1.1, rw c.to_at-s3.ensures (st.requires.0.ready.to_in _ st.requires.1.0)),
       ),
     )
 
-returns-2 : tie.Need-returns-2
+returns-2 : tie.Need-returns
 returns-2 c =
-    answered_else _ _ _ _ c.before.before.before.before.before.label_at.ensures c.before.before.before.before.to_at.ensures c.hop-answers.ensures
-    (⊎_elim (λ w q. sym w.1.ensures ∙ w.2.left) (λ w q. absurd (w.left q)) c.before.if1.branch)
+    answered_else _ _ _ _ c.label_at-a.ensures c.to_at-s3.ensures c.hop_answers.ensures
+    (⊎_elim (λ w q. sym w.is_closed.ensures ∙ w.if-is_closed.false) (λ w q. absurd (w.if-a-eq0.false q)) c.if-a-eq0.branch-raw)
 
-pub is-answered-spec : {M : Type 1} → statement M
-is-answered-spec =
+pub is_answered_spec : {M : Type 1} → statement M
+is_answered_spec =
     tie.close
     (tie.spec
     label-at-requires

@@ -4,17 +4,17 @@ use borrow.Author.Tests.{eq-eqb, ne_eqb}
 use Rattle.mark_diamond.proofs.stays.Statement.{statement}
 use Rattle.mark_diamond.proofs.stays.Tie as tie
 
-label-at-requires : tie.Need-label-at-requires
+label-at-requires : tie.Need-label_at-requires
 label-at-requires c κs = search rules
 
-to-at-requires : tie.Need-to-at-requires
+to-at-requires : tie.Need-to_at-requires
 to-at-requires c κs = search rules
 
-returns : tie.Need-returns
-returns c = rw (← c.before.before.before.before.before.label_at.ensures, eq-eqb _ _ c.before.before.before.if1.true, ← c.before.before.to_at.ensures)
+returns : tie.Need-returns-then-label_at-eq0
+returns c = rw (← c.label_at.ensures, eq-eqb _ _ c.if-label_at-eq0.true, ← c.to_at.ensures)
 
-returns-2 : tie.Need-returns-2
-returns-2 c = rw (← c.before.before.label_at.ensures, ne_eqb _ _ c.if1.false)
+returns-2 : tie.Need-returns
+returns-2 c = rw (← c.label_at.ensures, ne_eqb _ _ c.if-label_at-eq0.false)
 
-pub stays-spec : {M : Type 1} → statement M
-stays-spec = tie.close (tie.spec label-at-requires to-at-requires returns returns-2)
+pub stays_spec : {M : Type 1} → statement M
+stays_spec = tie.close (tie.spec label-at-requires to-at-requires returns returns-2)

@@ -10,45 +10,45 @@ use Rattle.mark_diamond_retest.proofs.Rows.{row_is}
 use Rattle.mark_diamond_retest.proofs.passes.Statement.{statement}
 use Rattle.mark_diamond_retest.proofs.passes.Tie as tie
 
-to-at-requires : tie.Need-to-at-requires
+to-at-requires : tie.Need-to_at-s3-requires
 to-at-requires c κs = search rules
 
-label-at-requires : tie.Need-label-at-requires
+label-at-requires : tie.Need-label_at-a-requires
 label-at-requires c κs = search rules
 
-leads-to-requires : tie.Need-leads-to-requires
+leads-to-requires : tie.Need-leads_to-requires
 leads-to-requires c κs = search rules
 
 -- s2 has the like hop
-returns : tie.Need-returns
+returns : tie.Need-returns-then-leads_to
 returns c =
-    answered_alike _ _ _ _ (rw (c.before.before.label_at.ensures, c.before.before.before.to_at.ensures) at c.before.leads-to.ensures) c.if1.true
+    answered_alike _ _ _ _ (rw (c.label_at-a.ensures, c.to_at-s3.ensures) at c.leads_to.ensures) c.if-leads_to.true
 
-labelled-from-requires : tie.Need-labelled-from-requires
+labelled-from-requires : tie.Need-labelled_from-at-requires
 labelled-from-requires c κs = search rules
 
 wide-requires : tie.Need-wide-requires
 wide-requires c κs = search rules
 
-add-start-of : tie.Need-overflow-add-start-of
+add-start-of : tie.Need-overflow_add-wide
 add-start-of c = search rules
 
-start-of-requires : tie.Need-start-of-requires
+start-of-requires : tie.Need-start_of-past-requires
 start-of-requires c κs = search rules
 
-is-answered-requires : tie.Need-is-answered-requires
+is-answered-requires : tie.Need-is_answered-requires
 is-answered-requires c κs =
-    let st = c.before.before.before.before.before.before.before.before.before in
+    let st = c in
     let hs = st.args.hops.now in
-    let past = start_is hs st.args.starts.now st.requires.0.table _ (ap (λ (x : ℕ). x + 1) c.before.wide.ensures) (omega arith) c.start_of_lem.ensures in
-    let row = row_is hs st.requires.0.ready.ascending _ c.before.before.before.before.before.label_at.ensures c.before.before.labelled-from.ensures past in
+    let past = start_is hs st.args.starts.now st.requires.0.table _ (ap (λ (x : ℕ). x + 1) c.wide.ensures) (omega arith) c.start_of-past.ensures in
+    let row = row_is hs st.requires.0.ready.ascending _ c.label_at-a.ensures c.labelled_from-at.ensures past in
     (st.requires.0, (st.requires.1.0, (row, st.requires.1.1)))
 
-returns-2 : tie.Need-returns-2
+returns-2 : tie.Need-returns
 returns-2 c = search rules
 
-pub passes-spec : {M : Type 1} → statement M
-passes-spec =
+pub passes_spec : {M : Type 1} → statement M
+passes_spec =
     tie.close
     (tie.spec
     to-at-requires

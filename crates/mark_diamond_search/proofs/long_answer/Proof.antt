@@ -19,54 +19,54 @@ past-in : (hs st ms : List ℕ) → MarkInput hs st ms → {s t past : ℕ} → 
 past-in hs st ms given {s} l q e =
     omega (arith, start_is hs st given.table _ (ap (λ (x : ℕ). x + 1) q) (omega arith) e, first_within hs given.ready.ascending (s + 1))
 
-wide-requires : tie.Need-wide-requires
+wide-requires : tie.Need-wide-t3-requires
 wide-requires c κs = search rules
 
-start-of-requires : tie.Need-start-of-requires
+start-of-requires : tie.Need-start_of-at-requires
 start-of-requires c κs = search rules
 
-add-start-of : tie.Need-overflow-add-start-of
+add-start-of : tie.Need-overflow_add-t3
 add-start-of c = search rules
 
-start-of-requires-2 : tie.Need-start-of-requires-2
+start-of-requires-2 : tie.Need-start_of-past-requires
 start-of-requires-2 c κs = search rules
 
-is-fewer-requires : tie.Need-is-fewer-requires
+is-fewer-requires : tie.Need-is_fewer-requires
 is-fewer-requires c κs =
-    let st = c.before.before.before.before.before in
-    (st.requires.0.ready, (past-in _ _ _ st.requires.0 st.requires.1.1.1 c.before.before.wide.ensures c.start-of2.ensures, st.requires.1.0.within))
+    let st = c in
+    (st.requires.0.ready, (past-in _ _ _ st.requires.0 st.requires.1.1.1 c.wide-t3.ensures c.start_of-past.ensures, st.requires.1.0.within))
 
-ends-answer-requires : tie.Need-ends-answer-requires
+ends-answer-requires : tie.Need-ends_answer-requires
 ends-answer-requires c κs =
-    let st = c.before.before.before.before.before.before.before in
+    let st = c in
     (st.requires.0, st.requires.1.1)
 
-returns : tie.Need-returns
-returns c = c.ends-answer.ensures
+returns : tie.Need-returns-then-is_fewer
+returns c = c.ends_answer.ensures
 
-is-fewer-requires-2 : tie.Need-is-fewer-requires-2
+is-fewer-requires-2 : tie.Need-is_fewer-requires-2
 is-fewer-requires-2 c κs =
-    let st = c.before.before.before.before.before.before.before in
-    (st.requires.0.ready, (st.requires.1.0.within, past-in _ _ _ st.requires.0 st.requires.1.1.1 c.before.before.before.before.wide.ensures c.before.before.start-of2.ensures))
+    let st = c in
+    (st.requires.0.ready, (st.requires.1.0.within, past-in _ _ _ st.requires.0 st.requires.1.1.1 c.wide-t3.ensures c.start_of-past.ensures))
 
-few-answer-requires : tie.Need-few-answer-requires
+few-answer-requires : tie.Need-few_answer-requires
 few-answer-requires c κs =
-    let st = c.before.before.before.before.before.before.before.before.before in
+    let st = c in
     (st.requires.0, (st.requires.1.0, st.requires.1.1.1))
 
-returns-2 : tie.Need-returns-2
-returns-2 c = c.few-answer.ensures
+returns-2 : tie.Need-returns-then-is_fewer-2
+returns-2 c = c.few_answer.ensures
 
-row-answers-requires : tie.Need-row-answers-requires
+row-answers-requires : tie.Need-row_answers-requires
 row-answers-requires c κs =
-    let st = c.before.before.before.before.before.before.before.before.before in
+    let st = c in
     (st.requires.0, (st.requires.1.0, st.requires.1.1.1))
 
-returns-3 : tie.Need-returns-3
-returns-3 c = c.row-answers.ensures
+returns-3 : tie.Need-returns
+returns-3 c = c.row_answers.ensures
 
-pub long-answer-spec : {M : Type 1} → statement M
-long-answer-spec =
+pub long_answer_spec : {M : Type 1} → statement M
+long_answer_spec =
     tie.close
     (tie.spec
     wide-requires

@@ -9,28 +9,28 @@ use Rattle.graph.specs.Answers.{most_hops}
 use Rattle.mark_entry_records.proofs.check_of.Statement.{statement}
 use Rattle.mark_entry_records.proofs.check_of.Tie as tie
 
-is-over-requires : tie.Need-is-over-requires
+is-over-requires : tie.Need-is_over-requires
 is-over-requires c κs = search rules
 
 refuse-requires : tie.Need-refuse-requires
 refuse-requires c κs = search rules
 
-returns : tie.Need-returns
-returns c = rw (← c.before.before.is-over.ensures, c.before.if1.true) c.refuse.ensures
+returns : tie.Need-returns-then-is_over
+returns c = rw (← c.is_over.ensures, c.if-is_over.true) c.refuse.ensures
 
-slice-aggregate-part : tie.Need-slice-aggregate-part
+slice-aggregate-part : tie.Need-slice_bounds-part-end
 slice-aggregate-part c = search rules
 
 part-requires : tie.Need-part-requires
-part-requires c κs = (omega arith, omega (arith, ltb-false most_hops c.before.before.before.args.n (sym c.before.before.is-over.ensures ∙ c.before.if1.false)))
+part-requires c κs = (omega arith, omega (arith, ltb-false most_hops c.args.n (sym c.is_over.ensures ∙ c.if-is_over.false)))
 
 check-requires : tie.Need-check-requires
 check-requires c κs = search rules
 
-returns-2 : tie.Need-returns-2
-returns-2 c = rw (← c.before.before.before.before.is-over.ensures, c.before.before.before.if1.false) (c.check.ensures ∙ ap (check_of _) c.before.part.ensures.0)
+returns-2 : tie.Need-returns
+returns-2 c = rw (← c.is_over.ensures, c.if-is_over.false) (c.check.ensures ∙ ap (check_of _) c.part.ensures.0)
 
-pub check-of-spec : {M : Type 1} → statement M
-check-of-spec =
+pub check_of_spec : {M : Type 1} → statement M
+check_of_spec =
     tie.close
     (tie.spec is-over-requires refuse-requires returns slice-aggregate-part part-requires check-requires returns-2)

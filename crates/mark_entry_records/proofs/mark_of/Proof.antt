@@ -8,34 +8,34 @@ use Rattle.graph.specs.Answers.{most_hops}
 use Rattle.mark_entry_records.proofs.mark_of.Statement.{statement}
 use Rattle.mark_entry_records.proofs.mark_of.Tie as tie
 
-is-over-requires : tie.Need-is-over-requires
+is-over-requires : tie.Need-is_over-requires
 is-over-requires c κs = search rules
 
 refuse-requires : tie.Need-refuse-requires
 refuse-requires c κs = search rules
 
-returns : tie.Need-returns
-returns c = rw (← c.before.before.is-over.ensures, c.before.if1.true) (c.refuse.ensures, refl)
+returns : tie.Need-returns-then-is_over
+returns c = rw (← c.is_over.ensures, c.if-is_over.true) (c.refuse.ensures, refl)
 
-slice-aggregate-part : tie.Need-slice-aggregate-part
+slice-aggregate-part : tie.Need-slice_bounds-part-end
 slice-aggregate-part c = search rules
 
 part-requires : tie.Need-part-requires
-part-requires c κs = (omega arith, omega (arith, ltb-false most_hops c.before.before.before.before.args.n (sym c.before.before.is-over.ensures ∙ c.before.if1.false)))
+part-requires c κs = (omega arith, omega (arith, ltb-false most_hops c.args.n (sym c.is_over.ensures ∙ c.if-is_over.false)))
 
 mark-requires : tie.Need-mark-requires
 mark-requires c κs = search rules
 
-same_length : tie.Need-same-length
+same_length : tie.Need-shape_of-marks
 same_length c = search rules
 
-returns-2 : tie.Need-returns-2
+returns-2 : tie.Need-returns
 returns-2 c =
-    rw (← c.before.before.before.before.before.before.before.is-over.ensures, c.before.before.before.before.before.before.if1.false)
-    (rw c.before.before.before.before.part.ensures.0 at c.before.before.mark.ensures)
+    rw (← c.is_over.ensures, c.if-is_over.false)
+    (rw c.part.ensures.0 at c.mark.ensures)
 
-pub mark-of-spec : {M : Type 1} → statement M
-mark-of-spec =
+pub mark_of_spec : {M : Type 1} → statement M
+mark_of_spec =
     tie.close
     (tie.spec
     is-over-requires

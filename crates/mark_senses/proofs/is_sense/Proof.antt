@@ -8,5 +8,5 @@ returns : tie.Need-returns
 unfolding is_sense
 returns c = refl
 
-pub is-sense-spec : {M : Type 1} → statement M
-is-sense-spec = tie.close (tie.spec returns)
+pub is_sense_spec : {M : Type 1} → statement M
+is_sense_spec = tie.close (tie.spec returns)

@@ -13,40 +13,40 @@ use Rattle.mark_sweeps.proofs.Sweeping.{rested_marks}
 use Rattle.mark_sweeps.proofs.sweep_to_fixpoint.Statement.{statement}
 use Rattle.mark_sweeps.proofs.sweep_to_fixpoint.Tie as tie
 
-abbrev invariant-loop : tie.invariant-loop
+abbrev invariant-loop : tie.invariant-loop-lost
 invariant-loop hops starts marks₀ lost₀ marks lost =
     (length marks ≡ length marks₀) × Marking hops (marked hops) marks × (drop (count hops) marks ≡ drop (count hops) marks₀) ×
     (lost ≡ 0 → ClosesUpTo hops (count hops) marks)
 
-abbrev decreases-loop : tie.decreases-loop
+abbrev decreases-loop : tie.decreases-loop-lost
 decreases-loop hops starts marks₀ lost₀ marks lost = mark_count hops marks + lost
 
-loop-holds : tie.Need-loop-init invariant-loop decreases-loop
-loop-holds c = (refl, c.before.before.requires.1.1, refl, λ q. absurd (omega arith))
+loop-holds : tie.Need-loop-lost-init invariant-loop decreases-loop
+loop-holds c = (refl, c.requires.1.1, refl, λ q. absurd (omega arith))
 
-sweep-requires : tie.Need-sweep-requires invariant-loop decreases-loop
+sweep-requires : tie.Need-sweep-lost-requires invariant-loop decreases-loop
 sweep-requires c κs =
-    let st = c.before.before.before.before.before in
-    (st.requires.0, (st.requires.1.0, c.before.before.loop.invariant.1))
+    let st = c in
+    (st.requires.0, (st.requires.1.0, c.loop-lost.invariant.1))
 
-loop-less : tie.Need-loop-smaller invariant-loop decreases-loop
-loop-less c = omega (arith, c.before.before.sweep.ensures.fewer)
+loop-less : tie.Need-loop-lost-smaller invariant-loop decreases-loop
+loop-less c = omega (arith, c.sweep-lost.ensures.fewer)
 
-loop-again : tie.Need-loop-preserved invariant-loop decreases-loop
+loop-again : tie.Need-loop-lost-preserved invariant-loop decreases-loop
 loop-again c =
-    let v = c.before.before.before.before.before.loop.invariant in
-    let s = c.before.before.sweep.ensures in
-    (c.before.before.sweep.auto.1.1.0 ∙ v.0, s.marking, s.beyond ∙ v.2, swept_rests s)
+    let v = c.loop-lost.invariant in
+    let s = c.sweep-lost.ensures in
+    (c.sweep-lost.auto.marks ∙ v.0, s.marking, s.beyond ∙ v.2, swept_rests s)
 
-same_length : tie.Need-same-length invariant-loop decreases-loop
-same_length c = c.before.loop.invariant.0
+same_length : tie.Need-shape_of-marks invariant-loop decreases-loop
+same_length c = c.loop-lost.invariant.0
 
 returns : tie.Need-returns invariant-loop decreases-loop
 returns c =
-    let v = c.before.loop.invariant in
-    rested_marks _ c.before.before.before.before.requires.0.ascending v.1 (v.3 (omega arith)) _ v.2
+    let v = c.loop-lost.invariant in
+    rested_marks _ c.requires.0.ascending v.1 (v.3 (omega arith)) _ v.2
 
-pub sweep-to-fixpoint-spec : {M : Type 1} → statement M
-sweep-to-fixpoint-spec =
+pub sweep_to_fixpoint_spec : {M : Type 1} → statement M
+sweep_to_fixpoint_spec =
     tie.close
     (tie.spec invariant-loop decreases-loop loop-holds sweep-requires loop-less loop-again same_length returns)

@@ -12,68 +12,68 @@ use borrow.Author.Rules.{rules}
 use Rattle.mark_worklist_loop.proofs.mark_rounds.Statement.{statement}
 use Rattle.mark_worklist_loop.proofs.mark_rounds.Tie as tie
 
-start-marks-requires : tie.Need-start-marks-requires
+start-marks-requires : tie.Need-start_marks-requires
 start-marks-requires c κs = search rules
 
-list-silent-requires : tie.Need-list-silent-requires
+list-silent-requires : tie.Need-list_silent-n-requires
 list-silent-requires c κs = search rules
 
-test-first-requires : tie.Need-test-first-requires
+test-first-requires : tie.Need-test_first-lost-requires
 test-first-requires c κs =
-    let st = c.before.before.before.before.before.before.before.before.before.before.before in
+    let st = c in
     let hs = st.args.hops.now in
-    let ls = c.before.before.before.list-silent.ensures.0 in
+    let ls = c.list_silent-n.ensures.0 in
     let z = length-replicate {A = ℕ} most_hops 0 in
     record {
-      given = record { ready = st.requires.0; table = st.requires.1.0; capacity = omega (arith, c.before.before.before.before.before.before.before.start-marks.auto, st.requires.1.1) };
+      given = record { ready = st.requires.0; table = st.requires.1.0; capacity = omega (arith, c.start_marks.auto, st.requires.1.1) };
       most = omega (arith, lists_most hs ls, st.requires.0.hops_most);
       places = lists_listed hs ls;
       capacity = omega arith;
     }
 
-same_length : tie.Need-same-length
+same_length : tie.Need-shape_of-marks-then-lost-eq0
 same_length c = search rules
 
-returns : tie.Need-returns
+returns : tie.Need-returns-then-lost-eq0
 returns c =
-    let st = c.before.before.before.before.before.before.before.before.before.before.before.before.before in
+    let st = c in
     let hs = st.args.hops.now in
-    let a = after_still hs _ _ st.requires.1.1 c.before.before.before.before.before.before.before.before.before.start-marks.ensures c.before.before.before.before.before.list-silent.ensures.0 c.before.test-first.ensures c.if1.true in
-    (after_tests hs a c.if1.true, after_marks hs a c.if1.true)
+    let a = after_still hs _ _ st.requires.1.1 c.start_marks.ensures c.list_silent-n.ensures.0 c.test_first-lost.ensures c.if-lost-eq0.true in
+    (after_tests hs a c.if-lost-eq0.true, after_marks hs a c.if-lost-eq0.true)
 
-unmark-fallen-requires : tie.Need-unmark-fallen-requires
+unmark-fallen-requires : tie.Need-unmark_fallen-requires
 unmark-fallen-requires c κs =
-    let st = c.before.before.before.before.before.before.before.before.before.before.before.before.before.before.before in
+    let st = c in
     let hs = st.args.hops.now in
-    let ls = c.before.before.before.before.before.before.before.list-silent.ensures.0 in
-    let td = c.before.before.before.test-first.ensures in
-    (omega (arith, td.most, lists_most hs ls, st.requires.0.hops_most), λ q l. omega (arith, tested_inside hs ls td q l, c.before.before.before.before.before.before.before.before.before.before.before.start-marks.auto, st.requires.1.1))
+    let ls = c.list_silent-n.ensures.0 in
+    let td = c.test_first-lost.ensures in
+    (omega (arith, td.most, lists_most hs ls, st.requires.0.hops_most), λ q l. omega (arith, tested_inside hs ls td q l, c.start_marks.auto, st.requires.1.1))
 
-later-rounds-requires : tie.Need-later-rounds-requires
+later-rounds-requires : tie.Need-later_rounds-requires
 later-rounds-requires c κs =
-    let st = c.before.before.before.before.before.before.before.before.before.before.before.before.before.before.before.before.before.before.before.before.before in
+    let st = c in
     let hs = st.args.hops.now in
-    let ls = c.before.before.before.before.before.before.before.before.before.before.before.before.before.list-silent.ensures.0 in
-    let td = c.before.before.before.before.before.before.before.before.before.test-first.ensures in
-    let m : count hs ≤ length c.before.before.before.before.before.unmark-fallen.new.0 = omega (arith, c.before.before.before.before.before.unmark-fallen.auto, c.before.before.before.before.before.before.before.before.before.before.before.before.before.before.before.before.before.start-marks.auto, st.requires.1.1) in
-    let a = after_first hs _ _ st.requires.1.1 c.before.before.before.before.before.before.before.before.before.before.before.before.before.before.before.before.before.start-marks.ensures ls td (omega (arith, td.most, lists_most hs ls, st.requires.0.hops_most)) c.before.before.before.before.before.unmark-fallen.ensures m in
-    (record { ready = st.requires.0; table = st.requires.1.0; capacity = m }, (c.before.before.before.before.before.before.before.before.before.before.before.before.before.list-silent.ensures.1, (0, after_itself hs m a)))
+    let ls = c.list_silent-n.ensures.0 in
+    let td = c.test_first-lost.ensures in
+    let m : count hs ≤ length c.unmark_fallen.new.marks = omega (arith, c.unmark_fallen.auto, c.start_marks.auto, st.requires.1.1) in
+    let a = after_first hs _ _ st.requires.1.1 c.start_marks.ensures ls td (omega (arith, td.most, lists_most hs ls, st.requires.0.hops_most)) c.unmark_fallen.ensures m in
+    (record { ready = st.requires.0; table = st.requires.1.0; capacity = m }, (c.list_silent-n.ensures.1, (0, after_itself hs m a)))
 
-same-length-2 : tie.Need-same-length-2
+same-length-2 : tie.Need-shape_of-marks
 same-length-2 c = search rules
 
-returns-2 : tie.Need-returns-2
+returns-2 : tie.Need-returns
 returns-2 c =
-    let st = c.before.before.before.before.before.before.before.before.before.before.before.before.before.before.before.before.before.before.before.before.before.before.before.before in
+    let st = c in
     let hs = st.args.hops.now in
-    let ls = c.before.before.before.before.before.before.before.before.before.before.before.before.before.before.before.before.list-silent.ensures.0 in
-    let td = c.before.before.before.before.before.before.before.before.before.before.before.before.test-first.ensures in
-    let m : count hs ≤ length c.before.before.before.before.before.before.before.before.unmark-fallen.new.0 = omega (arith, c.before.before.before.before.before.before.before.before.unmark-fallen.auto, c.before.before.before.before.before.before.before.before.before.before.before.before.before.before.before.before.before.before.before.before.start-marks.auto, st.requires.1.1) in
-    let a = after_first hs _ _ st.requires.1.1 c.before.before.before.before.before.before.before.before.before.before.before.before.before.before.before.before.before.before.before.before.start-marks.ensures ls td (omega (arith, td.most, lists_most hs ls, st.requires.0.hops_most)) c.before.before.before.before.before.before.before.before.unmark-fallen.ensures m in
-    (c.before.before.later-rounds.ensures.0, marks_over hs (marked hs) (survives hs 1) st.args.marks.now a.marks c.before.before.later-rounds.ensures.1)
+    let ls = c.list_silent-n.ensures.0 in
+    let td = c.test_first-lost.ensures in
+    let m : count hs ≤ length c.unmark_fallen.new.marks = omega (arith, c.unmark_fallen.auto, c.start_marks.auto, st.requires.1.1) in
+    let a = after_first hs _ _ st.requires.1.1 c.start_marks.ensures ls td (omega (arith, td.most, lists_most hs ls, st.requires.0.hops_most)) c.unmark_fallen.ensures m in
+    (c.later_rounds.ensures.0, marks_over hs (marked hs) (survives hs 1) st.args.marks.now a.marks-1 c.later_rounds.ensures.1)
 
-pub mark-rounds-spec : {M : Type 1} → statement M
-mark-rounds-spec =
+pub mark_rounds_spec : {M : Type 1} → statement M
+mark_rounds_spec =
     tie.close
     (tie.spec
     start-marks-requires

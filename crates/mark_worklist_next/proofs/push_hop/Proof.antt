@@ -6,85 +6,85 @@ use borrow.Author.Rules.{rules}
 use Rattle.mark_worklist_next.proofs.push_hop.Statement.{statement}
 use Rattle.mark_worklist_next.proofs.push_hop.Tie as tie
 
-from-at-requires : tie.Need-from-at-requires
+from-at-requires : tie.Need-from_at-requires
 from-at-requires c κs = search rules
 
-wide-requires : tie.Need-wide-requires
+wide-requires : tie.Need-wide-s1-requires
 wide-requires c κs = search rules
 
-element-copy-out-if1 : tie.Need-element-copy-out-if1
+element-copy-out-if1 : tie.Need-bounds-leaving-s1
 element-copy-out-if1 c =
-    let st = c.before.before.before.before in
-    omega (arith, c.wide.ensures, c.before.from_at.ensures, st.requires.0.push.given.ready.from_in st.args.j st.requires.1.0)
+    let st = c in
+    omega (arith, c.wide-s1.ensures, c.from_at.ensures, st.requires.0.push.given.ready.from_in st.args.j st.requires.1.0)
 
-returns : tie.Need-returns
+returns : tie.Need-returns-then-leaving-s1-ne1
 returns c =
-    let st = c.before.before.before.before.before.before in
-    trying_none _ _ _ _ st.args.leaving.now st.requires.0.leaving (c.before.before.wide.ensures ∙ c.before.before.before.from_at.ensures) c.if1.true st.requires.0.push.queue
+    let st = c in
+    trying_none _ _ _ _ st.args.leaving.now st.requires.0.leaving (c.wide-s1.ensures ∙ c.from_at.ensures) c.if-leaving-s1-ne1.true st.requires.0.push.queue
 
-to-at-requires : tie.Need-to-at-requires
+to-at-requires : tie.Need-to_at-requires
 to-at-requires c κs = search rules
 
-wide-requires-2 : tie.Need-wide-requires-2
+wide-requires-2 : tie.Need-wide-s4-requires
 wide-requires-2 c κs = search rules
 
-add-start-of : tie.Need-overflow-add-start-of
+add-start-of : tie.Need-overflow_add-s1
 add-start-of c = search rules
 
-start-of-requires : tie.Need-start-of-requires
+start-of-requires : tie.Need-start_of-requires
 start-of-requires c κs =
-    let st = c.before.before.before.before.before.before.before.before in
-    omega (arith, c.before.before.before.before.wide.ensures, c.before.before.before.before.before.from_at.ensures, st.requires.0.push.given.ready.from_in st.args.j st.requires.1.0)
+    let st = c in
+    omega (arith, c.wide-s1.ensures, c.from_at.ensures, st.requires.0.push.given.ready.from_in st.args.j st.requires.1.0)
 
-start-of-requires-2 : tie.Need-start-of-requires-2
+start-of-requires-2 : tie.Need-start_of-requires-2
 start-of-requires-2 c κs =
-    let st = c.before.before.before.before.before.before.before.before.before in
-    omega (arith, c.before.wide2.ensures, c.before.before.to_at.ensures, st.requires.0.push.given.ready.to_in st.args.p st.requires.1.1)
+    let st = c in
+    omega (arith, c.wide-s4.ensures, c.to_at.ensures, st.requires.0.push.given.ready.to_in st.args.p st.requires.1.1)
 
-add-if2 : tie.Need-overflow-add-if2
+add-if2 : tie.Need-overflow_add-start_of
 add-if2 c =
-    let st = c.before.before.before.before.before.before.before.before.before.before in
-    omega (arith, start_most st.requires.0.push.given c.before.start_of_lem.ensures (omega (arith, c.before.before.before.before.before.before.wide.ensures, c.before.before.before.before.before.before.before.from_at.ensures, st.requires.0.push.given.ready.from_in st.args.j st.requires.1.0)), begin_most st.requires.0.push.given.ready st.requires.0.tables c.start-of2.ensures (omega (arith, c.before.before.wide2.ensures, c.before.before.before.to_at.ensures, st.requires.0.push.given.ready.to_in st.args.p st.requires.1.1)))
+    let st = c in
+    omega (arith, start_most st.requires.0.push.given c.start_of.ensures (omega (arith, c.wide-s1.ensures, c.from_at.ensures, st.requires.0.push.given.ready.from_in st.args.j st.requires.1.0)), begin_most st.requires.0.push.given.ready st.requires.0.tables c.start_of-2.ensures (omega (arith, c.wide-s4.ensures, c.to_at.ensures, st.requires.0.push.given.ready.to_in st.args.p st.requires.1.1)))
 
-add-start-of-2 : tie.Need-overflow-add-start-of-2
+add-start-of-2 : tie.Need-overflow_add-s4
 add-start-of-2 c = search rules
 
-start-of-requires-3 : tie.Need-start-of-requires-3
+start-of-requires-3 : tie.Need-start_of-requires-3
 start-of-requires-3 c κs =
-    let st = c.before.before.before.before.before.before.before.before.before.before in
-    omega (arith, c.before.before.wide2.ensures, c.before.before.before.to_at.ensures, st.requires.0.push.given.ready.to_in st.args.p st.requires.1.1)
+    let st = c in
+    omega (arith, c.wide-s4.ensures, c.to_at.ensures, st.requires.0.push.given.ready.to_in st.args.p st.requires.1.1)
 
-start-of-requires-4 : tie.Need-start-of-requires-4
+start-of-requires-4 : tie.Need-start_of-requires-4
 start-of-requires-4 c κs =
-    let st = c.before.before.before.before.before.before.before.before.before.before.before in
-    omega (arith, c.before.before.before.before.before.before.before.wide.ensures, c.before.before.before.before.before.before.before.before.from_at.ensures, st.requires.0.push.given.ready.from_in st.args.j st.requires.1.0)
+    let st = c in
+    omega (arith, c.wide-s1.ensures, c.from_at.ensures, st.requires.0.push.given.ready.from_in st.args.j st.requires.1.0)
 
-add-if2-2 : tie.Need-overflow-add-if2-2
+add-if2-2 : tie.Need-overflow_add-start_of-2
 add-if2-2 c =
-    let st = c.before.before.before.before.before.before.before.before.before.before.before.before in
-    omega (arith, begin_most st.requires.0.push.given.ready st.requires.0.tables c.before.start-of3.ensures (omega (arith, c.before.before.before.before.wide2.ensures, c.before.before.before.before.before.to_at.ensures, st.requires.0.push.given.ready.to_in st.args.p st.requires.1.1)), start_most st.requires.0.push.given c.start-of4.ensures (omega (arith, c.before.before.before.before.before.before.before.before.wide.ensures, c.before.before.before.before.before.before.before.before.before.from_at.ensures, st.requires.0.push.given.ready.from_in st.args.j st.requires.1.0)))
+    let st = c in
+    omega (arith, begin_most st.requires.0.push.given.ready st.requires.0.tables c.start_of-3.ensures (omega (arith, c.wide-s4.ensures, c.to_at.ensures, st.requires.0.push.given.ready.to_in st.args.p st.requires.1.1)), start_most st.requires.0.push.given c.start_of-4.ensures (omega (arith, c.wide-s1.ensures, c.from_at.ensures, st.requires.0.push.given.ready.from_in st.args.j st.requires.1.0)))
 
-add-if2-3 : tie.Need-overflow-add-if2-3
+add-if2-3 : tie.Need-overflow_add-start_of-3
 add-if2-3 c =
-    let st = c.before.before.before.before.before.before.before.before.before.before.before.before in
-    omega (arith, begin_most st.requires.0.push.given.ready st.requires.0.tables c.before.start-of3.ensures (omega (arith, c.before.before.before.before.wide2.ensures, c.before.before.before.before.before.to_at.ensures, st.requires.0.push.given.ready.to_in st.args.p st.requires.1.1)), start_most st.requires.0.push.given c.start-of4.ensures (omega (arith, c.before.before.before.before.before.before.before.before.wide.ensures, c.before.before.before.before.before.before.before.before.before.from_at.ensures, st.requires.0.push.given.ready.from_in st.args.j st.requires.1.0)))
+    let st = c in
+    omega (arith, begin_most st.requires.0.push.given.ready st.requires.0.tables c.start_of-3.ensures (omega (arith, c.wide-s4.ensures, c.to_at.ensures, st.requires.0.push.given.ready.to_in st.args.p st.requires.1.1)), start_most st.requires.0.push.given c.start_of-4.ensures (omega (arith, c.wide-s1.ensures, c.from_at.ensures, st.requires.0.push.given.ready.from_in st.args.j st.requires.1.0)))
 
-push-out-requires : tie.Need-push-out-requires
+push-out-requires : tie.Need-push_out-requires
 push-out-requires c κs = search rules
 
-returns-2 : tie.Need-returns-2
+returns-2 : tie.Need-returns-then-start_of
 returns-2 c = search rules
 
-push-into-requires : tie.Need-push-into-requires
+push-into-requires : tie.Need-push_into-requires
 push-into-requires c κs =
-    let st = c.before.before.before.before.before.before.before.before.before.before.before.before.before.before.before in
+    let st = c in
     (st.requires.0.push, (st.requires.0.tables, st.requires.1))
 
-returns-3 : tie.Need-returns-3
+returns-3 : tie.Need-returns
 returns-3 c = search rules
 
-pub push-hop-spec : {M : Type 1} → statement M
-push-hop-spec =
+pub push_hop_spec : {M : Type 1} → statement M
+push_hop_spec =
     tie.close
     (tie.spec
     from-at-requires

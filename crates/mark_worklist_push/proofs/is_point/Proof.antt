@@ -6,35 +6,35 @@ use borrow.Author.Rules.{rules}
 use Rattle.mark_worklist_push.proofs.is_point.Statement.{statement}
 use Rattle.mark_worklist_push.proofs.is_point.Tie as tie
 
-returns : tie.Need-returns
-returns c = point_itself _ _ _ _ c.before.before.before.if1.true c.if2.true
+returns : tie.Need-returns-then-s4-s2
+returns c = point_itself _ _ _ _ c.if-a-eq0.true c.if-s4-s2.true
 
-hop-of-requires : tie.Need-hop-of-requires
+hop-of-requires : tie.Need-hop_of-requires
 hop-of-requires c κs = search rules
 
-find-row-requires : tie.Need-find-row-requires
+find-row-requires : tie.Need-find_row-requires
 find-row-requires c κs =
-    let st = c.before.before.before.before in
-    (st.requires.0, (st.requires.1.0, rw c.hop-of.ensures st.requires.1.1))
+    let st = c in
+    (st.requires.0, (st.requires.1.0, rw c.hop_of.ensures st.requires.1.1))
 
-enum_told : tie.Need-enum-told
+enum_told : tie.Need-enum_told-1
 enum_told c = search rules
 
-enum-told-2 : tie.Need-enum-told-2
+enum-told-2 : tie.Need-enum_told-in-Gap
 enum-told-2 c = search rules
 
-returns-2 : tie.Need-returns-2
+returns-2 : tie.Need-returns-in-At
 returns-2 c =
-    let st = c.before.before.before.before.before.before.before in
-    point_found _ st.requires.0.ascending _ _ _ c.before.before.before.hop-of.ensures c.before.before.find-row.ensures c.enum_told.given.1
+    let st = c in
+    point_found _ st.requires.0.ascending _ _ _ c.hop_of.ensures c.find_row.ensures c.enum_told-1.given.1
 
-returns-3 : tie.Need-returns-3
+returns-3 : tie.Need-returns-in-Gap
 returns-3 c =
-    let st = c.before.before.before.before.before.before.before in
-    point_missing _ st.requires.0.ascending _ _ _ c.before.before.before.hop-of.ensures c.before.before.find-row.ensures c.enum-told2.given.1
-    (⊎_elim (λ w z e. w.3.left e) (λ w z e. w.left z) c.before.before.before.before.if1.branch)
+    let st = c in
+    point_missing _ st.requires.0.ascending _ _ _ c.hop_of.ensures c.find_row.ensures c.enum_told-in-Gap-1.given.1
+    (⊎_elim (λ w z e. w.if-s4-s2.false e) (λ w z e. w.if-a-eq0.false z) c.if-a-eq0.branch-raw)
 
-pub is-point-spec : {M : Type 1} → statement M
-is-point-spec =
+pub is_point_spec : {M : Type 1} → statement M
+is_point_spec =
     tie.close
     (tie.spec returns hop-of-requires find-row-requires enum_told enum-told-2 returns-2 returns-3)

@@ -5,32 +5,32 @@ use borrow.Author.Rules.{rules}
 use Rattle.mark_worklist_push.proofs.push_into.Statement.{statement}
 use Rattle.mark_worklist_push.proofs.push_into.Tie as tie
 
-push-answers-requires : tie.Need-push-answers-requires
+push-answers-requires : tie.Need-push_answers-length-requires
 push-answers-requires c κs = search rules
 
-label-at-requires : tie.Need-label-at-requires
+label-at-requires : tie.Need-label_at-requires
 label-at-requires c κs = search rules
 
-from-at-requires : tie.Need-from-at-requires
+from-at-requires : tie.Need-from_at-s1-requires
 from-at-requires c κs = search rules
 
-to-at-requires : tie.Need-to-at-requires
+to-at-requires : tie.Need-to_at-s4-requires
 to-at-requires c κs = search rules
 
-push-pair-requires : tie.Need-push-pair-requires
+push-pair-requires : tie.Need-push_pair-requires
 push-pair-requires c κs =
-    let st = c.before.before.before.before.before.before.before.before.before.before.before.before in
-    (record { given = st.requires.0.given; queue = c.before.before.before.before.before.before.before.push-answers.ensures.queue }, rw c.before.before.before.from_at.ensures (st.requires.0.given.ready.from_in _ st.requires.1.1.0))
+    let st = c in
+    (record { given = st.requires.0.given; queue = c.push_answers-length.ensures.queue }, rw c.from_at-s1.ensures (st.requires.0.given.ready.from_in _ st.requires.1.1.0))
 
-returns : tie.Need-returns
+returns : tie.Need-returns-then-label_at-eq0
 returns c =
-    trying_silent _ _ _ _ _ _ c.before.before.before.before.before.before.before.label_at.ensures c.before.before.before.before.before.if1.true c.before.before.before.before.from_at.ensures c.before.before.before.to_at.ensures c.before.before.before.before.before.before.before.before.push-answers.ensures c.push-pair.ensures
+    trying_silent _ _ _ _ _ _ c.label_at.ensures c.if-label_at-eq0.true c.from_at-s1.ensures c.to_at-s4.ensures c.push_answers-length.ensures c.push_pair.ensures
 
-returns-2 : tie.Need-returns-2
-returns-2 c = trying_visible _ _ _ _ c.before.before.label_at.ensures c.if1.false c.before.before.before.push-answers.ensures
+returns-2 : tie.Need-returns
+returns-2 c = trying_visible _ _ _ _ c.label_at.ensures c.if-label_at-eq0.false c.push_answers-length.ensures
 
-pub push-into-spec : {M : Type 1} → statement M
-push-into-spec =
+pub push_into_spec : {M : Type 1} → statement M
+push_into_spec =
     tie.close
     (tie.spec
     push-answers-requires

@@ -5,34 +5,34 @@ use borrow.Author.Rules.{rules}
 use Rattle.mark_worklist_push.proofs.push_like.Statement.{statement}
 use Rattle.mark_worklist_push.proofs.push_like.Tie as tie
 
-label-at-requires : tie.Need-label-at-requires
+label-at-requires : tie.Need-label_at-a-requires
 label-at-requires c κs = search rules
 
-label-at-requires-2 : tie.Need-label-at-requires-2
+label-at-requires-2 : tie.Need-label_at-requires
 label-at-requires-2 c κs = search rules
 
-returns : tie.Need-returns
+returns : tie.Need-returns-then-a-label_at
 returns c =
-    let st = c.before.before.before.before.before.before.before in
-    like_no _ _ _ _ c.before.before.before.before.label_at.ensures c.before.before.before.label-at2.ensures c.if1.true st.requires.0.queue
+    let st = c in
+    like_no _ _ _ _ c.label_at-a.ensures c.label_at.ensures c.if-a-label_at.true st.requires.0.queue
 
-from-at-requires : tie.Need-from-at-requires
+from-at-requires : tie.Need-from_at-requires
 from-at-requires c κs = search rules
 
-from-at-requires-2 : tie.Need-from-at-requires-2
+from-at-requires-2 : tie.Need-from_at-requires-2
 from-at-requires-2 c κs = search rules
 
-push-pair-requires : tie.Need-push-pair-requires
+push-pair-requires : tie.Need-push_pair-requires
 push-pair-requires c κs =
-    let st = c.before.before.before.before.before.before.before.before.before.before.before in
-    (st.requires.0, rw c.before.from_at.ensures (st.requires.0.given.ready.from_in _ st.requires.1.0))
+    let st = c in
+    (st.requires.0, rw c.from_at.ensures (st.requires.0.given.ready.from_in _ st.requires.1.0))
 
-returns-2 : tie.Need-returns-2
+returns-2 : tie.Need-returns
 returns-2 c =
-    like_yes _ _ _ _ c.before.before.before.before.before.before.before.before.before.label_at.ensures c.before.before.before.before.before.before.before.before.label-at2.ensures c.before.before.before.before.before.if1.false c.before.before.from_at.ensures c.before.from-at2.ensures c.push-pair.ensures
+    like_yes _ _ _ _ c.label_at-a.ensures c.label_at.ensures c.if-a-label_at.false c.from_at.ensures c.from_at-2.ensures c.push_pair.ensures
 
-pub push-like-spec : {M : Type 1} → statement M
-push-like-spec =
+pub push_like_spec : {M : Type 1} → statement M
+push_like_spec =
     tie.close
     (tie.spec
     label-at-requires

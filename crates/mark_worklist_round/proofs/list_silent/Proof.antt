@@ -14,70 +14,70 @@ use Rattle.mark_worklist_round.proofs.Parts.{first_yes, first_no}
 use Rattle.mark_worklist_round.proofs.list_silent.Statement.{statement}
 use Rattle.mark_worklist_round.proofs.list_silent.Tie as tie
 
-abbrev invariant-loop : tie.invariant-loop
+abbrev invariant-loop : tie.invariant-loop-i
 invariant-loop hops queue₀ past n₀ i₀ queue n i =
     (past ≡ count hops) × (i ≤ past) × (most_hops ≤ length queue) × ListsUpTo (count hops) (tested_in hops 0) i queue n
 
-abbrev decreases-loop : tie.decreases-loop
+abbrev decreases-loop : tie.decreases-loop-i
 decreases-loop hops queue₀ past n₀ i₀ queue n i = past - i
 
-hop-count-requires : tie.Need-hop-count-requires invariant-loop decreases-loop
+hop-count-requires : tie.Need-hop_count-past-requires invariant-loop decreases-loop
 hop-count-requires c κs = search rules
 
-loop-holds : tie.Need-loop-init invariant-loop decreases-loop
+loop-holds : tie.Need-loop-i-init invariant-loop decreases-loop
 loop-holds c =
-    let st = c.before.before in
-    (c.hop-count.ensures, omega arith, st.requires.1, lists_none _ _)
+    let st = c in
+    (c.hop_count-past.ensures, omega arith, st.requires.1, lists_none _ _)
 
-cast-queue : tie.Need-overflow-cast-queue invariant-loop decreases-loop
+cast-queue : tie.Need-overflow_cast-queue invariant-loop decreases-loop
 cast-queue c =
-    let st = c.before.before.before.before in
+    let st = c in
     omega (arith, st.requires.0.hops_most)
 
-mul-queue : tie.Need-overflow-mul-queue invariant-loop decreases-loop
+mul-queue : tie.Need-offset_bounds-queue-n invariant-loop decreases-loop
 mul-queue c =
-    let st = c.before.before.before.before in
-    omega (arith, st.requires.0.hops_most, c.before.loop.invariant.3.most)
+    let st = c in
+    omega (arith, st.requires.0.hops_most, c.loop-i.invariant.3.most)
 
-element-write-queue : tie.Need-element-write-queue invariant-loop decreases-loop
+element-write-queue : tie.Need-bounds-queue-n invariant-loop decreases-loop
 element-write-queue c =
-    let st = c.before.before.before.before in
-    omega (arith, st.requires.0.hops_most, c.before.loop.invariant.3.most)
+    let st = c in
+    omega (arith, st.requires.0.hops_most, c.loop-i.invariant.3.most)
 
-label-at-requires : tie.Need-label-at-requires invariant-loop decreases-loop
+label-at-requires : tie.Need-label_at-requires invariant-loop decreases-loop
 label-at-requires c κs = omega arith
 
-add-n : tie.Need-overflow-add-n invariant-loop decreases-loop
+add-n : tie.Need-overflow_add-n invariant-loop decreases-loop
 add-n c =
-    let st = c.before.before.before.before.before.before.before in
-    omega (arith, st.requires.0.hops_most, c.before.before.before.before.loop.invariant.3.most)
+    let st = c in
+    omega (arith, st.requires.0.hops_most, c.loop-i.invariant.3.most)
 
-add-i : tie.Need-overflow-add-i invariant-loop decreases-loop
+add-i : tie.Need-overflow_add-i invariant-loop decreases-loop
 add-i c = omega arith
 
-loop-less : tie.Need-loop-smaller invariant-loop decreases-loop
+loop-less : tie.Need-loop-i-smaller invariant-loop decreases-loop
 loop-less c = omega arith
 
-loop-again : tie.Need-loop-preserved invariant-loop decreases-loop
+loop-again : tie.Need-loop-i-preserved invariant-loop decreases-loop
 loop-again c =
-    let st = c.before.before.before.before.before.before.before in
-    let v = c.before.before.before.before.loop.invariant in
-    let e = c.before.before.label_at.ensures in (
+    let st = c in
+    let v = c.loop-i.invariant in
+    let e = c.label_at.ensures in (
       v.0,
       omega arith,
       simp length-set v.2,
       ⊎_elim
-          (λ w. rw w.1 (lists_more _ _ v.3 (omega (arith, st.requires.0.hops_most, v.3.most)) (first_yes st.args.hops.now _ e w.0.taken)))
-          (λ w. rw w.1 (lists_skip _ _ v.3 (omega (arith, st.requires.0.hops_most, v.3.most)) (first_no st.args.hops.now _ e w.0.left))) c.if1.branch,
+          (λ w. rw w.n-is (lists_more _ _ v.3 (omega (arith, st.requires.0.hops_most, v.3.most)) (first_yes st.args.hops.now _ e w.if-label_at-eq0.true)))
+          (λ w. rw w.n-is (lists_skip _ _ v.3 (omega (arith, st.requires.0.hops_most, v.3.most)) (first_no st.args.hops.now _ e w.if-label_at-eq0.false))) c.if-label_at-eq0.branch-raw,
     )
 
 returns : tie.Need-returns invariant-loop decreases-loop
 returns c =
-    let v = c.before.loop.invariant in
+    let v = c.loop-i.invariant in
     (lists_done _ _ v.3 (omega arith), v.2)
 
-pub list-silent-spec : {M : Type 1} → statement M
-list-silent-spec =
+pub list_silent_spec : {M : Type 1} → statement M
+list_silent_spec =
     tie.close
     (tie.spec
     invariant-loop

@@ -3,19 +3,19 @@ use borrow.Author.Rules.{rules}
 use Rattle.reduce_by_marks.proofs.short_shape.Statement.{statement}
 use Rattle.reduce_by_marks.proofs.short_shape.Tie as tie
 
-cast-states : tie.Need-overflow-cast-states
+cast-states : tie.Need-overflow_cast-states
 cast-states c = search rules
 
-cast-long : tie.Need-overflow-cast-long
+cast-long : tie.Need-overflow_cast-shape
 cast-long c = search rules
 
-map-at-requires : tie.Need-map-at-requires
+map-at-requires : tie.Need-map_at-initial-requires
 map-at-requires c κs = search rules
 
-mul-long : tie.Need-overflow-mul-long
+mul-long : tie.Need-offset_bounds-news-states
 mul-long c = search rules
 
-element-copy-out-long : tie.Need-element-copy-out-long
+element-copy-out-long : tie.Need-bounds-news-states
 element-copy-out-long c = search rules
 
 long-requires : tie.Need-long-requires
@@ -27,8 +27,8 @@ long-requires-2 c κs = search rules
 returns : tie.Need-returns
 returns c = cc
 
-pub short-shape-spec : {M : Type 1} → statement M
-short-shape-spec =
+pub short_shape_spec : {M : Type 1} → statement M
+short_shape_spec =
     tie.close
     (tie.spec
     cast-states

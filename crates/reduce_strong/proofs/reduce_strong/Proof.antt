@@ -10,35 +10,35 @@ use Rattle.reduce_by_marks.proofs.Along.{after_marks}
 use Rattle.reduce_strong.proofs.reduce_strong.Statement.{statement}
 use Rattle.reduce_strong.proofs.reduce_strong.Tie as tie
 
-mark-rounds-requires : tie.Need-mark-rounds-requires
+mark-rounds-requires : tie.Need-mark_rounds-requires
 mark-rounds-requires c κs =
-    let st = c.before.before.before.before.before in
+    let st = c in
     (admitted_indexable st.requires.0.admitted, (st.requires.1.0, st.requires.1.1.0))
 
-reduce-marked-requires : tie.Need-reduce-marked-requires
+reduce-marked-requires : tie.Need-reduce_marked-requires
 reduce-marked-requires c κs =
-    let st = c.before.before.before.before.before.before.before.before.before.before.before in
+    let st = c in
     let red = st.requires.0 in
-    (red.admitted, (mark_set_terminating red _, (after_marks _ _ _ _ c.before.before.before.before.before.mark-rounds.ensures.1 st.requires.1.1.0, st.requires.1.1.1)))
+    (red.admitted, (mark_set_terminating red _, (after_marks _ _ _ _ c.mark_rounds.ensures.1 st.requires.1.1.0, st.requires.1.1.1)))
 
-same_length : tie.Need-same-length
+same_length : tie.Need-shape_of-marks
 same_length c = search rules
 
-same-length-2 : tie.Need-same-length-2
+same-length-2 : tie.Need-shape_of-map
 same-length-2 c = search rules
 
-same-length-3 : tie.Need-same-length-3
+same-length-3 : tie.Need-shape_of-short
 same-length-3 c = search rules
 
 returns : tie.Need-returns
 returns c =
-    let hs = c.before.before.before.before.before.before.before.before.before.before.before.before.before.before.before.before.args.hops.now in
-    let e = c.before.before.before.before.before.before.before.before.before.before.mark-rounds.ensures.1 in
-    let made = rw (mark_set_set hs (marked hs) _ _ e (marked_confluent hs).silent) at c.before.before.before.before.reduce-marked.ensures in
+    let hs = c.args.hops.now in
+    let e = c.mark_rounds.ensures.1 in
+    let made = rw (mark_set_set hs (marked hs) _ _ e (marked_confluent hs).silent) at c.reduce_marked.ensures in
     (made.0, (e, made.1))
 
-pub reduce-strong-spec : {M : Type 1} → statement M
-reduce-strong-spec =
+pub reduce_strong_spec : {M : Type 1} → statement M
+reduce_strong_spec =
     tie.close
     (tie.spec
     mark-rounds-requires

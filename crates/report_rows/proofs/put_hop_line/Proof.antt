@@ -6,53 +6,53 @@ use borrow.Author.Rules.{rules}
 use Rattle.report_rows.proofs.put_hop_line.Statement.{statement}
 use Rattle.report_rows.proofs.put_hop_line.Tie as tie
 
-new-from-at-requires : tie.Need-new-from-at-requires
+new-from-at-requires : tie.Need-new_from_at-from-requires
 new-from-at-requires c κs = search rules
 
-cast-from : tie.Need-overflow-cast-from
+cast-from : tie.Need-overflow_cast-from
 cast-from c = search rules
 
-label-at-requires : tie.Need-label-at-requires
+label-at-requires : tie.Need-label_at-label-requires
 label-at-requires c κs = search rules
 
-cast-label : tie.Need-overflow-cast-label
+cast-label : tie.Need-overflow_cast-label
 cast-label c = search rules
 
-new-to-at-requires : tie.Need-new-to-at-requires
+new-to-at-requires : tie.Need-new_to_at-to-requires
 new-to-at-requires c κs = search rules
 
-cast-to : tie.Need-overflow-cast-to
+cast-to : tie.Need-overflow_cast-to
 cast-to c = search rules
 
-line-at-requires : tie.Need-line-at-requires
+line-at-requires : tie.Need-line_at-source-requires
 line-at-requires c κs = search rules
 
-cast-source : tie.Need-overflow-cast-source
+cast-source : tie.Need-overflow_cast-source
 cast-source c = search rules
 
-slice-aggregate-put-line : tie.Need-slice-aggregate-put-line
+slice-aggregate-put-line : tie.Need-slice_bounds-put_line-end-2
 slice-aggregate-put-line c = search rules
 
 slice-aggregate-put-line-2 : tie.Need-slice-aggregate-put-line-2
 slice-aggregate-put-line-2 c = search rules
 
-put-line-requires : tie.Need-put-line-requires
+put-line-requires : tie.Need-put_line-requires
 put-line-requires c κs =
-    let s = c.before.before.before.before.before.before.before.before.before.before.before.before in
-    let e = hop_parts s.args.short.now s.args.i c.before.before.before.before.before.before.before.before.before.new-from-at.ensures c.before.before.before.before.before.before.before.label_at.ensures c.before.before.before.before.before.new-to-at.ensures c.before.before.before.line_at.ensures in
+    let s = c in
+    let e = hop_parts s.args.short.now s.args.i c.new_from_at-from.ensures c.label_at-label.ensures c.new_to_at-to.ensures c.line_at-source.ensures in
     capacity_same e s.requires.1
 
-same_length : tie.Need-same-length
+same_length : tie.Need-shape_of-out
 same_length c = search rules
 
 returns : tie.Need-returns
 returns c =
-    let s = c.before.before.before.before.before.before.before.before.before.before.before.before.before.before.before in
-    let e = hop_parts s.args.short.now s.args.i c.before.before.before.before.before.before.before.before.before.before.before.before.new-from-at.ensures c.before.before.before.before.before.before.before.before.before.before.label_at.ensures c.before.before.before.before.before.before.before.before.new-to-at.ensures c.before.before.before.before.before.before.line_at.ensures in
-    put_same (sym e) c.before.before.put-line.ensures
+    let s = c in
+    let e = hop_parts s.args.short.now s.args.i c.new_from_at-from.ensures c.label_at-label.ensures c.new_to_at-to.ensures c.line_at-source.ensures in
+    put_same (sym e) c.put_line.ensures
 
-pub put-hop-line-spec : {M : Type 1} → statement M
-put-hop-line-spec =
+pub put_hop_line_spec : {M : Type 1} → statement M
+put_hop_line_spec =
     tie.close
     (tie.spec
     new-from-at-requires

@@ -13,41 +13,41 @@ use borrow.Author.Rules.{rules}
 use Rattle.report_rows.proofs.put_hops.Statement.{statement}
 use Rattle.report_rows.proofs.put_hops.Tie as tie
 
-abbrev invariant-loop : tie.invariant-loop
+abbrev invariant-loop : tie.invariant-loop-i
 invariant-loop out₀ at short n next₀ i₀ out next i =
     (n ≡ count short) × (i ≤ n) × (length out ≡ length out₀) × TextPut out₀ at (concat i (hop_line short)) next out
 
-abbrev decreases-loop : tie.decreases-loop
+abbrev decreases-loop : tie.decreases-loop-i
 decreases-loop out₀ at short n next₀ i₀ out next i = n - i
 
-hop-count-requires : tie.Need-hop-count-requires invariant-loop decreases-loop
+hop-count-requires : tie.Need-hop_count-n-requires invariant-loop decreases-loop
 hop-count-requires c κs = search rules
 
-loop-holds : tie.Need-loop-init invariant-loop decreases-loop
-loop-holds c = (c.hop-count.ensures, omega arith, refl, lines_none _)
+loop-holds : tie.Need-loop-i-init invariant-loop decreases-loop
+loop-holds c = (c.hop_count-n.ensures, omega arith, refl, lines_none _)
 
-put-hop-line-requires : tie.Need-put-hop-line-requires invariant-loop decreases-loop
-put-hop-line-requires c κs = (omega arith, lines_capacity _ _ c.before.before.before.before.before.before.requires (omega arith) c.before.before.loop.invariant.3)
+put-hop-line-requires : tie.Need-put_hop_line-next-requires invariant-loop decreases-loop
+put-hop-line-requires c κs = (omega arith, lines_capacity _ _ c.requires (omega arith) c.loop-i.invariant.3)
 
-add-i : tie.Need-overflow-add-i invariant-loop decreases-loop
+add-i : tie.Need-overflow_add-i invariant-loop decreases-loop
 add-i c = omega arith
 
-loop-less : tie.Need-loop-smaller invariant-loop decreases-loop
+loop-less : tie.Need-loop-i-smaller invariant-loop decreases-loop
 loop-less c = omega arith
 
-loop-again : tie.Need-loop-preserved invariant-loop decreases-loop
+loop-again : tie.Need-loop-i-preserved invariant-loop decreases-loop
 loop-again c =
-    let v = c.before.before.before.before.before.loop.invariant in
-    (v.0, omega arith, omega arith, lines_more _ _ c.before.before.before.before.before.before.before.before.before.requires (omega arith) v.3 c.before.before.put-hop-line.ensures)
+    let v = c.loop-i.invariant in
+    (v.0, omega arith, omega arith, lines_more _ _ c.requires (omega arith) v.3 c.put_hop_line-next.ensures)
 
-same_length : tie.Need-same-length invariant-loop decreases-loop
+same_length : tie.Need-shape_of-out invariant-loop decreases-loop
 same_length c = omega arith
 
 returns : tie.Need-returns invariant-loop decreases-loop
-returns c = lines_done _ (omega arith) (omega arith) c.before.loop.invariant.3
+returns c = lines_done _ (omega arith) (omega arith) c.loop-i.invariant.3
 
-pub put-hops-spec : {M : Type 1} → statement M
-put-hops-spec =
+pub put_hops_spec : {M : Type 1} → statement M
+put_hops_spec =
     tie.close
     (tie.spec
     invariant-loop

@@ -12,60 +12,60 @@ use borrow.Author.Rules.{rules}
 use Rattle.report_rows.proofs.put_map.Statement.{statement}
 use Rattle.report_rows.proofs.put_map.Tie as tie
 
-abbrev invariant-loop : tie.invariant-loop
+abbrev invariant-loop : tie.invariant-loop-s
 invariant-loop out₀ at map states next₀ s₀ t9 out next s =
     (s ≤ states) × (length out ≡ length out₀) × TextPut out₀ at (map_lines s map) next out
 
-abbrev decreases-loop : tie.decreases-loop
+abbrev decreases-loop : tie.decreases-loop-s
 decreases-loop out₀ at map states next₀ s₀ t9 out next s = states - s
 
-loop-holds : tie.Need-loop-init invariant-loop decreases-loop
+loop-holds : tie.Need-loop-s-init invariant-loop decreases-loop
 loop-holds c = (omega arith, refl, lines_none _)
 
 cast-t12 : tie.Need-overflow-cast-t12 invariant-loop decreases-loop
 cast-t12 c = omega arith
 
-map-at-requires : tie.Need-map-at-requires invariant-loop decreases-loop
+map-at-requires : tie.Need-map_at-new-requires invariant-loop decreases-loop
 map-at-requires c κs = omega arith
 
-cast-new : tie.Need-overflow-cast-new invariant-loop decreases-loop
+cast-new : tie.Need-overflow_cast-new invariant-loop decreases-loop
 cast-new c = search rules
 
-slice-aggregate-put-line : tie.Need-slice-aggregate-put-line invariant-loop decreases-loop
+slice-aggregate-put-line : tie.Need-slice_bounds-put_line-end-in-loop-s invariant-loop decreases-loop
 slice-aggregate-put-line c = search rules
 
 slice-aggregate-put-line-2 : tie.Need-slice-aggregate-put-line-2 invariant-loop decreases-loop
 slice-aggregate-put-line-2 c = search rules
 
-put-line-requires : tie.Need-put-line-requires invariant-loop decreases-loop
+put-line-requires : tie.Need-put_line-next-requires invariant-loop decreases-loop
 put-line-requires c κs =
-    let s = c.before.before.before.before.before.before.before.before.before in
-    capacity_same (map_parts _ _ c.before.before.before.before.map_at.ensures) (lines_capacity _ _ s.requires.1.1 (omega arith) c.before.before.before.before.before.before.loop.invariant.2)
+    let s = c in
+    capacity_same (map_parts _ _ c.map_at-new.ensures) (lines_capacity _ _ s.requires.1.1 (omega arith) c.loop-s.invariant.2)
 
-add-s : tie.Need-overflow-add-s invariant-loop decreases-loop
+add-s : tie.Need-overflow_add-s invariant-loop decreases-loop
 add-s c = omega arith
 
-loop-less : tie.Need-loop-smaller invariant-loop decreases-loop
+loop-less : tie.Need-loop-s-smaller invariant-loop decreases-loop
 loop-less c = omega arith
 
-loop-again : tie.Need-loop-preserved invariant-loop decreases-loop
+loop-again : tie.Need-loop-s-preserved invariant-loop decreases-loop
 loop-again c =
-    let s = c.before.before.before.before.before.before.before.before.before.before.before.before in
-    let v = c.before.before.before.before.before.before.before.before.before.loop.invariant in (
+    let s = c in
+    let v = c.loop-s.invariant in (
       omega arith,
       omega arith,
       lines_more _ _ s.requires.1.1 (omega arith) v.2
-          (put_same (sym (map_parts _ _ c.before.before.before.before.before.before.before.map_at.ensures)) c.before.before.put-line.ensures),
+          (put_same (sym (map_parts _ _ c.map_at-new.ensures)) c.put_line-next.ensures),
     )
 
-same_length : tie.Need-same-length invariant-loop decreases-loop
+same_length : tie.Need-shape_of-out invariant-loop decreases-loop
 same_length c = omega arith
 
 returns : tie.Need-returns invariant-loop decreases-loop
-returns c = lines_done _ (omega arith) (omega arith) c.before.loop.invariant.2
+returns c = lines_done _ (omega arith) (omega arith) c.loop-s.invariant.2
 
-pub put-map-spec : {M : Type 1} → statement M
-put-map-spec =
+pub put_map_spec : {M : Type 1} → statement M
+put_map_spec =
     tie.close
     (tie.spec
     invariant-loop

@@ -8,36 +8,36 @@ use borrow.Author.Rules.{rules}
 use Rattle.report_text.proofs.put_line.Statement.{statement}
 use Rattle.report_text.proofs.put_line.Tie as tie
 
-put-word-requires : tie.Need-put-word-requires
-put-word-requires c κs = capacity_first _ _ (capacity_same (line_parts _ _) c.before.before.before.before.requires)
+put-word-requires : tie.Need-put_word-first-requires
+put-word-requires c κs = capacity_first _ _ (capacity_same (line_parts _ _) c.requires)
 
-put-numbers-requires : tie.Need-put-numbers-requires
+put-numbers-requires : tie.Need-put_numbers-end-requires
 put-numbers-requires c κs =
-    let s = c.before.before.before.before.before.before.before.before in
-    capacity_first _ _ (capacity_rest _ _ (capacity_same (line_parts _ _) s.requires) c.before.before.before.put_word.ensures)
+    let s = c in
+    capacity_first _ _ (capacity_rest _ _ (capacity_same (line_parts _ _) s.requires) c.put_word-first.ensures)
 
-put-byte-requires : tie.Need-put-byte-requires
+put-byte-requires : tie.Need-put_byte-requires
 put-byte-requires c κs =
-    let s = c.before.before.before.before.before.before.before.before.before.before.before.before in
-    capacity_rest _ _ (capacity_rest _ _ (capacity_same (line_parts _ _) s.requires) c.before.before.before.before.before.before.before.put_word.ensures)
-    c.before.before.before.put-numbers.ensures
+    let s = c in
+    capacity_rest _ _ (capacity_rest _ _ (capacity_same (line_parts _ _) s.requires) c.put_word-first.ensures)
+    c.put_numbers-end.ensures
 
-same_length : tie.Need-same-length
+same_length : tie.Need-shape_of-out
 same_length c = search rules
 
 returns : tie.Need-returns
 returns c =
-    let s = c.before.before.before.before.before.before.before.before.before.before.before.before.before.before.before in
+    let s = c in
     let word = s.args.word.now in
     let ns = s.args.numbers.now in
-    let w = c.before.before.before.before.before.before.before.before.before.before.put_word.ensures in
+    let w = c.put_word-first.ensures in
     let r0 = capacity_same (line_parts word ns) s.requires in
     let r1 = capacity_rest word (spaced_numbers ns ++ (10 ∷ [])) r0 w in
     put_same (sym (line_parts word ns))
     (put_then word (spaced_numbers ns ++ (10 ∷ [])) r0 w
-    (put_then (spaced_numbers ns) (10 ∷ []) r1 c.before.before.before.before.before.before.put-numbers.ensures c.before.before.put_byte.ensures))
+    (put_then (spaced_numbers ns) (10 ∷ []) r1 c.put_numbers-end.ensures c.put_byte.ensures))
 
-pub put-line-spec : {M : Type 1} → statement M
-put-line-spec =
+pub put_line_spec : {M : Type 1} → statement M
+put_line_spec =
     tie.close
     (tie.spec put-word-requires put-numbers-requires put-byte-requires same_length returns)

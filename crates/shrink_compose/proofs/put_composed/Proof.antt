@@ -21,11 +21,11 @@ use Rattle.shrink_compose.proofs.put_composed.Tie as tie
 abbrev on : List ℕ → List ℕ → ℕ → ℕ
 on map next s = mapped next (mapped map s)
 
-abbrev invariant-loop : tie.invariant-loop
+abbrev invariant-loop : tie.invariant-loop-s
 invariant-loop map₀ next s₀ map s =
     (map ≡ on_front (tabulate s (on map₀ next)) map₀) × (length map ≡ length map₀) × (s ≤ length map₀) × (length map₀ ≤ most_states) × Into map₀ (length next)
 
-abbrev decreases-loop : tie.decreases-loop
+abbrev decreases-loop : tie.decreases-loop-s
 decreases-loop map₀ next s₀ map s = length map₀ - s
 
 -- an entry that was not passed is as it was
@@ -33,55 +33,55 @@ unpassed : (map₀ next : List ℕ) {map : List ℕ} (s : ℕ) → map ≡ on_fr
 unpassed map₀ next s e =
     ap (λ (x : List ℕ). mapped x s) e ∙ front_past (tabulate s (on map₀ next)) map₀ (omega (arith, length_tabulate (on map₀ next) s))
 
-loop-holds : tie.Need-loop-init invariant-loop decreases-loop
+loop-holds : tie.Need-loop-s-init invariant-loop decreases-loop
 loop-holds c =
-    let st = c.before.before in
+    let st = c in
     (tabulate_none (on st.args.map.now st.args.next.now) st.args.map.now, refl, omega arith, st.requires.0, st.requires.1)
 
-cast-t10 : tie.Need-overflow-cast-t10 invariant-loop decreases-loop
+cast-t10 : tie.Need-overflow_cast-s invariant-loop decreases-loop
 cast-t10 c = omega arith
 
-map-at-requires : tie.Need-map-at-requires invariant-loop decreases-loop
+map-at-requires : tie.Need-map_at-between-requires invariant-loop decreases-loop
 map-at-requires c κs = omega arith
 
-map-at-requires-2 : tie.Need-map-at-requires-2 invariant-loop decreases-loop
+map-at-requires-2 : tie.Need-map_at-last-requires invariant-loop decreases-loop
 map-at-requires-2 c κs =
-    let v = c.before.before.before.loop.invariant in
-    let st = c.before.before.before.before.before.before.args in
-    omega (arith, c.map_at.ensures, unpassed st.map.now st.next.now c.before.before.before.loop.s v.0, v.4 c.before.before.before.loop.s (omega arith))
+    let v = c.loop-s.invariant in
+    let st = c.args in
+    omega (arith, c.map_at-between.ensures, unpassed st.map.now st.next.now c.loop-s.s v.0, v.4 c.loop-s.s (omega arith))
 
-mul-map : tie.Need-overflow-mul-map invariant-loop decreases-loop
+mul-map : tie.Need-offset_bounds-map-s invariant-loop decreases-loop
 mul-map c = search rules
 
-slice-write-map : tie.Need-slice-write-map invariant-loop decreases-loop
+slice-write-map : tie.Need-bounds-map-s invariant-loop decreases-loop
 slice-write-map c = omega arith
 
-add-s : tie.Need-overflow-add-s invariant-loop decreases-loop
+add-s : tie.Need-overflow_add-s invariant-loop decreases-loop
 add-s c = omega arith
 
-loop-less : tie.Need-loop-smaller invariant-loop decreases-loop
+loop-less : tie.Need-loop-s-smaller invariant-loop decreases-loop
 loop-less c = omega arith
 
-loop-again : tie.Need-loop-preserved invariant-loop decreases-loop
+loop-again : tie.Need-loop-s-preserved invariant-loop decreases-loop
 loop-again c =
-    let l = c.before.before.before.before.loop in
+    let l = c.loop-s in
     let v = l.invariant in
-    let st = c.before.before.before.before.before.before.before.args in
-    let d = c.map-at2.ensures ∙ ap (mapped st.next.now) (c.before.map_at.ensures ∙ unpassed st.map.now st.next.now l.s v.0) in
+    let st = c.args in
+    let d = c.map_at-last.ensures ∙ ap (mapped st.next.now) (c.map_at-between.ensures ∙ unpassed st.map.now st.next.now l.s v.0) in
     (tabulate_more (on st.map.now st.next.now) st.map.now v.0 d (omega arith), simp length-set (omega arith), omega arith, v.3, v.4)
 
-same_length : tie.Need-same-length invariant-loop decreases-loop
+same_length : tie.Need-shape_of-map invariant-loop decreases-loop
 same_length c = omega arith
 
 returns : tie.Need-returns invariant-loop decreases-loop
 unfolding composed
 returns c =
-    let s = c.before.before.before.before.args in
+    let s = c.args in
     let f = on s.map.now s.next.now in
-    tabulate_done f s.map.now c.before.loop.invariant.0 (omega arith) (omega arith) ∙ front_all (tabulate (length s.map.now) f) s.map.now (length_tabulate f (length s.map.now))
+    tabulate_done f s.map.now c.loop-s.invariant.0 (omega arith) (omega arith) ∙ front_all (tabulate (length s.map.now) f) s.map.now (length_tabulate f (length s.map.now))
 
-pub put-composed-spec : {M : Type 1} → statement M
-put-composed-spec =
+pub put_composed_spec : {M : Type 1} → statement M
+put_composed_spec =
     tie.close
     (tie.spec
     invariant-loop

@@ -7,41 +7,41 @@ use borrow.Author.Rules.{rules}
 use Rattle.shrink_entry.proofs.shrink.Statement.{statement}
 use Rattle.shrink_entry.proofs.shrink.Tie as tie
 
-reduce-answer-requires : tie.Need-reduce-answer-requires
+reduce-answer-requires : tie.Need-reduce_answer-answer-requires
 reduce-answer-requires c κs = search rules
 
-refused-shrinking-requires : tie.Need-refused-shrinking-requires
+refused-shrinking-requires : tie.Need-refused_shrinking-requires
 refused-shrinking-requires c κs = search rules
 
-returns : tie.Need-returns
+returns : tie.Need-returns-then-answer-ne0
 returns c =
-    let st = c.before.before.before.before.before.before.before.args in
+    let st = c.args in
     let map = st.map.now in
     let short = st.short.now in
-    let e = c.before.before.before.reduce-answer.ensures in
-    let n = c.before.if1.true in
-    (c.refused-shrinking.ensures ∙ refused_returns _ _ _ map short e n, (refused_map _ _ _ map short e n, refused_short _ _ _ map short e n))
+    let e = c.reduce_answer-answer.ensures in
+    let n = c.if-answer-ne0.true in
+    (c.refused_shrinking.ensures ∙ refused_returns _ _ _ map short e n, (refused_map _ _ _ map short e n, refused_short _ _ _ map short e n))
 
-accepted-shrinking-requires : tie.Need-accepted-shrinking-requires
+accepted-shrinking-requires : tie.Need-accepted_shrinking-requires
 accepted-shrinking-requires c κs =
-    let st = c.before.before.before.before.before.before.before.before.args in
-    let z = accepts _ _ _ st.map.now st.short.now c.before.before.before.before.reduce-answer.ensures c.before.before.if1.false in
+    let st = c.args in
+    let z = accepts _ _ _ st.map.now st.short.now c.reduce_answer-answer.ensures c.if-answer-ne0.false in
     (reduce_reducible _ _ _ _ _ z, (reduce_map_capacity _ _ _ _ _ z, reduce_short_capacity _ _ _ _ _ z))
 
-same_length : tie.Need-same-length
+same_length : tie.Need-shape_of-map
 same_length c = search rules
 
-same-length-2 : tie.Need-same-length-2
+same-length-2 : tie.Need-shape_of-short
 same-length-2 c = search rules
 
-returns-2 : tie.Need-returns-2
+returns-2 : tie.Need-returns
 returns-2 c =
-    let st = c.before.before.before.before.before.before.before.before.before.before.before.before.before.args in
+    let st = c.args in
     let map = st.map.now in
     let short = st.short.now in
-    let e = c.before.before.before.before.before.before.before.before.before.reduce-answer.ensures in
-    let z = c.before.before.before.before.before.before.before.if1.false in
-    let w = c.before.before.before.before.accepted-shrinking.ensures in
+    let e = c.reduce_answer-answer.ensures in
+    let z = c.if-answer-ne0.false in
+    let w = c.accepted_shrinking.ensures in
     (w.0 ∙ accepted_returns _ _ _ map short e z, (accepted_map _ _ _ map short e z w.1.0, accepted_short _ _ _ map short e z w.1.1))
 
 pub shrink_spec : {M : Type 1} → statement M

@@ -10,83 +10,83 @@ use Rattle.walk_acyclic.proofs.Ranks.{ranked_none, ranks_later, ranked_join, ran
 use Rattle.walk_acyclic.proofs.rank_all.Statement.{statement}
 use Rattle.walk_acyclic.proofs.rank_all.Tie as tie
 
-abbrev invariant-loop : tie.invariant-loop
+abbrev invariant-loop : tie.invariant-loop-v
 invariant-loop shape hops starts ranked₀ first v₀ entered₀ via₀ got₀ ranked v entered via got =
     (v ≤ shape.states) × (length ranked ≡ length ranked₀) × Ranked hops shape.states ranked₀ ranked got
 
-abbrev decreases-loop : tie.decreases-loop
+abbrev decreases-loop : tie.decreases-loop-v
 decreases-loop shape hops starts ranked₀ first v₀ entered₀ via₀ got₀ ranked v entered via got = v
 
-rank-once-requires : tie.Need-rank-once-requires invariant-loop decreases-loop
-rank-once-requires c κs = c.before.before.before.requires
+rank-once-requires : tie.Need-rank_once-first-requires invariant-loop decreases-loop
+rank-once-requires c κs = c.requires
 
 -- after the pass
-module _ (o : tie.After-rank-once invariant-loop decreases-loop) where
+module _ (o : tie.After-rank_once-first invariant-loop decreases-loop) where
   abbrev start : tie.Start invariant-loop decreases-loop
   start = o.before.before.before.before
 
-  same : length o.rank-once.last.1.1.1.0 ≡ length start.args.ranked.now
-  same = o.rank-once.kept.1.1.1.0
+  same : length o.rank_once-first.last.1.1.1.0 ≡ length start.args.ranked.now
+  same = o.rank_once-first.kept.ranked
 
-  ranks : Ranks start.args.hops.now start.args.shape.states o.rank-once.last.1.1.1.0
-  ranks = ranks_later start.pre.1 same o.rank-once.ensures
+  ranks : Ranks start.args.hops.now start.args.shape.states o.rank_once-first.last.1.1.1.0
+  ranks = ranks_later start.requires.1 same o.rank_once-first.ensures
 
-cast-v : tie.Need-overflow-cast-v invariant-loop decreases-loop
+cast-v : tie.Need-overflow_cast-v invariant-loop decreases-loop
 cast-v c = search rules
 
-same_length : tie.Need-same-length invariant-loop decreases-loop
+same_length : tie.Need-shape_of-ranked-then-first-v invariant-loop decreases-loop
 same_length c = same c.before.before.before.before
 
-returns : tie.Need-returns invariant-loop decreases-loop
-returns c = c.before.before.before.before.rank-once.ensures
+returns : tie.Need-returns-then-first-v invariant-loop decreases-loop
+returns c = c.rank_once-first.ensures
 
-loop-holds : tie.Need-loop-init invariant-loop decreases-loop
+loop-holds : tie.Need-loop-v-init invariant-loop decreases-loop
 loop-holds c = (omega arith, refl, ranked_none _ (ranks c.before.before.before.before).unringed)
 
-abbrev once : tie.At-loop invariant-loop decreases-loop → tie.After-rank-once invariant-loop decreases-loop
+abbrev once : tie.At-loop-v invariant-loop decreases-loop → tie.After-rank_once-first invariant-loop decreases-loop
 once a = a.before.before.before.before.before
 
-sub-v : tie.Need-overflow-sub-v invariant-loop decreases-loop
-sub-v c = omega (arith, c.loop-test.true)
+sub-v : tie.Need-overflow_sub-v invariant-loop decreases-loop
+sub-v c = omega (arith, c.loop-v-test.true)
 
-cast-t15 : tie.Need-overflow-cast-t15 invariant-loop decreases-loop
-cast-t15 c = omega (arith, c.before.loop.invariant.0, (start (once c.before)).pre.0.admitted.states_most)
+cast-t15 : tie.Need-overflow_cast-v-in-loop-v invariant-loop decreases-loop
+cast-t15 c = omega (arith, c.loop-v.invariant.0, (start (once c.before)).requires.0.admitted.states_most)
 
-rank-from-requires : tie.Need-rank-from-requires invariant-loop decreases-loop
+rank-from-requires : tie.Need-rank_from-got-requires invariant-loop decreases-loop
 rank-from-requires c κs =
     let a = c.before.before.before.before in
-    let i = a.loop.invariant in
-    ((start (once a)).pre.0, (omega (arith, i.0, c.before.before.before.loop-test.true), ranks_later (ranks (once a)) i.1 i.2))
+    let i = a.loop-v.invariant in
+    ((start (once a)).requires.0, (omega (arith, i.0, c.loop-v-test.true), ranks_later (ranks (once a)) i.1 i.2))
 
-abbrev turn : tie.After-slice-known3 invariant-loop decreases-loop → tie.At-loop invariant-loop decreases-loop
+abbrev turn : tie.After-slice_known-in-loop-v-1 invariant-loop decreases-loop → tie.At-loop-v invariant-loop decreases-loop
 turn c = c.before.before.before.before.before.before.before
 
-add-got : tie.Need-overflow-add-got invariant-loop decreases-loop
+add-got : tie.Need-overflow_add-got invariant-loop decreases-loop
 add-got c =
     let a = turn c in
-    omega (arith, ranked_within (ranked_join a.loop.inv.2 c.before.before.rank-from.ensures), (start (once a)).pre.0.admitted.states_most)
+    omega (arith, ranked_within (ranked_join a.loop-v.inv.2 c.rank_from-got.ensures), (start (once a)).requires.0.admitted.states_most)
 
-loop-less : tie.Need-loop-smaller invariant-loop decreases-loop
-loop-less c = omega (arith, c.before.before.before.before.before.before.loop-test.true)
+loop-less : tie.Need-loop-v-smaller invariant-loop decreases-loop
+loop-less c = omega (arith, c.loop-v-test.true)
 
-loop-again : tie.Need-loop-preserved invariant-loop decreases-loop
+loop-again : tie.Need-loop-v-preserved invariant-loop decreases-loop
 loop-again c =
-    let i = (turn c).loop.invariant in
-    (omega (arith, i.0), c.before.before.rank-from.auto.1.1.1.1.1.1.0 ∙ i.1, ranked_join i.2 c.before.before.rank-from.ensures)
+    let i = (turn c).loop-v.invariant in
+    (omega (arith, i.0), c.rank_from-got.auto.ranked ∙ i.1, ranked_join i.2 c.rank_from-got.ensures)
 
-add-result : tie.Need-overflow-add-result invariant-loop decreases-loop
+add-result : tie.Need-overflow_add-result invariant-loop decreases-loop
 add-result c =
     let a = c.before in
-    omega (arith, ranked_within (ranked_join (once a).rank-once.ensures a.loop.invariant.2), (start (once a)).pre.0.admitted.states_most)
+    omega (arith, ranked_within (ranked_join (once a).rank_once-first.ensures a.loop-v.invariant.2), (start (once a)).requires.0.admitted.states_most)
 
-same-length-2 : tie.Need-same-length-2 invariant-loop decreases-loop
-same-length-2 c = c.before.loop.invariant.1 ∙ same (once c.before)
+same-length-2 : tie.Need-shape_of-ranked invariant-loop decreases-loop
+same-length-2 c = c.loop-v.invariant.1 ∙ same (once c.before)
 
-returns-2 : tie.Need-returns-2 invariant-loop decreases-loop
-returns-2 c = ranked_join (once c.before).rank-once.ensures c.before.loop.invariant.2
+returns-2 : tie.Need-returns invariant-loop decreases-loop
+returns-2 c = ranked_join (once c.before).rank_once-first.ensures c.loop-v.invariant.2
 
-pub rank-all-spec : {M : Type 1} → statement M
-rank-all-spec =
+pub rank_all_spec : {M : Type 1} → statement M
+rank_all_spec =
     tie.close
     (tie.spec
     invariant-loop

@@ -11,64 +11,64 @@ use Rattle.walk_topological_order.proofs.Ordering.{PassState, placed_or_stuck_no
 use Rattle.walk_topological_order.proofs.place_each.Statement.{statement}
 use Rattle.walk_topological_order.proofs.place_each.Tie as tie
 
-abbrev invariant-loop : tie.invariant-loop
+abbrev invariant-loop : tie.invariant-loop-k
 invariant-loop shape hops starts down placed₀ line₀ n got₀ k₀ placed sorted got k =
     (length placed ≡ length placed₀) × OrderedSoFar hops shape.states placed sorted got ×
     PlacedOrStuck hops (PassState shape.states down k) placed₀ got₀.states placed got.states
 
-abbrev decreases-loop : tie.decreases-loop
+abbrev decreases-loop : tie.decreases-loop-k
 decreases-loop shape hops starts down placed₀ line₀ n got₀ k₀ placed sorted got k = n - k
 
-cast-n : tie.Need-overflow-cast-n invariant-loop decreases-loop
+cast-n : tie.Need-overflow_cast-n invariant-loop decreases-loop
 cast-n c = search rules
 
-abbrev start : tie.At-loop invariant-loop decreases-loop → tie.Start invariant-loop decreases-loop
+abbrev start : tie.At-loop-k invariant-loop decreases-loop → tie.Start invariant-loop decreases-loop
 start a = a.before.before.before.before
 
-loop-holds : tie.Need-loop-init invariant-loop decreases-loop
-loop-holds c = let s = c.before.before.before in (refl, s.requires.1.1, placed_or_stuck_none _ s.args.shape.states s.args.down _ _)
+loop-holds : tie.Need-loop-k-init invariant-loop decreases-loop
+loop-holds c = let s = c in (refl, s.requires.1.1, placed_or_stuck_none _ s.args.shape.states s.args.down _ _)
 
-pass-state-requires : tie.Need-pass-state-requires invariant-loop decreases-loop
-pass-state-requires c κs = c.loop-test.true
+pass-state-requires : tie.Need-pass_state-requires invariant-loop decreases-loop
+pass-state-requires c κs = c.loop-k-test.true
 
 -- the state that is tried
-in-range : (c : tie.After-pass-state invariant-loop decreases-loop) → c.pass-state.result < (start c.before.before).args.shape.states
-in-range c = pass_state_below _ (start c.before.before).args.down c.pass-state.ensures c.before.loop-test.true
+in-range : (c : tie.After-pass_state invariant-loop decreases-loop) → c.pass_state.result < (start c.before.before).args.shape.states
+in-range c = pass_state_below _ (start c.before.before).args.down c.pass_state.ensures c.loop-k-test.true
 
-cast-t14 : tie.Need-overflow-cast-t14 invariant-loop decreases-loop
-cast-t14 c = omega (arith, in-range c, (start c.before.before).pre.0.admitted.states_most)
+cast-t14 : tie.Need-overflow_cast-v invariant-loop decreases-loop
+cast-t14 c = omega (arith, in-range c, (start c.before.before).requires.0.admitted.states_most)
 
-place-one-requires : tie.Need-place-one-requires invariant-loop decreases-loop
+place-one-requires : tie.Need-place_one-got-requires invariant-loop decreases-loop
 place-one-requires c κs =
     let a = c.before.before.before.before in
-    ((start a).requires.0, (in-range c.before.before, a.loop.invariant.1))
+    ((start a).requires.0, (in-range c.before.before, a.loop-k.invariant.1))
 
-add-k : tie.Need-overflow-add-k invariant-loop decreases-loop
+add-k : tie.Need-overflow_add-k invariant-loop decreases-loop
 add-k c =
-    let w = c.before.before.before.before.before.before in
-    omega (arith, w.loop-test.true, (start w.before).pre.0.admitted.states_most)
+    let w = c in
+    omega (arith, w.loop-k-test.true, (start w.before).requires.0.admitted.states_most)
 
-loop-less : tie.Need-loop-smaller invariant-loop decreases-loop
-loop-less c = omega (arith, c.before.before.before.before.before.before.loop-test.true)
+loop-less : tie.Need-loop-k-smaller invariant-loop decreases-loop
+loop-less c = omega (arith, c.loop-k-test.true)
 
-loop-again : tie.Need-loop-preserved invariant-loop decreases-loop
+loop-again : tie.Need-loop-k-preserved invariant-loop decreases-loop
 loop-again c =
-    let p = c.before.before.place-one in
-    let t = c.before.before.before.before.before in
+    let p = c.place_one-got in
+    let t = c in
     let a = t.before.before in
-    (p.auto.1.1.1.1.0 ∙ a.loop.invariant.0, p.ensures.0, placed_or_stuck_more (start a).args.shape.states (start a).args.down a.loop.k t.pass-state.ensures a.loop.invariant.2 p.ensures.1)
+    (p.auto.placed ∙ a.loop-k.invariant.0, p.ensures.0, placed_or_stuck_more (start a).args.shape.states (start a).args.down a.loop-k.k t.pass_state.ensures a.loop-k.invariant.2 p.ensures.1)
 
-same_length : tie.Need-same-length invariant-loop decreases-loop
-same_length c = c.before.loop.invariant.0
+same_length : tie.Need-shape_of-placed invariant-loop decreases-loop
+same_length c = c.loop-k.invariant.0
 
 returns : tie.Need-returns invariant-loop decreases-loop
 returns c =
     let s = start c.before in
-    let i = c.before.loop.invariant in
-    record { ordered = i.1; more = pass_more s.pre.0.admitted.range s.pre.1.0 s.pre.1.1 s.args.down i.2 c.loop-test.false }
+    let i = c.loop-k.invariant in
+    record { ordered = i.1; more = pass_more s.requires.0.admitted.range s.requires.1.0 s.requires.1.1 s.args.down i.2 c.loop-k-test.false }
 
-pub place-each-spec : {M : Type 1} → statement M
-place-each-spec =
+pub place_each_spec : {M : Type 1} → statement M
+place_each_spec =
     tie.close
     (tie.spec
     invariant-loop

@@ -16,69 +16,69 @@ use Rattle.walk_topological_order.proofs.Ordering.{placed_or_stuck_placed, place
 use Rattle.walk_topological_order.proofs.place_one.Statement.{statement}
 use Rattle.walk_topological_order.proofs.place_one.Tie as tie
 
-cast-s : tie.Need-overflow-cast-s
+cast-s : tie.Need-overflow_cast-s
 cast-s c = search rules
 
 -- v has a byte
 byte : (s : tie.Start) → s.args.v.0 < length s.args.placed.now
 byte s = lt_of_lt_of_le s.requires.1.0 s.requires.1.1.bytes
 
-slice-read-if1 : tie.Need-slice-read-if1
+slice-read-if1 : tie.Need-bounds-placed-s
 slice-read-if1 c = byte c.before.before.before.before
 
-returns : tie.Need-returns
+returns : tie.Need-returns-then-placed-s-eq1
 returns c =
-    let s = c.before.before.before.before.before in
-    (s.requires.1.1, placed_or_stuck_placed _ _ _ _ (visited_yes _ _ c.if1.true))
+    let s = c in
+    (s.requires.1.1, placed_or_stuck_placed _ _ _ _ (visited_yes _ _ c.if-placed-s-eq1.true))
 
-ends-ranked-requires : tie.Need-ends-ranked-requires
+ends-ranked-requires : tie.Need-ends_ranked-requires
 ends-ranked-requires c κs =
-    let s = c.before.before.before.before.before.before in
+    let s = c in
     (s.requires.0, (s.requires.1.1.bytes, s.requires.1.0))
 
-same_length : tie.Need-same-length
+same_length : tie.Need-shape_of-placed-then-not-ends_ranked
 same_length c = refl
 
-returns-2 : tie.Need-returns-2
+returns-2 : tie.Need-returns-then-not-ends_ranked
 returns-2 c =
-    let s = c.before.before.before.before.before.before.before.before in
-    (s.requires.1.1, placed_or_stuck_unready _ _ _ _ (sym {b = ends_visited s.args.hops.now s.args.placed.now s.args.v.0} c.before.ends-ranked.ensures ∙ not-true _ c.if2.true))
+    let s = c in
+    (s.requires.1.1, placed_or_stuck_unready _ _ _ _ (sym {b = ends_visited s.args.hops.now s.args.placed.now s.args.v.0} c.ends_ranked.ensures ∙ not-true _ c.if-not-ends_ranked.true-raw))
 
-slice-write-placed : tie.Need-slice-write-placed
+slice-write-placed : tie.Need-bounds-placed-s-2
 slice-write-placed c = byte c.before.before.before.before.before.before.before.before
 
 -- v is not placed, and can be
-module _ (c : tie.Else2) where
+module _ (c : tie.Else-not-ends_ranked) where
   abbrev start : tie.Start
   start = c.before.before.before.before.before.before.before.before
 
   off : visited start.args.placed.now start.args.v.0 ≡ false
-  off = visited_no _ _ c.before.before.before.if1.false
+  off = visited_no _ _ c.if-placed-s-eq1.false
 
   ready : ends_visited start.args.hops.now start.args.placed.now start.args.v.0 ≡ true
-  ready = sym {b = ends_visited start.args.hops.now start.args.placed.now start.args.v.0} c.before.ends-ranked.ensures ∙ not-false _ c.if2.false
+  ready = sym {b = ends_visited start.args.hops.now start.args.placed.now start.args.v.0} c.ends_ranked.ensures ∙ not-false _ c.if-not-ends_ranked.false-raw
 
-put-row-requires : tie.Need-put-row-requires
+put-row-requires : tie.Need-put_row-places-requires
 put-row-requires c κs =
     let s = start c.before in
-    (s.pre.0, (s.pre.1.0, (row_fits s.pre.1.1 s.args.v.0 s.pre.1.0 (off c.before), s.pre.1.1.capacity)))
+    (s.requires.0, (s.requires.1.0, (row_fits s.requires.1.1 s.args.v.0 s.requires.1.0 (off c.before), s.requires.1.1.capacity)))
 
-add-t18 : tie.Need-overflow-add-t18
+add-t18 : tie.Need-overflow_add-result
 add-t18 c =
     let s = start c.before.before.before in
-    omega (arith, ordered_states s.pre.1.1, s.pre.0.admitted.states_most)
+    omega (arith, ordered_states s.requires.1.1, s.requires.0.admitted.states_most)
 
-same-length-2 : tie.Need-same-length-2
+same-length-2 : tie.Need-shape_of-placed
 same-length-2 c = simp length-set
 
-returns-3 : tie.Need-returns-3
+returns-3 : tie.Need-returns
 returns-3 c =
     let e = c.before.before.before in
     let s = start e in
-    (ordered_one s.pre.1.1 s.args.v.0 s.pre.1.0 (off e) (ready e) c.before.put-row.ensures, more (omega arith))
+    (ordered_one s.requires.1.1 s.args.v.0 s.requires.1.0 (off e) (ready e) c.put_row-places.ensures, more (omega arith))
 
-pub place-one-spec : {M : Type 1} → statement M
-place-one-spec =
+pub place_one_spec : {M : Type 1} → statement M
+place_one_spec =
     tie.close
     (tie.spec
     cast-s

@@ -16,113 +16,113 @@ use Rattle.walk_topological_order.proofs.Rows.{Putting, putting_none, putting_ca
 use Rattle.walk_topological_order.proofs.put_row.Statement.{statement}
 use Rattle.walk_topological_order.proofs.put_row.Tie as tie
 
-abbrev invariant-loop : tie.invariant-loop
+abbrev invariant-loop : tie.invariant-loop-i
 invariant-loop hops starts line₀ n s past i₀ at₀ sorted i at = Putting hops s i₀ line₀ n sorted i at
 
-abbrev decreases-loop : tie.decreases-loop
+abbrev decreases-loop : tie.decreases-loop-i
 decreases-loop hops starts line₀ n s past i₀ at₀ sorted i at = past - i
 
-wide-requires : tie.Need-wide-requires invariant-loop decreases-loop
+wide-requires : tie.Need-wide-s-requires invariant-loop decreases-loop
 wide-requires c κs = search rules
 
 -- v is a state that can be
-low : (c : tie.After-wide invariant-loop decreases-loop) → c.wide.result < most_states
-low c = let s = c.before.before in omega (arith, c.wide.ensures, s.requires.1.0, s.requires.0.admitted.states_most)
+low : (c : tie.After-wide-s invariant-loop decreases-loop) → c.wide-s.result < most_states
+low c = let s = c in omega (arith, c.wide-s.ensures, s.requires.1.0, s.requires.0.admitted.states_most)
 
-add-start-of : tie.Need-overflow-add-start-of invariant-loop decreases-loop
+add-start-of : tie.Need-overflow_add-s invariant-loop decreases-loop
 add-start-of c = omega (arith, low c)
 
-start-of-requires : tie.Need-start-of-requires invariant-loop decreases-loop
+start-of-requires : tie.Need-start_of-past-requires invariant-loop decreases-loop
 start-of-requires c κs = omega (arith, low c)
 
-start-of-requires-2 : tie.Need-start-of-requires-2 invariant-loop decreases-loop
+start-of-requires-2 : tie.Need-start_of-i-requires invariant-loop decreases-loop
 start-of-requires-2 c κs = omega (arith, low c.before)
 
 -- the places of the hops of v
-module _ (c : tie.After-start-of2 invariant-loop decreases-loop) where
+module _ (c : tie.After-start_of-i invariant-loop decreases-loop) where
   abbrev start : tie.Start invariant-loop decreases-loop
   start = c.before.before.before.before
 
   abbrev state : ℕ
-  state = c.before.before.wide.result
+  state = c.wide-s.result
 
-  lo_is : c.start-of2.result ≡ first_of start.args.hops.now state
-  lo_is = start_is start.args.hops.now start.args.starts.now start.pre.0.table state refl (omega (arith, low c.before.before)) c.start-of2.ensures
+  lo_is : c.start_of-i.result ≡ first_of start.args.hops.now state
+  lo_is = start_is start.args.hops.now start.args.starts.now start.requires.0.table state refl (omega (arith, low c.before.before)) c.start_of-i.ensures
 
-  hi_is : c.before.start_of_lem.result ≡ first_of start.args.hops.now (state + 1)
-  hi_is = start_is start.args.hops.now start.args.starts.now start.pre.0.table (state + 1) refl (omega (arith, low c.before.before)) c.before.start_of_lem.ensures
+  hi_is : c.start_of-past.result ≡ first_of start.args.hops.now (state + 1)
+  hi_is = start_is start.args.hops.now start.args.starts.now start.requires.0.table (state + 1) refl (omega (arith, low c.before.before)) c.start_of-past.ensures
 
-loop-holds : tie.Need-loop-init invariant-loop decreases-loop
+loop-holds : tie.Need-loop-i-init invariant-loop decreases-loop
 loop-holds c = putting_none (omega (arith, lo-is c, first_within (start c).args.hops.now (start c).requires.0.admitted.ascending (state c)))
 
 -- a hop of v
-module _ (c : tie.In-loop invariant-loop decreases-loop) where
-  abbrev first : tie.After-start-of2 invariant-loop decreases-loop
+module _ (c : tie.In-loop-i invariant-loop decreases-loop) where
+  abbrev first : tie.After-start_of-i invariant-loop decreases-loop
   first = c.before.before
 
-  here : c.before.loop.i < count (start first).args.hops.now
-  here = omega (arith, c.loop-test.true, hi-is first, first_within (start first).args.hops.now (start first).pre.0.admitted.ascending (state first + 1))
+  here : c.loop-i.i < count (start first).args.hops.now
+  here = omega (arith, c.loop-i-test.true, hi-is first, first_within (start first).args.hops.now (start first).requires.0.admitted.ascending (state first + 1))
 
-label-at-requires : tie.Need-label-at-requires invariant-loop decreases-loop
+label-at-requires : tie.Need-label_at-requires invariant-loop decreases-loop
 label-at-requires c κs = here c
 
 -- the row ends where no silent hop of v stands
-done : (c : tie.At-loop invariant-loop decreases-loop) →
-    (c.loop.i < c.before.before.start_of_lem.result → label (start c.before).args.hops.now c.loop.i ≡ 0 → ⊥) →
-    RowAppended (start c.before).args.hops.now (start c.before).args.v.0 (start c.before).args.sorted.now (start c.before).args.n c.loop.sorted c.loop.at
+done : (c : tie.At-loop-i invariant-loop decreases-loop) →
+    (c.loop-i.i < c.start_of-past.result → label (start c.before).args.hops.now c.loop-i.i ≡ 0 → ⊥) →
+    RowAppended (start c.before).args.hops.now (start c.before).args.v.0 (start c.before).args.sorted.now (start c.before).args.n c.loop-i.sorted c.loop-i.at
 done c g =
     let f = c.before in
-    put_result _ f.before.before.wide.ensures (putting_done (start f).requires.0.admitted.ascending (lo-is f) (hi-is f) c.loop.invariant g)
+    put_result _ f.wide-s.ensures (putting_done (start f).requires.0.admitted.ascending (lo-is f) (hi-is f) c.loop-i.invariant g)
 
-returns : tie.Need-returns invariant-loop decreases-loop
-returns c = done c.before.before.before.before (λ l e. c.if1.true (c.before.before.label_at.ensures ∙ e))
+returns : tie.Need-returns-then-label_at-ne0 invariant-loop decreases-loop
+returns c = done c.before.before.before.before (λ l e. c.if-label_at-ne0.true (c.label_at.ensures ∙ e))
 
 -- a silent hop of v
-module _ (c : tie.Else1 invariant-loop decreases-loop) where
-  abbrev pass-state : tie.In-loop invariant-loop decreases-loop
+module _ (c : tie.Else-label_at-ne0 invariant-loop decreases-loop) where
+  abbrev pass-state : tie.In-loop-i invariant-loop decreases-loop
   pass-state = c.before.before.before
 
-  own : labelled (start (first pass-state)).args.hops.now (state (first pass-state)) 0 pass-state.before.loop.i ≡ true
+  own : labelled (start (first pass-state)).args.hops.now (state (first pass-state)) 0 pass-state.loop-i.i ≡ true
   unfolding past_of
   own =
       let s = start (first pass-state) in
-      labelled_yes s.args.hops.now (state (first pass-state)) 0 pass-state.before.loop.i
-      (range_only s.args.hops.now s.pre.0.admitted.ascending (state (first pass-state)) (here pass-state) (omega (arith, lo-is (first pass-state), pass-state.before.loop.inv.passed))
-      (omega (arith, hi-is (first pass-state), pass-state.loop-test.taken)))
-      (sym c.before.before.label_at.ensures ∙ c.if1.false)
+      labelled_yes s.args.hops.now (state (first pass-state)) 0 pass-state.loop-i.i
+      (range_only s.args.hops.now s.requires.0.admitted.ascending (state (first pass-state)) (here pass-state) (omega (arith, lo-is (first pass-state), pass-state.loop-i.inv.passed))
+      (omega (arith, hi-is (first pass-state), pass-state.loop-i-test.taken)))
+      (sym c.label_at.ensures ∙ c.if-label_at-ne0.false)
 
-  capacity : pass-state.before.loop.at < count (start (first pass-state)).args.hops.now
-  capacity = omega (arith, putting_capacity pass-state.before.loop.inv (here pass-state) own, row_result (start (first pass-state)).args.hops.now (first pass-state).before.before.wide.ensures, (start (first pass-state)).pre.1.1.0)
+  capacity : pass-state.loop-i.at < count (start (first pass-state)).args.hops.now
+  capacity = omega (arith, putting_capacity pass-state.loop-i.inv (here pass-state) own, row_result (start (first pass-state)).args.hops.now (first pass-state).before.wide-s.ensures, (start (first pass-state)).requires.1.1.0)
 
-  low-capacity : pass-state.before.loop.at < most_hops
-  low-capacity = omega (arith, capacity, (start (first pass-state)).pre.0.admitted.hops_most)
+  low-capacity : pass-state.loop-i.at < most_hops
+  low-capacity = omega (arith, capacity, (start (first pass-state)).requires.0.admitted.hops_most)
 
-cast-sorted : tie.Need-overflow-cast-sorted invariant-loop decreases-loop
-cast-sorted c = omega (arith, here (pass-state c), (start (first (pass-state c))).pre.0.admitted.hops_most)
+cast-sorted : tie.Need-overflow_cast-sorted invariant-loop decreases-loop
+cast-sorted c = omega (arith, here (pass-state c), (start (first (pass-state c))).requires.0.admitted.hops_most)
 
-mul-sorted : tie.Need-overflow-mul-sorted invariant-loop decreases-loop
+mul-sorted : tie.Need-offset_bounds-sorted-at invariant-loop decreases-loop
 mul-sorted c = omega (arith, low-capacity c)
 
-element-write-sorted : tie.Need-element-write-sorted invariant-loop decreases-loop
+element-write-sorted : tie.Need-bounds-sorted-at invariant-loop decreases-loop
 element-write-sorted c = low-capacity c
 
-add_at : tie.Need-overflow-add-at invariant-loop decreases-loop
+add_at : tie.Need-overflow_add-at invariant-loop decreases-loop
 add_at c = omega (arith, low-capacity c)
 
-add-i : tie.Need-overflow-add-i invariant-loop decreases-loop
-add-i c = omega (arith, here (pass-state c), (start (first (pass-state c))).pre.0.admitted.hops_most)
+add-i : tie.Need-overflow_add-i invariant-loop decreases-loop
+add-i c = omega (arith, here (pass-state c), (start (first (pass-state c))).requires.0.admitted.hops_most)
 
-loop-less : tie.Need-loop-smaller invariant-loop decreases-loop
-loop-less c = omega (arith, (pass-state c).loop-test.true)
+loop-less : tie.Need-loop-i-smaller invariant-loop decreases-loop
+loop-less c = omega (arith, (pass-state c).loop-i-test.true)
 
-loop-again : tie.Need-loop-preserved invariant-loop decreases-loop
-loop-again c = putting_more (pass-state c).before.loop.invariant (here (pass-state c)) (own c) (omega (arith, capacity c, (start (first (pass-state c))).pre.1.1.1))
+loop-again : tie.Need-loop-i-preserved invariant-loop decreases-loop
+loop-again c = putting_more (pass-state c).before.loop-i.invariant (here (pass-state c)) (own c) (omega (arith, capacity c, (start (first (pass-state c))).requires.1.1.1))
 
-returns-2 : tie.Need-returns-2 invariant-loop decreases-loop
-returns-2 c = done c.before (λ l e. omega (arith, c.loop-test.false))
+returns-2 : tie.Need-returns invariant-loop decreases-loop
+returns-2 c = done c.before (λ l e. omega (arith, c.loop-i-test.false))
 
-pub put-row-spec : {M : Type 1} → statement M
-put-row-spec =
+pub put_row_spec : {M : Type 1} → statement M
+put_row_spec =
     tie.close
     (tie.spec
     invariant-loop

@@ -8,20 +8,20 @@ use Rattle.audit_entry.proofs.Answering.{auditable, audit_refuses, audit_counts}
 use Rattle.audit_entry.proofs.auditing.audit.Statement.{statement}
 use Rattle.audit_entry.proofs.auditing.audit.Tie as tie
 
-audit-answer-requires : tie.Need-audit-answer-requires
+audit-answer-requires : tie.Need-audit_answer-answer-requires
 audit-answer-requires c κs = search rules
 
-no-fault-requires : tie.Need-no-fault-requires
+no-fault-requires : tie.Need-no_fault-requires
 no-fault-requires c κs = search rules
 
-returns : tie.Need-returns
-returns c = audit_refuses _ _ _ _ _ c.before.before.before.audit-answer.ensures c.before.if1.true c.no-fault.ensures
+returns : tie.Need-returns-then-answer-ne0
+returns c = audit_refuses _ _ _ _ _ c.audit_answer-answer.ensures c.if-answer-ne0.true c.no_fault.ensures
 
-fault-count-requires : tie.Need-fault-count-requires
-fault-count-requires c κs = auditable (answer_audited _ _ _ _ _ (ap (λ (x : Answer). x.number) (sym c.before.before.audit-answer.ensures) ∙ c.if1.false))
+fault-count-requires : tie.Need-fault_count-counted-requires
+fault-count-requires c κs = auditable (answer_audited _ _ _ _ _ (ap (λ (x : Answer). x.number) (sym c.audit_answer-answer.ensures) ∙ c.if-answer-ne0.false))
 
-returns-2 : tie.Need-returns-2
-returns-2 c = audit_counts _ _ _ _ _ c.before.before.before.before.audit-answer.ensures c.before.before.if1.false c.before.fault-count.ensures.0 c.before.fault-count.ensures.1
+returns-2 : tie.Need-returns
+returns-2 c = audit_counts _ _ _ _ _ c.audit_answer-answer.ensures c.if-answer-ne0.false c.fault_count-counted.ensures.0 c.fault_count-counted.ensures.1
 
-pub audit-spec : {M : Type 1} → statement M
-audit-spec = tie.close (tie.spec audit-answer-requires no-fault-requires returns fault-count-requires returns-2)
+pub audit_spec : {M : Type 1} → statement M
+audit_spec = tie.close (tie.spec audit-answer-requires no-fault-requires returns fault-count-requires returns-2)

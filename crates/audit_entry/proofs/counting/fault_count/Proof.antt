@@ -12,55 +12,55 @@ use Rattle.audit_faults.proofs.Bound.{initial_most, lost_most, unmatched_few}
 use Rattle.audit_entry.proofs.counting.fault_count.Statement.{statement}
 use Rattle.audit_entry.proofs.counting.fault_count.Tie as tie
 
-starts-of-requires : tie.Need-starts-of-requires
+starts-of-requires : tie.Need-starts_of-starts2-requires
 starts-of-requires c κs = search rules
 
-images-of-requires : tie.Need-images-of-requires
-images-of-requires c κs = (c.before.before.before.before.before.requires, c.before.starts-of.ensures)
+images-of-requires : tie.Need-images_of-images-requires
+images-of-requires c κs = (c.requires, c.starts_of-starts2.ensures)
 
-initial-fault-requires : tie.Need-initial-fault-requires
+initial-fault-requires : tie.Need-initial_fault-initial-requires
 initial-fault-requires c κs =
-    let p = c.before.before.before.before.before.before.requires in (omega (arith, p.one_a_state, p.admitted.initial_in), omega (arith, p.one_a_state, p.admitted.states_most))
+    let p = c.requires in (omega (arith, p.one_a_state, p.admitted.initial_in), omega (arith, p.one_a_state, p.admitted.states_most))
 
-lost-faults-requires : tie.Need-lost-faults-requires
-lost-faults-requires c κs = (c.before.before.before.before.before.before.before.before.requires, c.before.before.images-of.ensures)
+lost-faults-requires : tie.Need-lost_faults-lost-requires
+lost-faults-requires c κs = (c.requires, c.images_of-images.ensures)
 
-all-unmatched-requires : tie.Need-all-unmatched-requires
-all-unmatched-requires c κs = (c.before.before.before.before.before.before.before.before.before.before.before.requires, (c.before.before.before.before.before.before.before.starts-of.ensures, c.before.before.before.before.before.images-of.ensures))
+all-unmatched-requires : tie.Need-all_unmatched-made_up-requires
+all-unmatched-requires c κs = (c.requires, (c.starts_of-starts2.ensures, c.images_of-images.ensures))
 
 -- the first two sums, and what they are at most
-module _ (c : tie.After-all-unmatched) where
+module _ (c : tie.After-all_unmatched-made_up) where
   abbrev start : tie.Start
   start = c.before.before.before.before.before.before.before.before.before.before.before.before
 
-  first_two : c.before.before.before.before.before.initial-fault.result.faults + c.before.before.before.lost-faults.result.faults ≤ 1 + most_hops
+  first_two : c.initial_fault-initial.result.faults + c.lost_faults-lost.result.faults ≤ 1 + most_hops
   first_two =
       omega (
         arith,
-        c.before.before.before.before.before.initial-fault.ensures.0,
-        c.before.before.before.lost-faults.ensures.0,
+        c.initial_fault-initial.ensures.0,
+        c.lost_faults-lost.ensures.0,
         initial_most start.args.shape1 start.args.shape2 start.args.map.now,
         lost_most start.args.hops1.now start.args.hops2.now start.args.map.now,
-        start.pre.admitted.hops_most,
+        start.requires.admitted.hops_most,
       )
 
-add-t17 : tie.Need-overflow-add-t17
+add-t17 : tie.Need-overflow_add-result
 add-t17 c = omega (arith, first_two c.before.before)
 
-add-t18 : tie.Need-overflow-add-t18
+add-t18 : tie.Need-overflow_add-result-2
 add-t18 c =
-    let s = c.before.before.before.before.before.before.before.before.before.before.before.before.before.before.before in
+    let s = c in
     omega (
       arith,
       first_two c.before.before.before,
-      c.before.before.before.all-unmatched.ensures.0,
+      c.all_unmatched-made_up.ensures.0,
       unmatched_few s.args.shape1 s.args.hops1.now s.args.hops2.now s.args.map.now s.requires.admitted.states_most s.requires.ready.hops_most,
     )
 
-or-else-requires : tie.Need-or-else-requires
+or-else-requires : tie.Need-or_else-requires
 or-else-requires c κs = search rules
 
-or-else-requires-2 : tie.Need-or-else-requires-2
+or-else-requires-2 : tie.Need-or_else-requires-2
 or-else-requires-2 c κs = search rules
 
 -- the first fault, from the three
@@ -70,12 +70,12 @@ named d e a b c = e ∙ rw (d, a, b, c)
 returns : tie.Need-returns
 unfolding faults_of first_fault
 returns c = (
-  omega (arith, c.before.before.before.before.before.before.before.before.before.before.initial-fault.ensures.0, c.before.before.before.before.before.before.before.before.lost-faults.ensures.0, c.before.before.before.before.before.all-unmatched.ensures.0),
-  named c.before.or_else.ensures c.or-else2.ensures c.before.before.before.before.before.before.before.before.before.before.initial-fault.ensures.1 c.before.before.before.before.before.before.before.before.lost-faults.ensures.1 c.before.before.before.before.before.all-unmatched.ensures.1,
+  omega (arith, c.initial_fault-initial.ensures.0, c.lost_faults-lost.ensures.0, c.all_unmatched-made_up.ensures.0),
+  named c.or_else.ensures c.or_else-2.ensures c.initial_fault-initial.ensures.1 c.lost_faults-lost.ensures.1 c.all_unmatched-made_up.ensures.1,
 )
 
-pub fault-count-spec : {M : Type 1} → statement M
-fault-count-spec =
+pub fault_count_spec : {M : Type 1} → statement M
+fault_count_spec =
     tie.close
     (tie.spec
     starts-of-requires

@@ -8,10 +8,10 @@ use Rattle.audit_faults.proofs.Preserved.{preserved_image, preserved_no_place}
 use Rattle.audit_faults.proofs.lost.is_preserved.Statement.{statement}
 use Rattle.audit_faults.proofs.lost.is_preserved.Tie as tie
 
-mul_wide : tie.Need-overflow-mul-wide
+mul_wide : tie.Need-offset_bounds-images-i
 mul_wide c = search rules
 
-element-copy-out-wide : tie.Need-element-copy-out-wide
+element-copy-out-wide : tie.Need-bounds-images-i
 element-copy-out-wide c = search rules
 
 wide-requires : tie.Need-wide-requires
@@ -24,42 +24,42 @@ module _ (c : tie.After-wide) where
 
   place_is : c.wide.result ≡ image_of start.args.hops1.now start.args.hops2.now start.args.map.now start.args.i
   unfolding Imaged
-  place_is = c.wide.ensures ∙ start.pre.1.0 start.args.i start.pre.1.1
+  place_is = c.wide.ensures ∙ start.requires.1.0 start.args.i start.requires.1.1
 
-returns : tie.Need-returns
+returns : tie.Need-returns-then-wide-ne-NO_PLACE
 returns c =
     let s = start c.before in
-    preserved_image s.args.hops1.now s.args.hops2.now s.args.map.now s.pre.0.ready s.args.i (place_is c.before) c.if1.true
+    preserved_image s.args.hops1.now s.args.hops2.now s.args.map.now s.requires.0.ready s.args.i (place_is c.before) c.if-wide-ne-NO_PLACE.true
 
-from-at-requires : tie.Need-from-at-requires
+from-at-requires : tie.Need-from_at-requires
 from-at-requires c κs = search rules
 
-map-at-requires : tie.Need-map-at-requires
+map-at-requires : tie.Need-map_at-r-requires
 map-at-requires c κs =
-    let s = start c.before.before in omega (arith, c.from_at.ensures, s.pre.0.one_a_state, s.pre.0.admitted.range.from_in s.args.i s.pre.1.1)
+    let s = start c.before.before in omega (arith, c.from_at.ensures, s.requires.0.one_a_state, s.requires.0.admitted.range.from_in s.args.i s.requires.1.1)
 
-to-at-requires : tie.Need-to-at-requires
+to-at-requires : tie.Need-to_at-requires
 to-at-requires c κs = search rules
 
-map-at-requires-2 : tie.Need-map-at-requires-2
+map-at-requires-2 : tie.Need-map_at-q-requires
 map-at-requires-2 c κs =
     let s = start c.before.before.before.before in
-    omega (arith, c.to_at.ensures, s.pre.0.one_a_state, s.pre.0.admitted.range.to_in s.args.i s.pre.1.1)
+    omega (arith, c.to_at.ensures, s.requires.0.one_a_state, s.requires.0.admitted.range.to_in s.args.i s.requires.1.1)
 
-label-at-requires : tie.Need-label-at-requires
+label-at-requires : tie.Need-label_at-requires
 label-at-requires c κs = search rules
 
-returns-2 : tie.Need-returns-2
+returns-2 : tie.Need-returns
 returns-2 c =
-    let l = c.before.before.before in
-    let e = l.before.before.before.before.before in
+    let l = c in
+    let e = l in
     let s = start e.before in
-    preserved_no_place s.args.hops1.now s.args.hops2.now s.args.map.now s.pre.0.ready s.args.i (place_is e.before) e.if1.false
-    l.before.before.before.before.from_at.ensures l.before.before.before.map_at.ensures l.label_at.ensures l.before.before.to_at.ensures
-    l.before.map-at2.ensures
+    preserved_no_place s.args.hops1.now s.args.hops2.now s.args.map.now s.requires.0.ready s.args.i (place_is e.before) e.if-wide-ne-NO_PLACE.false
+    l.from_at.ensures l.map_at-r.ensures l.label_at.ensures l.to_at.ensures
+    l.map_at-q.ensures
 
-pub is-preserved-spec : {M : Type 1} → statement M
-is-preserved-spec =
+pub is_preserved_spec : {M : Type 1} → statement M
+is_preserved_spec =
     tie.close
     (tie.spec
     mul_wide

@@ -3,14 +3,14 @@ use borrow.Author.Rules.{rules}
 use Rattle.capi.proofs.find.zf_find.Statement.{statement}
 use Rattle.capi.proofs.find.zf_find.Tie as tie
 
-find-into-requires : tie.Need-find-into-requires
+find-into-requires : tie.Need-find_into-requires
 find-into-requires c κs = search rules
 
-same_length : tie.Need-same-length
+same_length : tie.Need-shape_of-answer
 same_length c = search rules
 
 returns : tie.Need-returns
-returns c = c.before.before.find-into.ensures
+returns c = c.find_into.ensures
 
-pub zf-find-spec : {M : Type 1} → statement M
-zf-find-spec = tie.close (tie.spec find-into-requires same_length returns)
+pub zf_find_spec : {M : Type 1} → statement M
+zf_find_spec = tie.close (tie.spec find-into-requires same_length returns)

@@ -4,14 +4,14 @@ use borrow.Author.Rules.{rules}
 use Rattle.capi.proofs.marking.zf_check.Statement.{statement}
 use Rattle.capi.proofs.marking.zf_check.Tie as tie
 
-check-into-requires : tie.Need-check-into-requires
+check-into-requires : tie.Need-check_into-requires
 check-into-requires c κs = search rules
 
-same_length : tie.Need-same-length
+same_length : tie.Need-shape_of-answer
 same_length c = search rules
 
 returns : tie.Need-returns
-returns c = c.before.before.check-into.ensures
+returns c = c.check_into.ensures
 
-pub zf-check-spec : {M : Type 1} → statement M
-zf-check-spec = tie.close (tie.spec check-into-requires same_length returns)
+pub zf_check_spec : {M : Type 1} → statement M
+zf_check_spec = tie.close (tie.spec check-into-requires same_length returns)

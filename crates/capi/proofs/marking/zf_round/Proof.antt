@@ -4,14 +4,14 @@ use borrow.Author.Rules.{rules}
 use Rattle.capi.proofs.marking.zf_round.Statement.{statement}
 use Rattle.capi.proofs.marking.zf_round.Tie as tie
 
-round-into-requires : tie.Need-round-into-requires
+round-into-requires : tie.Need-round_into-requires
 round-into-requires c κs = search rules
 
-same_length : tie.Need-same-length
+same_length : tie.Need-shape_of-answer
 same_length c = search rules
 
 returns : tie.Need-returns
-returns c = c.before.before.round-into.ensures
+returns c = c.round_into.ensures
 
-pub zf-round-spec : {M : Type 1} → statement M
-zf-round-spec = tie.close (tie.spec round-into-requires same_length returns)
+pub zf_round_spec : {M : Type 1} → statement M
+zf_round_spec = tie.close (tie.spec round-into-requires same_length returns)

@@ -4,14 +4,14 @@ use borrow.Author.Rules.{rules}
 use Rattle.capi.proofs.reducing.zf_audit.Statement.{statement}
 use Rattle.capi.proofs.reducing.zf_audit.Tie as tie
 
-audit-into-requires : tie.Need-audit-into-requires
+audit-into-requires : tie.Need-audit_into-requires
 audit-into-requires c κs = search rules
 
-same_length : tie.Need-same-length
+same_length : tie.Need-shape_of-answer
 same_length c = search rules
 
 returns : tie.Need-returns
-returns c = c.before.before.audit-into.ensures
+returns c = c.audit_into.ensures
 
-pub zf-audit-spec : {M : Type 1} → statement M
-zf-audit-spec = tie.close (tie.spec audit-into-requires same_length returns)
+pub zf_audit_spec : {M : Type 1} → statement M
+zf_audit_spec = tie.close (tie.spec audit-into-requires same_length returns)

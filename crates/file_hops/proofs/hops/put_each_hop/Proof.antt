@@ -13,47 +13,47 @@ use Rattle.file_hops.proofs.hops.put_each_hop.Statement.{statement}
 use Rattle.file_hops.proofs.hops.put_each_hop.Tie as tie
 use Rattle.base_outputs.specs.Concat.{concat}
 
-abbrev invariant-loop : tie.invariant-loop
+abbrev invariant-loop : tie.invariant-loop-i
 invariant-loop out₀ at hops n i₀ out i = (out ≡ over_at at (concat i (hop_bytes_at hops)) out₀) × (length out ≡ length out₀) × (i ≤ n) × (n ≡ count hops) × (at + bytes_a_hop * count hops ≤ length out₀)
 
-abbrev decreases-loop : tie.decreases-loop
+abbrev decreases-loop : tie.decreases-loop-i
 decreases-loop out₀ at hops n i₀ out i = n - i
 
-hop-count-requires : tie.Need-hop-count-requires invariant-loop decreases-loop
+hop-count-requires : tie.Need-hop_count-n-requires invariant-loop decreases-loop
 hop-count-requires c κs = search rules
 
-loop-holds : tie.Need-loop-init invariant-loop decreases-loop
-loop-holds c = (hops_none c.before.before.before.args.at c.before.before.before.args.out.now c.before.before.before.args.hops.now, refl, omega arith, c.hop-count.ensures, c.before.before.before.requires)
+loop-holds : tie.Need-loop-i-init invariant-loop decreases-loop
+loop-holds c = (hops_none c.args.at c.args.out.now c.args.hops.now, refl, omega arith, c.hop_count-n.ensures, c.requires)
 
-mul-put-hop-bytes : tie.Need-overflow-mul-put-hop-bytes invariant-loop decreases-loop
+mul-put-hop-bytes : tie.Need-overflow_mul-i invariant-loop decreases-loop
 mul-put-hop-bytes c = search rules
 
-add-put-hop-bytes : tie.Need-overflow-add-put-hop-bytes invariant-loop decreases-loop
+add-put-hop-bytes : tie.Need-overflow_add-at invariant-loop decreases-loop
 add-put-hop-bytes c = search rules
 
-hop-at-requires : tie.Need-hop-at-requires invariant-loop decreases-loop
+hop-at-requires : tie.Need-hop_at-requires invariant-loop decreases-loop
 hop-at-requires c κs = search rules
 
-put-hop-bytes-requires : tie.Need-put-hop-bytes-requires invariant-loop decreases-loop
+put-hop-bytes-requires : tie.Need-put_hop_bytes-requires invariant-loop decreases-loop
 put-hop-bytes-requires c κs = search rules
 
-add-i : tie.Need-overflow-add-i invariant-loop decreases-loop
+add-i : tie.Need-overflow_add-i invariant-loop decreases-loop
 add-i c = search rules
 
-loop-less : tie.Need-loop-smaller invariant-loop decreases-loop
+loop-less : tie.Need-loop-i-smaller invariant-loop decreases-loop
 loop-less c = search rules
 
-loop-again : tie.Need-loop-preserved invariant-loop decreases-loop
-loop-again c = (hops_more c.before.before.before.before.before.before.before.before.before.before.args.at c.before.before.before.before.before.before.before.before.before.before.args.out.now c.before.before.before.before.before.before.before.before.before.before.args.hops.now c.before.before.before.before.before.before.loop.invariant.0 c.before.before.before.hop-at.ensures c.before.before.put-hop-bytes.ensures (omega arith) c.before.before.before.before.before.before.loop.invariant.4, omega arith, omega arith, c.before.before.before.before.before.before.loop.invariant.3, c.before.before.before.before.before.before.loop.invariant.4)
+loop-again : tie.Need-loop-i-preserved invariant-loop decreases-loop
+loop-again c = (hops_more c.args.at c.args.out.now c.args.hops.now c.loop-i.invariant.0 c.hop_at.ensures c.put_hop_bytes.ensures (omega arith) c.loop-i.invariant.4, omega arith, omega arith, c.loop-i.invariant.3, c.loop-i.invariant.4)
 
-same_length : tie.Need-same-length invariant-loop decreases-loop
+same_length : tie.Need-shape_of-out invariant-loop decreases-loop
 same_length c = search rules
 
 returns : tie.Need-returns invariant-loop decreases-loop
-returns c = hops_done c.before.before.before.before.before.args.at c.before.before.before.before.before.args.out.now c.before.before.before.before.before.args.hops.now c.before.loop.invariant.0 c.before.loop.invariant.3 (omega arith) (omega arith)
+returns c = hops_done c.args.at c.args.out.now c.args.hops.now c.loop-i.invariant.0 c.loop-i.invariant.3 (omega arith) (omega arith)
 
-pub put-each-hop-spec : {M : Type 1} → statement M
-put-each-hop-spec =
+pub put_each_hop_spec : {M : Type 1} → statement M
+put_each_hop_spec =
     tie.close
     (tie.spec
     invariant-loop

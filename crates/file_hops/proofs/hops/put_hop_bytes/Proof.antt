@@ -5,29 +5,29 @@ use borrow.Author.Rules.{rules}
 use Rattle.file_hops.proofs.hops.put_hop_bytes.Statement.{statement}
 use Rattle.file_hops.proofs.hops.put_hop_bytes.Tie as tie
 
-put-number-requires : tie.Need-put-number-requires
+put-number-requires : tie.Need-put_number-requires
 put-number-requires c κs = search rules
 
-add-put-number : tie.Need-overflow-add-put-number
+add-put-number : tie.Need-overflow_add-at
 add-put-number c = search rules
 
-put-number-requires-2 : tie.Need-put-number-requires-2
+put-number-requires-2 : tie.Need-put_number-requires-2
 put-number-requires-2 c κs = search rules
 
-add-put-number-2 : tie.Need-overflow-add-put-number-2
+add-put-number-2 : tie.Need-overflow_add-at-2
 add-put-number-2 c = search rules
 
-put-number-requires-3 : tie.Need-put-number-requires-3
+put-number-requires-3 : tie.Need-put_number-requires-3
 put-number-requires-3 c κs = search rules
 
-same_length : tie.Need-same-length
+same_length : tie.Need-shape_of-out
 same_length c = search rules
 
 returns : tie.Need-returns
-returns c = hop_put _ _ _ c.before.before.before.before.before.before.before.before.before.before.before.before.before.requires c.before.before.before.before.before.before.before.before.before.before.put-number.ensures c.before.before.before.before.before.before.put-number2.ensures c.before.before.put-number3.ensures
+returns c = hop_put _ _ _ c.requires c.put_number.ensures c.put_number-2.ensures c.put_number-3.ensures
 
-pub put-hop-bytes-spec : {M : Type 1} → statement M
-put-hop-bytes-spec =
+pub put_hop_bytes_spec : {M : Type 1} → statement M
+put_hop_bytes_spec =
     tie.close
     (tie.spec
     put-number-requires

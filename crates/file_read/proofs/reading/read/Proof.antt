@@ -9,47 +9,47 @@ use borrow.Author.Rules.{rules}
 use Rattle.file_read.proofs.reading.read.Statement.{statement}
 use Rattle.file_read.proofs.reading.read.Tie as tie
 
-read-answer-requires : tie.Need-read-answer-requires
+read-answer-requires : tie.Need-read_answer-answer-requires
 read-answer-requires c κs = search rules
 
 refusal-requires : tie.Need-refusal-requires
 refusal-requires c κs = search rules
 
-returns : tie.Need-returns
+returns : tie.Need-returns-then-answer-ne0
 returns c =
-    let g = refused_gives _ _ c.before.before.before.read_answer.ensures c.before.if1.true in
+    let g = refused_gives _ _ c.read_answer-answer.ensures c.if-answer-ne0.true in
     (c.refusal.ensures ∙ g.0, g.1)
 
-hops-in-requires : tie.Need-hops-in-requires
+hops-in-requires : tie.Need-hops_in-count-requires
 hops-in-requires c κs = search rules
 
-cast-count : tie.Need-overflow-cast-count
+cast-count : tie.Need-overflow_cast-count
 cast-count c = search rules
 
-hops-place-requires : tie.Need-hops-place-requires
+hops-place-requires : tie.Need-hops_place-requires
 hops-place-requires c κs = search rules
 
-lines-in-requires : tie.Need-lines-in-requires
-lines-in-requires c κs = (accepted_sound _ _ (rw c.before.before.before.before.read_answer.ensures at c.before.before.if1.false)).exact
+lines-in-requires : tie.Need-lines_in-requires
+lines-in-requires c κs = (accepted_sound _ _ (rw c.read_answer-answer.ensures at c.if-answer-ne0.false)).exact
 
-take-hops-requires : tie.Need-take-hops-requires
+take-hops-requires : tie.Need-take_hops-requires
 take-hops-requires c κs =
-    let z = rw c.before.before.before.before.before.before.read_answer.ensures at c.before.before.before.before.if1.false in
+    let z = rw c.read_answer-answer.ensures at c.if-answer-ne0.false in
     let s = accepted_sound _ _ z in
-    let n = c.before.before.before.hops-in.ensures in
-    (hops_lie _ (names_within _ s) c.before.before.hops-place.ensures n, (lines_lie _ s.exact c.before.lines-in.ensures n, omega (arith, (read_accepts _ _ z).1, n)))
+    let n = c.hops_in-count.ensures in
+    (hops_lie _ (names_within _ s) c.hops_place.ensures n, (lines_lie _ s.exact c.lines_in.ensures n, omega (arith, (read_accepts _ _ z).1, n)))
 
 contents-requires : tie.Need-contents-requires
-contents-requires c κs = (accepted_sound _ _ (rw c.before.before.before.before.before.before.before.before.before.read_answer.ensures at c.before.before.before.before.before.before.before.if1.false)).exact
+contents-requires c κs = (accepted_sound _ _ (rw c.read_answer-answer.ensures at c.if-answer-ne0.false)).exact
 
-same_length : tie.Need-same-length
+same_length : tie.Need-shape_of-hops
 same_length c = search rules
 
-returns-2 : tie.Need-returns-2
+returns-2 : tie.Need-returns
 returns-2 c =
-    let z = rw c.before.before.before.before.before.before.before.before.before.before.read_answer.ensures at c.before.before.before.before.before.before.before.before.if1.false in
+    let z = rw c.read_answer-answer.ensures at c.if-answer-ne0.false in
     let g = accepted_gives _ _ (sym (read_accepts _ _ z).0) in
-    (c.contents.ensures ∙ g.0, hops_taken _ c.before.before.before.before.before.before.hops-place.ensures c.before.before.before.before.before.lines-in.ensures c.before.before.before.before.before.before.before.hops-in.ensures _ _ c.before.before.before.take-hops.ensures ∙ g.1)
+    (c.contents.ensures ∙ g.0, hops_taken _ c.hops_place.ensures c.lines_in.ensures c.hops_in-count.ensures _ _ c.take_hops.ensures ∙ g.1)
 
 pub read_spec : {M : Type 1} → statement M
 read_spec =

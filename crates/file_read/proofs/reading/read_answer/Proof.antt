@@ -10,45 +10,45 @@ use borrow.Author.Rules.{rules}
 use Rattle.file_read.proofs.reading.read_answer.Statement.{statement}
 use Rattle.file_read.proofs.reading.read_answer.Tie as tie
 
-format-answer-requires : tie.Need-format-answer-requires
+format-answer-requires : tie.Need-format_answer-format-requires
 format-answer-requires c κs = search rules
 
-returns : tie.Need-returns
-returns c = format_speaks _ _ c.before.before.format-answer.ensures c.if1.true
+returns : tie.Need-returns-then-format-ne0
+returns c = format_speaks _ _ c.format_answer-format.ensures c.if-format-ne0.true
 
-hops-answer-requires : tie.Need-hops-answer-requires
-hops-answer-requires c κs = (format_sound _ (ap (λ (x : Answer). x.number) (sym c.before.before.format-answer.ensures) ∙ c.if1.false)).exact
+hops-answer-requires : tie.Need-hops_answer-graph-requires
+hops-answer-requires c κs = (format_sound _ (ap (λ (x : Answer). x.number) (sym c.format_answer-format.ensures) ∙ c.if-format-ne0.false)).exact
 
-returns-2 : tie.Need-returns-2
-returns-2 c = graph_speaks _ _ c.before.before.before.before.before.format-answer.ensures c.before.before.before.if1.false c.before.before.hops-answer.ensures c.if2.true
+returns-2 : tie.Need-returns-then-graph-ne0
+returns-2 c = graph_speaks _ _ c.format_answer-format.ensures c.if-format-ne0.false c.hops_answer-graph.ensures c.if-graph-ne0.true
 
-hops-in-requires : tie.Need-hops-in-requires
+hops-in-requires : tie.Need-hops_in-requires
 hops-in-requires c κs = search rules
 
-cast-number-place : tie.Need-overflow-cast-number-place
+cast-number-place : tie.Need-overflow_cast-hops_in
 cast-number-place c = search rules
 
-number-place-requires : tie.Need-number-place-requires
-number-place-requires c κs = omega (arith, c.hops-in.ensures, graph_few _ c.before.before.before.hops-answer.ensures c.before.if2.false)
+number-place-requires : tie.Need-number_place-requires
+number-place-requires c κs = omega (arith, c.hops_in.ensures, graph_few _ c.hops_answer-graph.ensures c.if-graph-ne0.false)
 
 refuse-requires : tie.Need-refuse-requires
 refuse-requires c κs = search rules
 
-returns-3 : tie.Need-returns-3
+returns-3 : tie.Need-returns-then-capacity-number_place
 returns-3 c =
     c.refuse.ensures ∙
-    capacity_speaks _ _ c.before.before.before.before.before.before.before.before.before.format-answer.ensures c.before.before.before.before.before.before.before.if1.false c.before.before.before.before.before.before.hops-answer.ensures c.before.before.before.before.if2.false (c.before.before.number-place.ensures ∙ ap number_place c.before.before.before.hops-in.ensures) c.before.if3.true
+    capacity_speaks _ _ c.format_answer-format.ensures c.if-format-ne0.false c.hops_answer-graph.ensures c.if-graph-ne0.false (c.number_place.ensures ∙ ap number_place c.hops_in.ensures) c.if-capacity-number_place.true
 
 accept-requires : tie.Need-accept-requires
 accept-requires c κs = search rules
 
-returns-4 : tie.Need-returns-4
+returns-4 : tie.Need-returns
 returns-4 c =
     c.accept.ensures ∙
-    none_speaks _ _ c.before.before.before.before.before.before.before.before.before.format-answer.ensures c.before.before.before.before.before.before.before.if1.false c.before.before.before.before.before.before.hops-answer.ensures c.before.before.before.before.if2.false (c.before.before.number-place.ensures ∙ ap number_place c.before.before.before.hops-in.ensures) c.before.if3.false
+    none_speaks _ _ c.format_answer-format.ensures c.if-format-ne0.false c.hops_answer-graph.ensures c.if-graph-ne0.false (c.number_place.ensures ∙ ap number_place c.hops_in.ensures) c.if-capacity-number_place.false
 
-pub read-answer-spec : {M : Type 1} → statement M
-read-answer-spec =
+pub read_answer_spec : {M : Type 1} → statement M
+read_answer_spec =
     tie.close
     (tie.spec
     format-answer-requires

@@ -18,53 +18,53 @@ local = replicate most_numbers 0
 local-length : length local ≡ most_numbers
 local-length = length-replicate {A = ℕ} most_numbers 0
 
-slice-aggregate-read : tie.Need-slice-aggregate-read
+slice-aggregate-read : tie.Need-slice_bounds-read-end
 slice-aggregate-read c = search rules
 
-read-requires : tie.Need-read-requires
+read-requires : tie.Need-read-found-requires
 read-requires c κs = search rules
 
 unwritten-requires : tie.Need-unwritten-requires
 unwritten-requires c κs = search rules
 
-returns : tie.Need-returns
-returns c = let g = copy_unread c.before.before.before.before.before.before.before.before.before.args.file.now local (λ i. (c.before.before.before.before.before.before.before.before.shared-slice-known.given i).fits) local-length c.before.before.before.before.before.read.ensures.0 c.before.before.before.before.before.before.before.before.before.args.out.now c.before.if1.true in (c.unwritten.ensures ∙ g.0, g.1)
+returns : tie.Need-returns-then-answer-ne0
+returns c = let g = copy_unread c.args.file.now local (λ i. (c.shared_slice_known-1.given i).fits) local-length c.read-found.ensures.0 c.args.out.now c.if-answer-ne0.true in (c.unwritten.ensures ∙ g.0, g.1)
 
-number-place-requires : tie.Need-number-place-requires
-number-place-requires c κs = omega (arith, found_hops c.before.before.before.before.before.before.before.before.before.args.file.now local (λ i. (c.before.before.before.before.before.before.before.before.shared-slice-known.given i).fits) local-length c.before.before.before.before.before.read.ensures.0 c.before.if1.false)
+number-place-requires : tie.Need-number_place-n-requires
+number-place-requires c κs = omega (arith, found_hops c.args.file.now local (λ i. (c.shared_slice_known-1.given i).fits) local-length c.read-found.ensures.0 c.if-answer-ne0.false)
 
-add-end : tie.Need-overflow-add-end
-add-end c = omega (arith, found_block c.before.before.before.before.before.before.before.before.before.before.before.args.file.now local (λ i. (c.before.before.before.before.before.before.before.before.before.before.shared-slice-known.given i).fits) local-length c.before.before.before.before.before.before.before.read.ensures.0 c.before.before.before.if1.false)
+add-end : tie.Need-overflow_add-end
+add-end c = omega (arith, found_block c.args.file.now local (λ i. (c.shared_slice_known-1.given i).fits) local-length c.read-found.ensures.0 c.if-answer-ne0.false)
 
-sub-write : tie.Need-overflow-sub-write
+sub-write : tie.Need-slice_bounds-write-count
 sub-write c = search rules
 
-part-write-start : tie.Need-slice-bounds-write-start
+part-write-start : tie.Need-slice_bounds-write-start
 part-write-start c = search rules
 
-part-write-end : tie.Need-slice-bounds-write-end
-part-write-end c = omega (arith, found_hops c.before.before.before.before.before.before.before.before.before.before.before.before.args.file.now local (λ i. (c.before.before.before.before.before.before.before.before.before.before.before.shared-slice-known.given i).fits) local-length c.before.before.before.before.before.before.before.before.read.ensures.0 c.before.before.before.before.if1.false, c.before.before.number-place.ensures)
+part-write-end : tie.Need-slice_bounds-write-end
+part-write-end c = omega (arith, found_hops c.args.file.now local (λ i. (c.shared_slice_known-1.given i).fits) local-length c.read-found.ensures.0 c.if-answer-ne0.false, c.number_place-n.ensures)
 
-sub-write-2 : tie.Need-overflow-sub-write-2
+sub-write-2 : tie.Need-slice_bounds-write-count-2
 sub-write-2 c = search rules
 
-part-write-start-2 : tie.Need-slice-bounds-write-start-2
+part-write-start-2 : tie.Need-slice_bounds-write-start-2
 part-write-start-2 c = search rules
 
-part-write-end-2 : tie.Need-slice-bounds-write-end-2
-part-write-end-2 c = omega (arith, found_block c.before.before.before.before.before.before.before.before.before.before.before.before.before.args.file.now local (λ i. (c.before.before.before.before.before.before.before.before.before.before.before.before.shared-slice-known.given i).fits) local-length c.before.before.before.before.before.before.before.before.before.read.ensures.0 c.before.before.before.before.before.if1.false)
+part-write-end-2 : tie.Need-slice_bounds-write-end-2
+part-write-end-2 c = omega (arith, found_block c.args.file.now local (λ i. (c.shared_slice_known-1.given i).fits) local-length c.read-found.ensures.0 c.if-answer-ne0.false)
 
 write-requires : tie.Need-write-requires
 write-requires c κs = search rules
 
-same_length : tie.Need-same-length
+same_length : tie.Need-shape_of-out
 same_length c = search rules
 
-returns-2 : tie.Need-returns-2
-returns-2 c = copy_gives c.before.before.before.before.before.before.before.before.before.before.before.before.before.before.before.before.before.before.args.file.now local (λ i. (c.before.before.before.before.before.before.before.before.before.before.before.before.before.before.before.before.before.shared-slice-known.given i).fits) local-length c.before.before.before.before.before.before.before.before.before.before.before.before.before.before.read.ensures.0 c.before.before.before.before.before.before.before.before.before.before.if1.false c.before.before.before.before.before.before.before.before.before.before.before.before.before.before.before.before.before.before.args.out.now c.before.before.before.before.before.before.before.before.before.before.before.before.before.before.read.ensures.1 c.before.before.before.before.before.before.before.before.number-place.ensures c.before.before.write.ensures.0 c.before.before.write.ensures.1
+returns-2 : tie.Need-returns
+returns-2 c = copy_gives c.args.file.now local (λ i. (c.shared_slice_known-1.given i).fits) local-length c.read-found.ensures.0 c.if-answer-ne0.false c.args.out.now c.read-found.ensures.1 c.number_place-n.ensures c.write.ensures.0 c.write.ensures.1
 
-pub copy-file-spec : {M : Type 1} → statement M
-copy-file-spec =
+pub copy_file_spec : {M : Type 1} → statement M
+copy_file_spec =
     tie.close
     (tie.spec
     slice-aggregate-read

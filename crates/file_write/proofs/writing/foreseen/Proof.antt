@@ -8,44 +8,44 @@ use Rattle.file_write.proofs.Given.{given_speaks, given_few, capacity_speaks, no
 use Rattle.file_write.proofs.writing.foreseen.Statement.{statement}
 use Rattle.file_write.proofs.writing.foreseen.Tie as tie
 
-given-answer-requires : tie.Need-given-answer-requires
+given-answer-requires : tie.Need-given_answer-given-requires
 given-answer-requires c κs = search rules
 
 unwritten-requires : tie.Need-unwritten-requires
 unwritten-requires c κs = search rules
 
-returns : tie.Need-returns
+returns : tie.Need-returns-then-given-ne0
 returns c =
     c.unwritten.ensures ∙
-    refused_gives _ _ _ _ (given_speaks _ _ _ _ c.before.before.before.given-answer.ensures c.before.if1.true) c.before.if1.true
+    refused_gives _ _ _ _ (given_speaks _ _ _ _ c.given_answer-given.ensures c.if-given-ne0.true) c.if-given-ne0.true
 
-encoded-length-requires : tie.Need-encoded-length-requires
-encoded-length-requires c κs = given_few _ _ _ 0 c.before.before.given-answer.ensures c.if1.false
+encoded-length-requires : tie.Need-encoded_length-length-requires
+encoded-length-requires c κs = given_few _ _ _ 0 c.given_answer-given.ensures c.if-given-ne0.false
 
 refuse-requires : tie.Need-refuse-requires
 refuse-requires c κs = search rules
 
-unwritten-requires-2 : tie.Need-unwritten-requires-2
+unwritten-requires-2 : tie.Need-unwritten-requires-then-capacity-length
 unwritten-requires-2 c κs = search rules
 
-returns-2 : tie.Need-returns-2
+returns-2 : tie.Need-returns-then-capacity-length
 returns-2 c =
-    let r = c.before.refuse.ensures in
-    c.unwritten2.ensures ∙
-    refused_gives _ _ _ _ (r ∙ capacity_speaks _ _ _ _ c.before.before.before.before.before.before.given-answer.ensures c.before.before.before.before.if1.false c.before.before.before.encoded-length.ensures c.before.before.if2.true)
+    let r = c.refuse.ensures in
+    c.unwritten-then-capacity-length.ensures ∙
+    refused_gives _ _ _ _ (r ∙ capacity_speaks _ _ _ _ c.given_answer-given.ensures c.if-given-ne0.false c.encoded_length-length.ensures c.if-capacity-length.true)
     (λ z. omega (arith, ap (λ (x : Answer). x.number) r))
 
-accept-requires : tie.Need-accept-requires
+accept-requires : tie.Need-accept-answer-requires
 accept-requires c κs = search rules
 
-returns-3 : tie.Need-returns-3
+returns-3 : tie.Need-returns
 returns-3 c =
-    accepted_gives _ _ _ _ c.accept.ensures
-    (none_speaks _ _ _ _ c.before.before.before.before.before.given-answer.ensures c.before.before.before.if1.false c.before.before.encoded-length.ensures c.before.if2.false)
-    c.before.before.encoded-length.ensures
+    accepted_gives _ _ _ _ c.accept-answer.ensures
+    (none_speaks _ _ _ _ c.given_answer-given.ensures c.if-given-ne0.false c.encoded_length-length.ensures c.if-capacity-length.false)
+    c.encoded_length-length.ensures
 
-pub foreseen-spec : {M : Type 1} → statement M
-foreseen-spec =
+pub foreseen_spec : {M : Type 1} → statement M
+foreseen_spec =
     tie.close
     (tie.spec
     given-answer-requires

@@ -5,25 +5,25 @@ use Rattle.file_write.proofs.Given.{refused_writes, gives_length, gives_writable
 use Rattle.file_write.proofs.writing.write.Statement.{statement}
 use Rattle.file_write.proofs.writing.write.Tie as tie
 
-foreseen-requires : tie.Need-foreseen-requires
+foreseen-requires : tie.Need-foreseen-written-requires
 foreseen-requires c κs = search rules
 
-put-file-requires : tie.Need-put-file-requires
+put-file-requires : tie.Need-put_file-requires
 put-file-requires c κs =
-    let e = c.before.before.before.before.foreseen.ensures in
-    let old = c.before.before.before.before.before.before.before.before.args.out.now in
-    (gives_writable _ _ _ old e c.before.if1.true, gives_length _ _ _ old e c.before.if1.true)
+    let e = c.foreseen-written.ensures in
+    let old = c.args.out.now in
+    (gives_writable _ _ _ old e c.if-answer-eq0.true, gives_length _ _ _ old e c.if-answer-eq0.true)
 
-same_length : tie.Need-same-length
+same_length : tie.Need-shape_of-out
 same_length c = search rules
 
-returns : tie.Need-returns
+returns : tie.Need-returns-then-answer-eq0
 returns c =
-    let e = c.before.before.before.before.before.before.before.foreseen.ensures in
-    (e, accepted_writes _ _ _ _ e c.before.before.before.before.if1.true c.before.before.put-file.ensures)
+    let e = c.foreseen-written.ensures in
+    (e, accepted_writes _ _ _ _ e c.if-answer-eq0.true c.put_file.ensures)
 
-returns-2 : tie.Need-returns-2
-returns-2 c = let e = c.before.before.before.foreseen.ensures in (e, refused_writes _ _ _ _ e c.if1.false)
+returns-2 : tie.Need-returns-else-answer-eq0
+returns-2 c = let e = c.foreseen-written.ensures in (e, refused_writes _ _ _ _ e c.if-answer-eq0.false)
 
 pub write_spec : {M : Type 1} → statement M
 write_spec = tie.close (tie.spec foreseen-requires put-file-requires same_length returns returns-2)

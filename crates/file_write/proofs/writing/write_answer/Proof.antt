@@ -10,7 +10,7 @@ foreseen-requires : tie.Need-foreseen-requires
 foreseen-requires c κs = search rules
 
 returns : tie.Need-returns
-returns c = ap (λ (x : Written). x.answer) c.before.foreseen.ensures ∙ gives_answer _ _ _ _
+returns c = ap (λ (x : Written). x.answer) c.foreseen.ensures ∙ gives_answer _ _ _ _
 
-pub write-answer-spec : {M : Type 1} → statement M
-write-answer-spec = tie.close (tie.spec foreseen-requires returns)
+pub write_answer_spec : {M : Type 1} → statement M
+write_answer_spec = tie.close (tie.spec foreseen-requires returns)

@@ -5,17 +5,17 @@ use Rattle.graph.proofs.Sums.{sums_before}
 use Rattle.graph.proofs.order.is_before.Statement.{statement}
 use Rattle.graph.proofs.order.is_before.Tie as tie
 
-sum-of-requires : tie.Need-sum-of-requires
+sum-of-requires : tie.Need-sum_of-requires
 sum-of-requires c κs = search rules
 
-sum-of-requires-2 : tie.Need-sum-of-requires-2
+sum-of-requires-2 : tie.Need-sum_of-requires-2
 sum-of-requires-2 c κs = search rules
 
-is-below-requires : tie.Need-is-below-requires
+is-below-requires : tie.Need-is_below-requires
 is-below-requires c κs = search rules
 
 returns : tie.Need-returns
-returns c = sums_before c.is_below.ensures c.before.before.sum_of.ensures c.before.sum-of2.ensures
+returns c = sums_before c.is_below.ensures c.sum_of.ensures c.sum_of-2.ensures
 
-pub is-before-spec : {M : Type 1} → statement M
-is-before-spec = tie.close (tie.spec sum-of-requires sum-of-requires-2 is-below-requires returns)
+pub is_before_spec : {M : Type 1} → statement M
+is_before_spec = tie.close (tie.spec sum-of-requires sum-of-requires-2 is-below-requires returns)

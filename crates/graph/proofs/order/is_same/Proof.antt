@@ -5,14 +5,14 @@ use Rattle.graph.proofs.Sums.{sums_same}
 use Rattle.graph.proofs.order.is_same.Statement.{statement}
 use Rattle.graph.proofs.order.is_same.Tie as tie
 
-sum-of-requires : tie.Need-sum-of-requires
+sum-of-requires : tie.Need-sum_of-requires
 sum-of-requires c κs = search rules
 
-sum-of-requires-2 : tie.Need-sum-of-requires-2
+sum-of-requires-2 : tie.Need-sum_of-requires-2
 sum-of-requires-2 c κs = search rules
 
 returns : tie.Need-returns
-returns c = sums_same c.before.sum_of.ensures c.sum-of2.ensures
+returns c = sums_same c.sum_of.ensures c.sum_of-2.ensures
 
-pub is-same-spec : {M : Type 1} → statement M
-is-same-spec = tie.close (tie.spec sum-of-requires sum-of-requires-2 returns)
+pub is_same_spec : {M : Type 1} → statement M
+is_same_spec = tie.close (tie.spec sum-of-requires sum-of-requires-2 returns)

@@ -5,11 +5,11 @@ use Rattle.graph.proofs.Lookup.{whole_bracket, whole_absent}
 use Rattle.graph.proofs.search.find.Statement.{statement}
 use Rattle.graph.proofs.search.find.Tie as tie
 
-hop-count-requires : tie.Need-hop-count-requires
+hop-count-requires : tie.Need-hop_count-requires
 hop-count-requires c κs = search rules
 
-find-between-requires : tie.Need-find-between-requires
-find-between-requires c κs = (c.before.before.requires, (whole_bracket _ _ c.hop-count.ensures, whole_absent _ _ c.hop-count.ensures))
+find-between-requires : tie.Need-find_between-requires
+find-between-requires c κs = (c.requires, (whole_bracket _ _ c.hop_count.ensures, whole_absent _ _ c.hop_count.ensures))
 
 returns : tie.Need-returns
 returns c = search rules

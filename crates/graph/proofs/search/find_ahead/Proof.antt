@@ -16,67 +16,67 @@ use Rattle.graph.proofs.search.find_ahead.Statement.{statement}
 use Rattle.graph.proofs.search.find_ahead.Tie as tie
 
 -- the loop knows the hop by its sum alone
-abbrev invariant-loop : tie.invariant-loop
+abbrev invariant-loop : tie.invariant-loop-at
 invariant-loop hops first past sought at₀ at = (at ≤ past) × (past ≤ count hops) × ((g : Hop) → (sought ≡ sum_of g) × Narrow g → Bracket hops g at past)
 
-abbrev decreases-loop : tie.decreases-loop
+abbrev decreases-loop : tie.decreases-loop-at
 decreases-loop hops first past sought at₀ at = past - at
 
-sum-of-requires : tie.Need-sum-of-requires invariant-loop decreases-loop
+sum-of-requires : tie.Need-sum_of-sought-requires invariant-loop decreases-loop
 sum-of-requires c κs = search rules
 
-loop-holds : tie.Need-loop-init invariant-loop decreases-loop
+loop-holds : tie.Need-loop-at-init invariant-loop decreases-loop
 loop-holds c =
-    let st = c.before.before in
-    (st.requires.1.0.lo_le, st.requires.1.0.hi_le, sum_bracket _ _ st.requires.1.0 c.sum_of.ensures)
+    let st = c in
+    (st.requires.1.0.lo_le, st.requires.1.0.hi_le, sum_bracket _ _ st.requires.1.0 c.sum_of-sought.ensures)
 
-hop-at-requires : tie.Need-hop-at-requires invariant-loop decreases-loop
+hop-at-requires : tie.Need-hop_at-requires invariant-loop decreases-loop
 hop-at-requires c κs = search rules
 
-sum-of-requires-2 : tie.Need-sum-of-requires-2 invariant-loop decreases-loop
+sum-of-requires-2 : tie.Need-sum_of-sum-requires invariant-loop decreases-loop
 sum-of-requires-2 c κs = search rules
 
-is-below-requires : tie.Need-is-below-requires invariant-loop decreases-loop
+is-below-requires : tie.Need-is_below-requires invariant-loop decreases-loop
 is-below-requires c κs = search rules
 
-found-or-gap-requires : tie.Need-found-or-gap-requires invariant-loop decreases-loop
+found-or-gap-requires : tie.Need-found_or_gap-requires invariant-loop decreases-loop
 found-or-gap-requires c κs = search rules
 
-returns : tie.Need-returns invariant-loop decreases-loop
+returns : tie.Need-returns-then-not-is_below invariant-loop decreases-loop
 returns c =
-    let st = c.before.before.before.before.before.before.before.before.before in
-    let q = c.before.before.before.before.before.before.before.sum_of.ensures in
-    let h = c.before.before.before.before.hop-at.ensures in
-    let s = c.before.before.before.sum-of2.ensures in
-    let b = c.before.before.before.before.before.before.loop.invariant.2 _ q in
-    let at = lower_met _ _ (cut _ _ st.requires.0 _ _ _ b (le_refl _) (omega arith) (sums_met h c.before.before.is_below.ensures s q (not-true _ c.before.if1.true))) (le_refl _) in
-    c.found-or-gap.ensures ∙ find_found _ _ (sym at) (omega arith) (sums_is _ _ _ h s q)
+    let st = c in
+    let q = c.sum_of-sought.ensures in
+    let h = c.hop_at.ensures in
+    let s = c.sum_of-sum.ensures in
+    let b = c.loop-at.invariant.2 _ q in
+    let at = lower_met _ _ (cut _ _ st.requires.0 _ _ _ b (le_refl _) (omega arith) (sums_met h c.is_below.ensures s q (not-true _ c.if-not-is_below.true-raw))) (le_refl _) in
+    c.found_or_gap.ensures ∙ find_found _ _ (sym at) (omega arith) (sums_is _ _ _ h s q)
 
-add_at : tie.Need-overflow-add-at invariant-loop decreases-loop
+add_at : tie.Need-overflow_add-at invariant-loop decreases-loop
 add_at c = search rules
 
-loop-less : tie.Need-loop-smaller invariant-loop decreases-loop
+loop-less : tie.Need-loop-at-smaller invariant-loop decreases-loop
 loop-less c = search rules
 
-loop-again : tie.Need-loop-preserved invariant-loop decreases-loop
+loop-again : tie.Need-loop-at-preserved invariant-loop decreases-loop
 loop-again c =
-    let st = c.before.before.before.before.before.before.before.before in (
+    let st = c in (
       omega arith,
       omega arith,
-      λ g q. raise _ g st.requires.0 _ _ _ (c.before.before.before.before.before.loop.invariant.2 g q) (le_refl _) (omega arith)
-          (sums_met c.before.before.before.hop-at.ensures c.before.is_below.ensures c.before.before.sum-of2.ensures q (not-false _ c.if1.false)),
+      λ g q. raise _ g st.requires.0 _ _ _ (c.loop-at.invariant.2 g q) (le_refl _) (omega arith)
+          (sums_met c.hop_at.ensures c.is_below.ensures c.sum_of-sum.ensures q (not-false _ c.if-not-is_below.false-raw)),
     )
 
-found-or-gap-requires-2 : tie.Need-found-or-gap-requires-2 invariant-loop decreases-loop
+found-or-gap-requires-2 : tie.Need-found_or_gap-requires-2 invariant-loop decreases-loop
 found-or-gap-requires-2 c κs = search rules
 
-returns-2 : tie.Need-returns-2 invariant-loop decreases-loop
+returns-2 : tie.Need-returns invariant-loop decreases-loop
 returns-2 c =
-    let st = c.before.before.before.before.before in
-    c.found-or-gap2.ensures ∙ find_end _ _ (sym (lower_met _ _ (c.before.before.loop.invariant.2 _ c.before.before.before.sum_of.ensures) c.before.loop-test.false)) c.before.loop-test.false st.requires.1.1
+    let st = c in
+    c.found_or_gap-2.ensures ∙ find_end _ _ (sym (lower_met _ _ (c.loop-at.invariant.2 _ c.sum_of-sought.ensures) c.loop-at-test.false)) c.loop-at-test.false st.requires.1.1
 
-pub find-ahead-spec : {M : Type 1} → statement M
-find-ahead-spec =
+pub find_ahead_spec : {M : Type 1} → statement M
+find_ahead_spec =
     tie.close
     (tie.spec
     invariant-loop

@@ -2,11 +2,11 @@
 use Rattle.graph.proofs.search.found_or_gap.Statement.{statement}
 use Rattle.graph.proofs.search.found_or_gap.Tie as tie
 
-returns : tie.Need-returns
-returns c = rw c.if1.true
+returns : tie.Need-returns-then-stands
+returns c = rw c.if-stands.true
 
-returns-2 : tie.Need-returns-2
-returns-2 c = rw c.if1.false
+returns-2 : tie.Need-returns
+returns-2 c = rw c.if-stands.false
 
-pub found-or-gap-spec : {M : Type 1} → statement M
-found-or-gap-spec = tie.close (tie.spec returns returns-2)
+pub found_or_gap_spec : {M : Type 1} → statement M
+found_or_gap_spec = tie.close (tie.spec returns returns-2)

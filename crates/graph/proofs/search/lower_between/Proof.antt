@@ -14,68 +14,68 @@ use Rattle.graph.proofs.search.lower_between.Statement.{statement}
 use Rattle.graph.proofs.search.lower_between.Tie as tie
 
 -- the loop knows the hop by its sum alone
-abbrev invariant-loop : tie.invariant-loop
+abbrev invariant-loop : tie.invariant-loop-lo
 invariant-loop hops first past sought lo₀ hi₀ lo hi =
     (lo ≤ hi) × (hi ≤ count hops) × ((g : Hop) → (sought ≡ sum_of g) × Narrow g → Bracket hops g lo hi)
 
-abbrev decreases-loop : tie.decreases-loop
+abbrev decreases-loop : tie.decreases-loop-lo
 decreases-loop hops first past sought lo₀ hi₀ lo hi = hi - lo
 
-sum-of-requires : tie.Need-sum-of-requires invariant-loop decreases-loop
+sum-of-requires : tie.Need-sum_of-sought-requires invariant-loop decreases-loop
 sum-of-requires c κs = search rules
 
-loop-holds : tie.Need-loop-init invariant-loop decreases-loop
+loop-holds : tie.Need-loop-lo-init invariant-loop decreases-loop
 loop-holds c =
-    let st = c.before.before in
-    (st.requires.1.lo_le, st.requires.1.hi_le, sum_bracket _ _ st.requires.1 c.sum_of.ensures)
+    let st = c in
+    (st.requires.1.lo_le, st.requires.1.hi_le, sum_bracket _ _ st.requires.1 c.sum_of-sought.ensures)
 
-sub-mid : tie.Need-overflow-sub-mid invariant-loop decreases-loop
+sub-mid : tie.Need-overflow_sub-mid invariant-loop decreases-loop
 sub-mid c = search rules
 
-add-mid : tie.Need-overflow-add-mid invariant-loop decreases-loop
+add-mid : tie.Need-overflow_add-mid invariant-loop decreases-loop
 add-mid c = search rules
 
-hop-at-requires : tie.Need-hop-at-requires invariant-loop decreases-loop
+hop-at-requires : tie.Need-hop_at-requires invariant-loop decreases-loop
 hop-at-requires c κs = search rules
 
-sum-of-requires-2 : tie.Need-sum-of-requires-2 invariant-loop decreases-loop
+sum-of-requires-2 : tie.Need-sum_of-requires invariant-loop decreases-loop
 sum-of-requires-2 c κs = search rules
 
-is-below-requires : tie.Need-is-below-requires invariant-loop decreases-loop
+is-below-requires : tie.Need-is_below-requires invariant-loop decreases-loop
 is-below-requires c κs = search rules
 
-add-lo : tie.Need-overflow-add-lo invariant-loop decreases-loop
+add-lo : tie.Need-overflow_add-lo invariant-loop decreases-loop
 add-lo c = search rules
 
-loop-less : tie.Need-loop-smaller invariant-loop decreases-loop
+loop-less : tie.Need-loop-lo-smaller-then-is_below invariant-loop decreases-loop
 loop-less c = search rules
 
-loop-again : tie.Need-loop-preserved invariant-loop decreases-loop
+loop-again : tie.Need-loop-lo-preserved-then-is_below invariant-loop decreases-loop
 loop-again c =
-    let st = c.before.before.before.before.before.before.before.before in (
+    let st = c in (
       omega arith,
       omega arith,
-      λ g q. raise _ g st.requires.0 _ _ _ (c.before.before.before.before.before.loop.invariant.2 g q) (omega arith) (omega arith)
-          (sums_met c.before.before.before.hop-at.ensures c.before.is_below.ensures c.before.before.sum-of2.ensures q c.if1.true),
+      λ g q. raise _ g st.requires.0 _ _ _ (c.loop-lo.invariant.2 g q) (omega arith) (omega arith)
+          (sums_met c.hop_at.ensures c.is_below.ensures c.sum_of.ensures q c.if-is_below.true),
     )
 
-loop-less-2 : tie.Need-loop-smaller-2 invariant-loop decreases-loop
+loop-less-2 : tie.Need-loop-lo-smaller invariant-loop decreases-loop
 loop-less-2 c = search rules
 
-loop-again-2 : tie.Need-loop-preserved-2 invariant-loop decreases-loop
+loop-again-2 : tie.Need-loop-lo-preserved invariant-loop decreases-loop
 loop-again-2 c =
-    let st = c.before.before.before.before.before.before.before.before in (
+    let st = c in (
       omega arith,
       omega arith,
-      λ g q. cut _ g st.requires.0 _ _ _ (c.before.before.before.before.before.loop.invariant.2 g q) (omega arith) (omega arith)
-          (sums_met c.before.before.before.hop-at.ensures c.before.is_below.ensures c.before.before.sum-of2.ensures q c.if1.false),
+      λ g q. cut _ g st.requires.0 _ _ _ (c.loop-lo.invariant.2 g q) (omega arith) (omega arith)
+          (sums_met c.hop_at.ensures c.is_below.ensures c.sum_of.ensures q c.if-is_below.false),
     )
 
 returns : tie.Need-returns invariant-loop decreases-loop
-returns c = sym (lower_met _ _ (c.before.loop.invariant.2 _ c.before.before.sum_of.ensures) c.loop-test.false)
+returns c = sym (lower_met _ _ (c.loop-lo.invariant.2 _ c.sum_of-sought.ensures) c.loop-lo-test.false)
 
-pub lower-between-spec : {M : Type 1} → statement M
-lower-between-spec =
+pub lower_between_spec : {M : Type 1} → statement M
+lower_between_spec =
     tie.close
     (tie.spec
     invariant-loop

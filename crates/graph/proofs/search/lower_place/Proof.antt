@@ -5,14 +5,14 @@ use Rattle.graph.proofs.Lookup.{whole_bracket}
 use Rattle.graph.proofs.search.lower_place.Statement.{statement}
 use Rattle.graph.proofs.search.lower_place.Tie as tie
 
-hop-count-requires : tie.Need-hop-count-requires
+hop-count-requires : tie.Need-hop_count-requires
 hop-count-requires c κs = search rules
 
-lower-between-requires : tie.Need-lower-between-requires
-lower-between-requires c κs = (c.before.before.requires, whole_bracket _ _ c.hop-count.ensures)
+lower-between-requires : tie.Need-lower_between-requires
+lower-between-requires c κs = (c.requires, whole_bracket _ _ c.hop_count.ensures)
 
 returns : tie.Need-returns
-returns c = c.lower-between.ensures
+returns c = c.lower_between.ensures
 
-pub lower-place-spec : {M : Type 1} → statement M
-lower-place-spec = tie.close (tie.spec hop-count-requires lower-between-requires returns)
+pub lower_place_spec : {M : Type 1} → statement M
+lower_place_spec = tie.close (tie.spec hop-count-requires lower-between-requires returns)

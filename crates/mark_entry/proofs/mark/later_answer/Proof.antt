@@ -6,29 +6,29 @@ use Rattle.mark_entry.proofs.Entry.{later_ringed, later_narrow, later_accepts}
 use Rattle.mark_entry.proofs.mark.later_answer.Statement.{statement}
 use Rattle.mark_entry.proofs.mark.later_answer.Tie as tie
 
-ring-answer-requires : tie.Need-ring-answer-requires
+ring-answer-requires : tie.Need-ring_answer-ringed-requires
 ring-answer-requires c κs = search rules
 
-returns : tie.Need-returns
-returns c = later_ringed _ _ _ c.before.before.ring-answer.ensures c.if1.true
+returns : tie.Need-returns-then-ringed-ne0
+returns c = later_ringed _ _ _ c.ring_answer-ringed.ensures c.if-ringed-ne0.true
 
-hop-count-requires : tie.Need-hop-count-requires
+hop-count-requires : tie.Need-hop_count-requires
 hop-count-requires c κs = search rules
 
 refuse-requires : tie.Need-refuse-requires
 refuse-requires c κs = search rules
 
-returns-2 : tie.Need-returns-2
-returns-2 c = c.refuse.ensures ∙ later_narrow _ _ _ c.before.before.before.before.before.ring-answer.ensures c.before.before.before.if1.false (omega arith)
+returns-2 : tie.Need-returns-then-capacity-hop_count
+returns-2 c = c.refuse.ensures ∙ later_narrow _ _ _ c.ring_answer-ringed.ensures c.if-ringed-ne0.false (omega arith)
 
 accept-requires : tie.Need-accept-requires
 accept-requires c κs = search rules
 
-returns-3 : tie.Need-returns-3
-returns-3 c = c.accept.ensures ∙ later_accepts _ _ _ c.before.before.before.before.before.ring-answer.ensures c.before.before.before.if1.false (omega arith)
+returns-3 : tie.Need-returns
+returns-3 c = c.accept.ensures ∙ later_accepts _ _ _ c.ring_answer-ringed.ensures c.if-ringed-ne0.false (omega arith)
 
-pub later-answer-spec : {M : Type 1} → statement M
-later-answer-spec =
+pub later_answer_spec : {M : Type 1} → statement M
+later_answer_spec =
     tie.close
     (tie.spec
     ring-answer-requires

@@ -7,49 +7,49 @@ use Rattle.mark_entry.proofs.Entry.{mark_refused, mark_sensed, mark_later, mark_
 use Rattle.mark_entry.proofs.mark.mark.Statement.{statement}
 use Rattle.mark_entry.proofs.mark.mark.Tie as tie
 
-check-requires : tie.Need-check-requires
+check-requires : tie.Need-check-checked-requires
 check-requires c κs = search rules
 
-returns : tie.Need-returns
+returns : tie.Need-returns-then-checked-ne0
 returns c =
-    let d = mark_refused _ _ _ _ c.before.before.check.ensures c.if1.true in
-    (d, output_same _ _ _ _ (rw d at c.if1.true))
+    let d = mark_refused _ _ _ _ c.check-checked.ensures c.if-checked-ne0.true in
+    (d, output_same _ _ _ _ (rw d at c.if-checked-ne0.true))
 
-sense-answer-requires : tie.Need-sense-answer-requires
+sense-answer-requires : tie.Need-sense_answer-sensed-requires
 sense-answer-requires c κs = search rules
 
-returns-2 : tie.Need-returns-2
+returns-2 : tie.Need-returns-then-sensed-ne0
 returns-2 c =
-    let d = mark_sensed _ _ _ _ c.before.before.before.before.before.check.ensures c.before.before.before.if1.false c.before.before.sense-answer.ensures c.if2.true in
-    (d, output_same _ _ _ _ (rw d at c.if2.true))
+    let d = mark_sensed _ _ _ _ c.check-checked.ensures c.if-checked-ne0.false c.sense_answer-sensed.ensures c.if-sensed-ne0.true in
+    (d, output_same _ _ _ _ (rw d at c.if-sensed-ne0.true))
 
-starts-of-requires : tie.Need-starts-of-requires
-starts-of-requires c κs = admitted_indexable (check_admitted _ _ (rw c.before.before.before.before.before.check.ensures at c.before.before.before.if1.false))
+starts-of-requires : tie.Need-starts_of-starts-requires
+starts-of-requires c κs = admitted_indexable (check_admitted _ _ (rw c.check-checked.ensures at c.if-checked-ne0.false))
 
-later-answer-requires : tie.Need-later-answer-requires
-later-answer-requires c κs = record { admitted = check_admitted _ _ (rw c.before.before.before.before.before.before.before.check.ensures at c.before.before.before.before.before.if1.false); table = c.before.starts-of.ensures }
+later-answer-requires : tie.Need-later_answer-answer-requires
+later-answer-requires c κs = record { admitted = check_admitted _ _ (rw c.check-checked.ensures at c.if-checked-ne0.false); table = c.starts_of-starts.ensures }
 
-mark-in-requires : tie.Need-mark-in-requires
+mark-in-requires : tie.Need-mark_in-requires
 mark-in-requires c κs =
-    let st = c.before.before.before.before.before.before.before.before.before.before.before.before.before.before.before in
-    let e = c.before.before.before.before.before.before.before.before.before.before.before.before.check.ensures in
-    let z = c.before.before.before.before.before.before.before.before.before.before.if1.false in
-    let d = mark_later _ _ _ st.args.marks.now e z c.before.before.before.before.before.before.before.before.before.sense-answer.ensures c.before.before.before.before.before.before.before.if2.false c.before.before.before.before.later-answer.ensures in
-    let y = rw d at c.before.before.if3.true in
-    (record { admitted = check_admitted _ _ (rw e at z); table = c.before.before.before.before.before.before.starts-of.ensures }, (mark_ringless _ _ _ _ y, mark_capacity _ _ _ _ y))
+    let st = c in
+    let e = c.check-checked.ensures in
+    let z = c.if-checked-ne0.false in
+    let d = mark_later _ _ _ st.args.marks.now e z c.sense_answer-sensed.ensures c.if-sensed-ne0.false c.later_answer-answer.ensures in
+    let y = rw d at c.if-answer-eq0.true in
+    (record { admitted = check_admitted _ _ (rw e at z); table = c.starts_of-starts.ensures }, (mark_ringless _ _ _ _ y, mark_capacity _ _ _ _ y))
 
-same_length : tie.Need-same-length
+same_length : tie.Need-shape_of-marks
 same_length c = search rules
 
-returns-3 : tie.Need-returns-3
+returns-3 : tie.Need-returns-then-answer-eq0
 returns-3 c =
-    let d = mark_later _ _ _ _ c.before.before.before.before.before.before.before.before.before.before.before.before.before.before.before.check.ensures c.before.before.before.before.before.before.before.before.before.before.before.before.before.if1.false c.before.before.before.before.before.before.before.before.before.before.before.before.sense-answer.ensures c.before.before.before.before.before.before.before.before.before.before.if2.false c.before.before.before.before.before.before.before.later-answer.ensures in
-    (d, output_marked _ _ _ _ (rw d at c.before.before.before.before.before.if3.true) c.before.before.mark-in.ensures)
+    let d = mark_later _ _ _ _ c.check-checked.ensures c.if-checked-ne0.false c.sense_answer-sensed.ensures c.if-sensed-ne0.false c.later_answer-answer.ensures in
+    (d, output_marked _ _ _ _ (rw d at c.if-answer-eq0.true) c.mark_in.ensures)
 
-returns-4 : tie.Need-returns-4
+returns-4 : tie.Need-returns-else-answer-eq0
 returns-4 c =
-    let d = mark_later _ _ _ _ c.before.before.before.before.before.before.before.before.before.before.check.ensures c.before.before.before.before.before.before.before.before.if1.false c.before.before.before.before.before.before.before.sense-answer.ensures c.before.before.before.before.before.if2.false c.before.before.later-answer.ensures in
-    (d, output_same _ _ _ _ (rw d at c.if3.false))
+    let d = mark_later _ _ _ _ c.check-checked.ensures c.if-checked-ne0.false c.sense_answer-sensed.ensures c.if-sensed-ne0.false c.later_answer-answer.ensures in
+    (d, output_same _ _ _ _ (rw d at c.if-answer-eq0.false))
 
 pub mark_spec : {M : Type 1} → statement M
 mark_spec =

@@ -6,28 +6,28 @@ use Rattle.mark_senses.proofs.Marked.{marked_by_1}
 use Rattle.mark_entry.proofs.mark.mark_in.Statement.{statement}
 use Rattle.mark_entry.proofs.mark.mark_in.Tie as tie
 
-mark-rounds-requires : tie.Need-mark-rounds-requires
+mark-rounds-requires : tie.Need-mark_rounds-requires
 mark-rounds-requires c κs =
-    let st = c.before.before.before.before in
+    let st = c in
     (admitted_indexable st.requires.0.admitted, (st.requires.0.table, st.requires.1.1))
 
-same_length : tie.Need-same-length
+same_length : tie.Need-shape_of-marks-then-sense-eq1
 same_length c = search rules
 
-returns : tie.Need-returns
+returns : tie.Need-returns-then-sense-eq1
 returns c =
-    let st = c.before.before.before.before.before.before.before in
-    rw (c.before.before.before.before.if1.true, marked_by_1 st.args.shape st.args.hops.now st.requires.0.admitted.range)
-    c.before.before.mark-rounds.ensures.1
+    let st = c in
+    rw (c.if-sense-eq1.true, marked_by_1 st.args.shape st.args.hops.now st.requires.0.admitted.range)
+    c.mark_rounds.ensures.1
 
-mark-by-sweeps-requires : tie.Need-mark-by-sweeps-requires
+mark-by-sweeps-requires : tie.Need-mark_by_sweeps-requires
 mark-by-sweeps-requires c κs = search rules
 
-same-length-2 : tie.Need-same-length-2
+same-length-2 : tie.Need-shape_of-marks
 same-length-2 c = search rules
 
-returns-2 : tie.Need-returns-2
-returns-2 c = c.before.before.mark-by-sweeps.ensures
+returns-2 : tie.Need-returns
+returns-2 c = c.mark_by_sweeps.ensures
 
-pub mark-in-spec : {M : Type 1} → statement M
-mark-in-spec = tie.close (tie.spec mark-rounds-requires same_length returns mark-by-sweeps-requires same-length-2 returns-2)
+pub mark_in_spec : {M : Type 1} → statement M
+mark_in_spec = tie.close (tie.spec mark-rounds-requires same_length returns mark-by-sweeps-requires same-length-2 returns-2)

@@ -11,11 +11,11 @@ accept-requires c κs = search rules
 refuse-requires : tie.Need-refuse-requires
 refuse-requires c κs = search rules
 
-returns : tie.Need-returns
-returns c = c.accept.ensures ∙ rounds_few _ c.before.if1.true
+returns : tie.Need-returns-then-rounds-le-MOST_ROUNDS
+returns c = c.accept.ensures ∙ rounds_few _ c.if-rounds-le-MOST_ROUNDS.true
 
-returns-2 : tie.Need-returns-2
-returns-2 c = c.refuse.ensures ∙ rounds_many _ c.before.if1.false
+returns-2 : tie.Need-returns-else-rounds-le-MOST_ROUNDS
+returns-2 c = c.refuse.ensures ∙ rounds_many _ c.if-rounds-le-MOST_ROUNDS.false
 
-pub check-rounds-spec : {M : Type 1} → statement M
-check-rounds-spec = tie.close (tie.spec accept-requires refuse-requires returns returns-2)
+pub check_rounds_spec : {M : Type 1} → statement M
+check_rounds_spec = tie.close (tie.spec accept-requires refuse-requires returns returns-2)

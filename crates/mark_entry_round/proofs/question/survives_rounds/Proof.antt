@@ -11,15 +11,15 @@ use Rattle.mark_entry_round.specs.Question.{most_rounds}
 use Rattle.mark_entry_round.proofs.question.survives_rounds.Statement.{statement}
 use Rattle.mark_entry_round.proofs.question.survives_rounds.Tie as tie
 
-starts-of-requires : tie.Need-starts-of-requires
-starts-of-requires c κs = admitted_indexable c.before.requires.0
+starts-of-requires : tie.Need-starts_of-starts-requires
+starts-of-requires c κs = admitted_indexable c.requires.0
 
-slice-aggregate-x : tie.Need-slice-aggregate-x
+slice-aggregate-x : tie.Need-slice_bounds-x-end
 slice-aggregate-x c = search rules
 
 x-requires : tie.Need-x-requires
 x-requires c κs =
-    let s = c.before.before.before.before in
+    let s = c in
     let ok = s.requires.0 in (
       s.requires.1.0,
       (
@@ -27,7 +27,7 @@ x-requires c κs =
         record {
           ready = admitted_indexable ok;
           label_in = λ i l. omega (arith, ok.range.label_in i l, ok.labels_most);
-          table = c.before.before.starts-of.ensures;
+          table = c.starts_of-starts.ensures;
           capacity = omega (arith, length-replicate {A = ℕ} ((most_rounds + 1) * most_hops) 0);
           right = nothing_said _ ((most_rounds + 1) * most_hops);
         },
@@ -35,7 +35,7 @@ x-requires c κs =
     )
 
 returns : tie.Need-returns
-returns c = c.before.x.ensures.0
+returns c = c.x.ensures.0
 
-pub survives-rounds-spec : {M : Type 1} → statement M
-survives-rounds-spec = tie.close (tie.spec starts-of-requires slice-aggregate-x x-requires returns)
+pub survives_rounds_spec : {M : Type 1} → statement M
+survives_rounds_spec = tie.close (tie.spec starts-of-requires slice-aggregate-x x-requires returns)

@@ -5,42 +5,42 @@ use borrow.Author.Rules.{rules}
 use Rattle.reduce_entry.proofs.entry.later_answer.Statement.{statement}
 use Rattle.reduce_entry.proofs.entry.later_answer.Tie as tie
 
-sense-answer-requires : tie.Need-sense-answer-requires
+sense-answer-requires : tie.Need-sense_answer-sensed-requires
 sense-answer-requires c κs = search rules
 
-returns : tie.Need-returns
-returns c = later_sensed _ _ _ _ _ c.before.before.sense-answer.ensures c.if1.true
+returns : tie.Need-returns-then-sensed-ne0
+returns c = later_sensed _ _ _ _ _ c.sense_answer-sensed.ensures c.if-sensed-ne0.true
 
-ring-answer-requires : tie.Need-ring-answer-requires
+ring-answer-requires : tie.Need-ring_answer-ringed-requires
 ring-answer-requires c κs = search rules
 
-returns-2 : tie.Need-returns-2
+returns-2 : tie.Need-returns-then-ringed-ne0
 returns-2 c =
-    later_ringed _ _ _ _ _ c.before.before.before.before.before.sense-answer.ensures c.before.before.before.if1.false c.before.before.ring-answer.ensures c.if2.true
+    later_ringed _ _ _ _ _ c.sense_answer-sensed.ensures c.if-sensed-ne0.false c.ring_answer-ringed.ensures c.if-ringed-ne0.true
 
-cast-if3 : tie.Need-overflow-cast-if3
+cast-if3 : tie.Need-overflow_cast-shape
 cast-if3 c = search rules
 
 refuse-requires : tie.Need-refuse-requires
 refuse-requires c κs = search rules
 
-returns-3 : tie.Need-returns-3
+returns-3 : tie.Need-returns-then-entries-shape
 returns-3 c =
-    let s = c.before.before.before.before.before.before.before.before.sense-answer.ensures in
-    let r = c.before.before.before.before.before.ring-answer.ensures in
-    c.refuse.ensures ∙ later_narrow _ _ _ _ _ s c.before.before.before.before.before.before.if1.false r c.before.before.before.if2.false c.before.if3.true
+    let s = c.sense_answer-sensed.ensures in
+    let r = c.ring_answer-ringed.ensures in
+    c.refuse.ensures ∙ later_narrow _ _ _ _ _ s c.if-sensed-ne0.false r c.if-ringed-ne0.false c.if-entries-shape.true
 
 accept-requires : tie.Need-accept-requires
 accept-requires c κs = search rules
 
-returns-4 : tie.Need-returns-4
+returns-4 : tie.Need-returns
 returns-4 c =
-    let s = c.before.before.before.before.before.before.before.before.sense-answer.ensures in
-    let r = c.before.before.before.before.before.ring-answer.ensures in
-    c.accept.ensures ∙ later_accepts _ _ _ _ _ s c.before.before.before.before.before.before.if1.false r c.before.before.before.if2.false c.before.if3.false
+    let s = c.sense_answer-sensed.ensures in
+    let r = c.ring_answer-ringed.ensures in
+    c.accept.ensures ∙ later_accepts _ _ _ _ _ s c.if-sensed-ne0.false r c.if-ringed-ne0.false c.if-entries-shape.false
 
-pub later-answer-spec : {M : Type 1} → statement M
-later-answer-spec =
+pub later_answer_spec : {M : Type 1} → statement M
+later_answer_spec =
     tie.close
     (tie.spec
     sense-answer-requires

@@ -7,22 +7,22 @@ use borrow.Author.Rules.{rules}
 use Rattle.reduce_entry.proofs.entry.reduce_answer.Statement.{statement}
 use Rattle.reduce_entry.proofs.entry.reduce_answer.Tie as tie
 
-check-requires : tie.Need-check-requires
+check-requires : tie.Need-check-checked-requires
 check-requires c κs = search rules
 
-returns : tie.Need-returns
-returns c = answer_checked _ _ _ _ _ c.before.before.check.ensures c.if1.true
+returns : tie.Need-returns-then-checked-ne0
+returns c = answer_checked _ _ _ _ _ c.check-checked.ensures c.if-checked-ne0.true
 
-starts-of-requires : tie.Need-starts-of-requires
-starts-of-requires c κs = admitted_indexable (check_admitted _ _ (rw c.before.before.check.ensures at c.if1.false))
+starts-of-requires : tie.Need-starts_of-starts-requires
+starts-of-requires c κs = admitted_indexable (check_admitted _ _ (rw c.check-checked.ensures at c.if-checked-ne0.false))
 
-later-answer-requires : tie.Need-later-answer-requires
+later-answer-requires : tie.Need-later_answer-requires
 later-answer-requires c κs =
-    record { admitted = check_admitted _ _ (rw c.before.before.before.before.check.ensures at c.before.before.if1.false); table = c.before.starts-of.ensures }
+    record { admitted = check_admitted _ _ (rw c.check-checked.ensures at c.if-checked-ne0.false); table = c.starts_of-starts.ensures }
 
-returns-2 : tie.Need-returns-2
-returns-2 c = answer_later _ _ _ _ _ c.before.before.before.before.before.check.ensures c.before.before.before.if1.false c.later-answer.ensures
+returns-2 : tie.Need-returns
+returns-2 c = answer_later _ _ _ _ _ c.check-checked.ensures c.if-checked-ne0.false c.later_answer.ensures
 
-pub reduce-answer-spec : {M : Type 1} → statement M
-reduce-answer-spec =
+pub reduce_answer_spec : {M : Type 1} → statement M
+reduce_answer_spec =
     tie.close (tie.spec check-requires returns starts-of-requires later-answer-requires returns-2)

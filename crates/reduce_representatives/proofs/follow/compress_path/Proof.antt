@@ -10,49 +10,49 @@ use borrow.Author.Rules.{rules}
 use Rattle.reduce_representatives.proofs.follow.compress_path.Statement.{statement}
 use Rattle.reduce_representatives.proofs.follow.compress_path.Tie as tie
 
-abbrev invariant-loop : tie.invariant-loop
+abbrev invariant-loop : tie.invariant-loop-passed
 invariant-loop next₀ states rep at₀ passed₀ next at passed =
     (passed ≤ states) × (at < states) × (states ≤ length next₀) × ClosedTable states next₀ × TerminatingTable states next₀ ×
     Way states next₀ next × (rep.0 ≡ table_steps next₀ states at)
 
-abbrev decreases-loop : tie.decreases-loop
+abbrev decreases-loop : tie.decreases-loop-passed
 decreases-loop next₀ states rep at₀ passed₀ next at passed = states - passed
 
-loop-holds : tie.Need-loop-init invariant-loop decreases-loop
+loop-holds : tie.Need-loop-passed-init invariant-loop decreases-loop
 loop-holds c =
     let p = c.requires in
     let closed = p.1.1.1.0 in
     let sinks = p.1.1.1.1.0 in
     (omega arith, p.0, omega arith, closed, sinks, way_starts _ _ closed sinks, p.1.1.1.1.1)
 
-cast-i : tie.Need-overflow-cast-i invariant-loop decreases-loop
+cast-i : tie.Need-overflow_cast-i invariant-loop decreases-loop
 cast-i c = search rules
 
-mul-to : tie.Need-overflow-mul-to invariant-loop decreases-loop
+mul-to : tie.Need-offset_bounds-next-i invariant-loop decreases-loop
 mul-to c = search rules
 
-element-copy-out-to : tie.Need-element-copy-out-to invariant-loop decreases-loop
+element-copy-out-to : tie.Need-bounds-next-i invariant-loop decreases-loop
 element-copy-out-to c = search rules
 
-returns : tie.Need-returns invariant-loop decreases-loop
-returns c = let v = c.before.before.before.before.loop.invariant in way_compressed _ _ v.3 v.4 v.5
+returns : tie.Need-returns-then-to-rep invariant-loop decreases-loop
+returns c = let v = c.loop-passed.invariant in way_compressed _ _ v.3 v.4 v.5
 
-mul_next : tie.Need-overflow-mul-next invariant-loop decreases-loop
+mul_next : tie.Need-offset_bounds-next-i-in-loop-passed invariant-loop decreases-loop
 mul_next c = search rules
 
-element-write-next : tie.Need-element-write-next invariant-loop decreases-loop
+element-write-next : tie.Need-bounds-next-i-in-loop-passed invariant-loop decreases-loop
 element-write-next c = search rules
 
-add-passed : tie.Need-overflow-add-passed invariant-loop decreases-loop
+add-passed : tie.Need-overflow_add-passed invariant-loop decreases-loop
 add-passed c = search rules
 
-loop-less : tie.Need-loop-smaller invariant-loop decreases-loop
+loop-less : tie.Need-loop-passed-smaller invariant-loop decreases-loop
 loop-less c = search rules
 
-loop-again : tie.Need-loop-preserved invariant-loop decreases-loop
+loop-again : tie.Need-loop-passed-preserved invariant-loop decreases-loop
 unfolding ClosedTable
 loop-again c =
-    let v = c.before.before.before.before.loop.invariant in (
+    let v = c.loop-passed.invariant in (
       omega arith,
       v.5.within _ v.1,
       v.2,
@@ -62,11 +62,11 @@ loop-again c =
       v.6 ∙ sym (v.5.leads _ v.1),
     )
 
-returns-2 : tie.Need-returns-2 invariant-loop decreases-loop
-returns-2 c = let v = c.before.loop.invariant in way_compressed _ _ v.3 v.4 v.5
+returns-2 : tie.Need-returns invariant-loop decreases-loop
+returns-2 c = let v = c.loop-passed.invariant in way_compressed _ _ v.3 v.4 v.5
 
-pub compress-path-spec : {M : Type 1} → statement M
-compress-path-spec =
+pub compress_path_spec : {M : Type 1} → statement M
+compress_path_spec =
     tie.close
     (tie.spec
     invariant-loop

@@ -7,32 +7,32 @@ use borrow.Author.Rules.{rules}
 use Rattle.reduce_representatives.proofs.follow.enter.Statement.{statement}
 use Rattle.reduce_representatives.proofs.follow.enter.Tie as tie
 
-shared-slice-read-if1 : tie.Need-shared-slice-read-if1
+shared-slice-read-if1 : tie.Need-bounds-marks-i
 shared-slice-read-if1 c = search rules
 
-from-at-requires : tie.Need-from-at-requires
+from-at-requires : tie.Need-from_at-at-requires
 from-at-requires c κs = search rules
 
-cast-at : tie.Need-overflow-cast-at
+cast-at : tie.Need-overflow_cast-at
 cast-at c = search rules
 
-to-at-requires : tie.Need-to-at-requires
+to-at-requires : tie.Need-to_at-requires
 to-at-requires c κs = search rules
 
-mul_next : tie.Need-overflow-mul-next
+mul_next : tie.Need-offset_bounds-next-at
 mul_next c = search rules
 
-element-write-next : tie.Need-element-write-next
+element-write-next : tie.Need-bounds-next-at
 element-write-next c = search rules
 
-returns : tie.Need-returns
+returns : tie.Need-returns-then-marks-i-eq1
 unfolding with_next is_marked
 returns c =
-    rw (eq-eqb _ 1 c.before.before.before.if1.true) (cc)
+    rw (eq-eqb _ 1 c.if-marks-i-eq1.true) (cc)
 
-returns-2 : tie.Need-returns-2
+returns-2 : tie.Need-returns-else-marks-i-eq1
 unfolding with_next is_marked
-returns-2 c = rw (ne_eqb _ 1 c.if1.false)
+returns-2 c = rw (ne_eqb _ 1 c.if-marks-i-eq1.false)
 
 pub enter_spec : {M : Type 1} → statement M
 enter_spec =

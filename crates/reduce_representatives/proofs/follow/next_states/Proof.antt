@@ -13,42 +13,42 @@ use borrow.Author.Rules.{rules}
 use Rattle.reduce_representatives.proofs.follow.next_states.Statement.{statement}
 use Rattle.reduce_representatives.proofs.follow.next_states.Tie as tie
 
-abbrev invariant-loop : tie.invariant-loop
+abbrev invariant-loop : tie.invariant-loop-i
 invariant-loop hops marks next₀ i₀ next i =
     (i ≤ count hops) × (length next ≡ most_states) × ((s : ℕ) → s < most_states → Ends hops (mark_set hops marks) s i (get_or next s 0))
 
-abbrev decreases-loop : tie.decreases-loop
+abbrev decreases-loop : tie.decreases-loop-i
 decreases-loop hops marks next₀ i₀ next i = i
 
-identity-table-requires : tie.Need-identity-table-requires invariant-loop decreases-loop
+identity-table-requires : tie.Need-identity_table-next-requires invariant-loop decreases-loop
 identity-table-requires c κs = search rules
 
-hop-count-requires : tie.Need-hop-count-requires invariant-loop decreases-loop
+hop-count-requires : tie.Need-hop_count-i-requires invariant-loop decreases-loop
 hop-count-requires c κs = search rules
 
-loop-holds : tie.Need-loop-init invariant-loop decreases-loop
+loop-holds : tie.Need-loop-i-init invariant-loop decreases-loop
 unfolding IdentityTable
 loop-holds c =
-    (omega arith, search rules, λ s l. rw c.hop-count.ensures (ends_none _ _ s _ (c.before.identity-table.ensures s l)))
+    (omega arith, search rules, λ s l. rw c.hop_count-i.ensures (ends_none _ _ s _ (c.identity_table-next.ensures s l)))
 
-sub-i : tie.Need-overflow-sub-i invariant-loop decreases-loop
+sub-i : tie.Need-overflow_sub-i invariant-loop decreases-loop
 sub-i c = search rules
 
 enter-requires : tie.Need-enter-requires invariant-loop decreases-loop
 unfolding FromIn
 enter-requires c κs =
-    let st = c.before.before.before.before.before.before.before in
+    let st = c in
     (omega arith, (omega (arith, st.requires.0.capacity), st.requires.1 _ (omega arith)))
 
-loop-less : tie.Need-loop-smaller invariant-loop decreases-loop
+loop-less : tie.Need-loop-i-smaller invariant-loop decreases-loop
 loop-less c = omega arith
 
-loop-again : tie.Need-loop-preserved invariant-loop decreases-loop
+loop-again : tie.Need-loop-i-preserved invariant-loop decreases-loop
 unfolding FromIn
 loop-again c =
-    let st = c.before.before.before.before.before.before.before.before in
-    let v = c.before.before.before.loop.invariant in
-    let i = c.before.before.before.loop.i in
+    let st = c in
+    let v = c.loop-i.invariant in
+    let i = c.loop-i.i in
     let q : i ≡ suc (i - 1) = omega arith in
     let l : i - 1 < count st.args.hops.now = omega arith in
     let f = st.requires.1 (i - 1) l in (
@@ -60,11 +60,11 @@ loop-again c =
 returns : tie.Need-returns invariant-loop decreases-loop
 unfolding NextTable
 returns c =
-    let q : c.before.loop.i ≡ 0 = omega arith in
-    λ s l. ends_next_state _ _ (rw q at (c.before.loop.invariant.2 s l))
+    let q : c.loop-i.i ≡ 0 = omega arith in
+    λ s l. ends_next_state _ _ (rw q at (c.loop-i.invariant.2 s l))
 
-pub next-states-spec : {M : Type 1} → statement M
-next-states-spec =
+pub next_states_spec : {M : Type 1} → statement M
+next_states_spec =
     tie.close
     (tie.spec
     invariant-loop

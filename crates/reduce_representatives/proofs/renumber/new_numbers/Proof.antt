@@ -14,14 +14,14 @@ use borrow.Author.Rules.{rules}
 use Rattle.reduce_representatives.proofs.renumber.new_numbers.Statement.{statement}
 use Rattle.reduce_representatives.proofs.renumber.new_numbers.Tie as tie
 
-abbrev invariant-loop : tie.invariant-loop
+abbrev invariant-loop : tie.invariant-loop-s
 invariant-loop next news₀ found₀ s₀ news found s =
     (length news ≡ most_states + 1) × (s ≤ most_states) × (found ≡ tally s (is_fixed next)) × ((t : ℕ) → t < s + 1 → get_or news t 0 ≡ tally t (is_fixed next))
 
-abbrev decreases-loop : tie.decreases-loop
+abbrev decreases-loop : tie.decreases-loop-s
 decreases-loop next news₀ found₀ s₀ news found s = most_states - s
 
-loop-holds : tie.Need-loop-init invariant-loop decreases-loop
+loop-holds : tie.Need-loop-s-init invariant-loop decreases-loop
 loop-holds c = (
   length-replicate {A = ℕ} (most_states + 1) 0,
   omega arith,
@@ -29,49 +29,49 @@ loop-holds c = (
   λ t l. let q : t ≡ 0 = omega arith in rw q (get_or-replicate {A = ℕ} (most_states + 1) 0 0 0 (omega arith) ∙ sym (tally_none _)),
 )
 
-cast-t7 : tie.Need-overflow-cast-t7 invariant-loop decreases-loop
+cast-t7 : tie.Need-overflow_cast-s invariant-loop decreases-loop
 cast-t7 c = search rules
 
-is-fixed-requires : tie.Need-is-fixed-requires invariant-loop decreases-loop
+is-fixed-requires : tie.Need-is_fixed-requires invariant-loop decreases-loop
 is-fixed-requires c κs = search rules
 
-add-found : tie.Need-overflow-add-found invariant-loop decreases-loop
-add-found c = omega (arith, tally_within (is_fixed c.before.before.before.before.args.next.now) c.before.before.before.loop.s)
+add-found : tie.Need-overflow_add-found invariant-loop decreases-loop
+add-found c = omega (arith, tally_within (is_fixed c.args.next.now) c.loop-s.s)
 
-add-s : tie.Need-overflow-add-s invariant-loop decreases-loop
+add-s : tie.Need-overflow_add-s invariant-loop decreases-loop
 add-s c = search rules
 
-mul-news : tie.Need-overflow-mul-news invariant-loop decreases-loop
+mul-news : tie.Need-offset_bounds-news-s invariant-loop decreases-loop
 mul-news c = search rules
 
-array-write-news : tie.Need-array-write-news invariant-loop decreases-loop
+array-write-news : tie.Need-bounds-news-s invariant-loop decreases-loop
 array-write-news c = search rules
 
-loop-less : tie.Need-loop-smaller invariant-loop decreases-loop
+loop-less : tie.Need-loop-s-smaller invariant-loop decreases-loop
 loop-less c = search rules
 
 -- the count after the test
-counted : (c : tie.Joined1 invariant-loop decreases-loop) → c.if1.found ≡ tally (c.before.before.before.loop.s + 1) (is_fixed c.before.before.before.before.args.next.now)
+counted : (c : tie.Joined-is_fixed invariant-loop decreases-loop) → c.if-is_fixed.found ≡ tally (c.loop-s.s + 1) (is_fixed c.args.next.now)
 counted c =
-    let v = c.before.before.before.loop.invariant in
-    let e = c.before.is-fixed.ensures in
-    ⊎_elim (λ w. w.1 ∙ tally_more _ _ v.2 (sym e ∙ w.0.taken)) (λ w. w.1 ∙ tally_skip _ _ v.2 (sym e ∙ w.0.left)) c.if1.branch
+    let v = c.loop-s.invariant in
+    let e = c.is_fixed.ensures in
+    ⊎_elim (λ w. w.found-is ∙ tally_more _ _ v.2 (sym e ∙ w.if-is_fixed.true)) (λ w. w.found-is ∙ tally_skip _ _ v.2 (sym e ∙ w.if-is_fixed.false)) c.if-is_fixed.branch-raw
 
-loop-again : tie.Need-loop-preserved invariant-loop decreases-loop
+loop-again : tie.Need-loop-s-preserved invariant-loop decreases-loop
 loop-again c =
-    let v = c.before.before.before.loop.invariant in (
+    let v = c.loop-s.invariant in (
       simp length-set v.0,
       omega arith,
       counted c,
-      filled_more (λ (t : ℕ). tally t (is_fixed c.before.before.before.before.args.next.now)) c.before.before.before.loop.news (omega arith) (counted c) v.3,
+      filled_more (λ (t : ℕ). tally t (is_fixed c.args.next.now)) c.loop-s.news (omega arith) (counted c) v.3,
     )
 
 returns : tie.Need-returns invariant-loop decreases-loop
 unfolding NewNumbers
-returns c = λ s l. c.before.loop.invariant.3 s (omega arith)
+returns c = λ s l. c.loop-s.invariant.3 s (omega arith)
 
-pub new-numbers-spec : {M : Type 1} → statement M
-new-numbers-spec =
+pub new_numbers_spec : {M : Type 1} → statement M
+new_numbers_spec =
     tie.close
     (tie.spec
     invariant-loop

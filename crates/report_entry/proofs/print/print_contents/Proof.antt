@@ -14,43 +14,43 @@ use Rattle.report_entry.proofs.print.print_contents.Tie as tie
 wide : most_numbers ≤ length (replicate {A = ℕ} most_numbers 0)
 wide = omega (arith, length-replicate {A = ℕ} most_numbers 0)
 
-slice-aggregate-read : tie.Need-slice-aggregate-read
+slice-aggregate-read : tie.Need-slice_bounds-read-end
 slice-aggregate-read c = search rules
 
-read-requires : tie.Need-read-requires
+read-requires : tie.Need-read-contents-requires
 read-requires c κs = search rules
 
-put-refusal-requires : tie.Need-put-refusal-requires
-put-refusal-requires c κs = text_capacity (refusal_most _) c.before.before.before.before.before.before.before.before.before.requires
+put-refusal-requires : tie.Need-put_refusal-requires
+put-refusal-requires c κs = text_capacity (refusal_most _) c.requires
 
-same_length : tie.Need-same-length
+same_length : tie.Need-shape_of-out-then-answer-ne0
 same_length c = search rules
 
-returns : tie.Need-returns
-returns c = put_same (file_refused _ (replicate most_numbers 0) wide c.before.before.before.before.before.before.before.before.read.ensures.0 c.before.before.before.before.if1.true) c.before.before.put-refusal.ensures
+returns : tie.Need-returns-then-answer-ne0
+returns c = put_same (file_refused _ (replicate most_numbers 0) wide c.read-contents.ensures.0 c.if-answer-ne0.true) c.put_refusal.ensures
 
-slice-aggregate-part : tie.Need-slice-aggregate-part
+slice-aggregate-part : tie.Need-slice_bounds-part-end
 slice-aggregate-part c = search rules
 
 part-requires : tie.Need-part-requires
 part-requires c κs =
-    (omega arith, omega (arith, file_most _ (replicate most_numbers 0) wide c.before.before.before.before.before.before.read.ensures.0 c.before.before.if1.false))
+    (omega arith, omega (arith, file_most _ (replicate most_numbers 0) wide c.read-contents.ensures.0 c.if-answer-ne0.false))
 
-print-graph-requires : tie.Need-print-graph-requires
+print-graph-requires : tie.Need-print_graph-requires
 print-graph-requires c κs =
-    let r = c.before.before.before.before.before.before.before.before.read.ensures in
-    (file_admitted _ (replicate most_numbers 0) wide r.0 c.before.before.before.before.if1.false r.1 c.before.part.ensures.0, search rules)
+    let r = c.read-contents.ensures in
+    (file_admitted _ (replicate most_numbers 0) wide r.0 c.if-answer-ne0.false r.1 c.part.ensures.0, search rules)
 
-same-length-2 : tie.Need-same-length-2
+same-length-2 : tie.Need-shape_of-out
 same-length-2 c = search rules
 
-returns-2 : tie.Need-returns-2
+returns-2 : tie.Need-returns
 returns-2 c =
-    let r = c.before.before.before.before.before.before.before.before.before.before.before.read.ensures in
-    put_same (file_printed _ (replicate most_numbers 0) wide r.0 c.before.before.before.before.before.before.before.if1.false r.1 c.before.before.before.before.part.ensures.0) c.before.before.print-graph.ensures
+    let r = c.read-contents.ensures in
+    put_same (file_printed _ (replicate most_numbers 0) wide r.0 c.if-answer-ne0.false r.1 c.part.ensures.0) c.print_graph.ensures
 
-pub print-contents-spec : {M : Type 1} → statement M
-print-contents-spec =
+pub print_contents_spec : {M : Type 1} → statement M
+print_contents_spec =
     tie.close
     (tie.spec
     slice-aggregate-read

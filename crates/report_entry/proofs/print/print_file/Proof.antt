@@ -6,22 +6,22 @@ use borrow.Author.Rules.{rules}
 use Rattle.report_entry.proofs.print.print_file.Statement.{statement}
 use Rattle.report_entry.proofs.print.print_file.Tie as tie
 
-returns : tie.Need-returns
+returns : tie.Need-returns-then-out-lt-MOST_TEXT
 returns c =
-    let e = printed_none _ (printed_of c.before.before.before.args.file.now) c.if1.true in
+    let e = printed_none _ (printed_of c.args.file.now) c.if-out-lt-MOST_TEXT.true in
     (rw e, (rw e, omega arith))
 
-print-input-requires : tie.Need-print-input-requires
+print-input-requires : tie.Need-print_input-requires
 print-input-requires c κs = search rules
 
-same_length : tie.Need-same-length
+same_length : tie.Need-shape_of-out
 same_length c = search rules
 
-returns-2 : tie.Need-returns-2
+returns-2 : tie.Need-returns
 returns-2 c =
-    let e = printed_whole _ (printed_of c.before.before.before.before.before.before.before.args.file.now) c.before.before.before.before.if1.false in
-    let p = c.before.before.print-input.ensures in
+    let e = printed_whole _ (printed_of c.args.file.now) c.if-out-lt-MOST_TEXT.false in
+    let p = c.print_input.ensures in
     (rw e (front_length p), (rw e (front_stands p), front_within p))
 
-pub print-file-spec : {M : Type 1} → statement M
-print-file-spec = tie.close (tie.spec returns print-input-requires same_length returns-2)
+pub print_file_spec : {M : Type 1} → statement M
+print_file_spec = tie.close (tie.spec returns print-input-requires same_length returns-2)

@@ -12,26 +12,26 @@ use Rattle.report_entry.proofs.print.print_input.Tie as tie
 refuse-requires : tie.Need-refuse-requires
 refuse-requires c κs = search rules
 
-put-refusal-requires : tie.Need-put-refusal-requires
-put-refusal-requires c κs = text_capacity (refusal_most _) c.before.before.before.before.before.requires
+put-refusal-requires : tie.Need-put_refusal-requires
+put-refusal-requires c κs = text_capacity (refusal_most _) c.requires
 
-same_length : tie.Need-same-length
+same_length : tie.Need-shape_of-out-then-file-gt-MOST_INPUT
 same_length c = search rules
 
-returns : tie.Need-returns
-returns c = put_same (ap refusal_of c.before.before.before.refuse.ensures ∙ input_refused _ c.before.before.before.before.before.if1.true) c.before.before.put-refusal.ensures
+returns : tie.Need-returns-then-file-gt-MOST_INPUT
+returns c = put_same (ap refusal_of c.refuse.ensures ∙ input_refused _ c.if-file-gt-MOST_INPUT.true) c.put_refusal.ensures
 
-print-contents-requires : tie.Need-print-contents-requires
+print-contents-requires : tie.Need-print_contents-requires
 print-contents-requires c κs = search rules
 
-same-length-2 : tie.Need-same-length-2
+same-length-2 : tie.Need-shape_of-out
 same-length-2 c = search rules
 
-returns-2 : tie.Need-returns-2
-returns-2 c = put_same (input_taken _ c.before.before.before.before.if1.false) c.before.before.print-contents.ensures
+returns-2 : tie.Need-returns
+returns-2 c = put_same (input_taken _ c.if-file-gt-MOST_INPUT.false) c.print_contents.ensures
 
-pub print-input-spec : {M : Type 1} → statement M
-print-input-spec =
+pub print_input_spec : {M : Type 1} → statement M
+print_input_spec =
     tie.close
     (tie.spec
     refuse-requires
