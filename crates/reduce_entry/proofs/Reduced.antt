@@ -21,19 +21,19 @@ use Rattle.reduce_entry.proofs.Marked.{marked_terminating, marked_weakly}
 module _ {sh : Shape} {hs : List ℕ} (red : Reducible sh hs) (sense : Sense) where
   -- the map leads to states of the short graph
   pub map_inside : (s : ℕ) → s < sh.states → map_of sh hs (marked_in sense sh hs) s < (short_shape sh hs (marked_in sense sh hs)).states
-  map_inside = short.map-inside red.admitted (marked_terminating red sense)
+  map_inside = short.map_inside red.admitted (marked_terminating red sense)
 
   pub short_admitted : Admitted (short_shape sh hs (marked_in sense sh hs)) (flat (short_hops sh hs (marked_in sense sh hs)))
-  short_admitted = short.shape-admitted red.admitted (marked_terminating red sense)
+  short_admitted = short.shape_admitted red.admitted (marked_terminating red sense)
 
   -- it loses no hop and leaves none unmatched
   pub short_reduces : {D : ℕ → Type 0} → Reduces D (HopOf hs) (HopOf (flat (short_hops sh hs (marked_in sense sh hs)))) (map_of sh hs (marked_in sense sh hs))
-  short_reduces = short.map-reduces (marked_terminating red sense) (marked_weakly red sense)
+  short_reduces = short.map_reduces (marked_terminating red sense) (marked_weakly red sense)
 
   -- rows 1 to 5 let the short graph pass: it has no ring
   pub short_again : Reducible (short_shape sh hs (marked_in sense sh hs)) (flat (short_hops sh hs (marked_in sense sh hs)))
-  short_again = again.short-again red.admitted (marked_terminating red sense) (marked_weakly red sense)
+  short_again = again.short_again red.admitted (marked_terminating red sense) (marked_weakly red sense)
 
   -- a reduction that marked something leaves fewer states
   pub short_fewer : (s t : ℕ) → In (marked_in sense sh hs) s t → (short_shape sh hs (marked_in sense sh hs)).states < sh.states
-  short_fewer = again.short-fewer red.admitted (marked_terminating red sense)
+  short_fewer = again.short_fewer red.admitted (marked_terminating red sense)

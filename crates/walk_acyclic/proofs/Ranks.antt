@@ -48,13 +48,13 @@ module _ (hs ranked : List ℕ) (v : ℕ) where
   -- the hops of v stand from lo up to hi, the silent ones first
   module _ (up : Ascending hs) {lo hi : ℕ} (lo_is : lo ≡ first_of hs v) (hi_is : hi ≡ first_of hs (v + 1)) where
     pub row_within : (i : ℕ) → i < hi → i < count hs
-    row_within i l = omega (arith, hi-is, first_within hs up (v + 1))
+    row_within i l = omega (arith, hi_is, first_within hs up (v + 1))
 
     pub ends_fails : (i : ℕ) → lo ≤ i → i < hi → label hs i ≡ 0 → visited ranked (to hs i) ≡ false → ends_visited hs ranked v ≡ false
     unfolding ends_visited past_of
     ends_fails i l m q e =
         let k : i < count hs = row_within i m in
-        all_fails fine (count hs) k (or_no (not_yes (labelled_yes hs v 0 i (range_only hs up v k (rw lo-is at l) (rw hi-is at m)) q)) e)
+        all_fails fine (count hs) k (or_no (not_yes (labelled_yes hs v 0 i (range_only hs up v k (rw lo_is at l) (rw hi_is at m)) q)) e)
 
     -- where no silent one stands at i, none stands from there on
     pub ends_all : (i : ℕ) → lo ≤ i → (i < hi → label hs i ≡ 0 → ⊥) → ((j : ℕ) → lo ≤ j → j < i → visited ranked (to hs j) ≡ true) → ends_visited hs ranked v ≡ true
@@ -65,13 +65,13 @@ module _ (hs ranked : List ℕ) (v : ℕ) where
         go : (j < i) ⊎ (i ≤ j) → j < i
         go (inl k) = k
         go (inr k) =
-            let (w, d) = labelled_only hs up v 0 {i = i} (omega (arith, lo-is, silent_first hs v)) (omega arith) in
-            absurd (g (omega (arith, hi-is, labelled_past_lem hs up v 0)) (labelled_parts hs v 0 i d).1)
+            let (w, d) = labelled_only hs up v 0 {i = i} (omega (arith, lo_is, silent_first hs v)) (omega arith) in
+            absurd (g (omega (arith, hi_is, labelled_past_lem hs up v 0)) (labelled_parts hs v 0 i d).1)
 
       out : (j : ℕ) → j < count hs → fine j ≡ false → (lo ≤ j) × (j < i)
       out j k e = go (decided (labelled hs v 0 j)) where
         go : (labelled hs v 0 j ≡ true) ⊎ (labelled hs v 0 j ≡ false) → (lo ≤ j) × (j < i)
-        go (inl d) = let (a, b) = labelled_holds hs up v 0 k d in (omega (arith, lo-is, silent_first hs v), before j b)
+        go (inl d) = let (a, b) = labelled_holds hs up v 0 k d in (omega (arith, lo_is, silent_first hs v), before j b)
         go (inr d) = clash (or_left (visited ranked (to hs j)) (not_no d)) e
 
 -- no state is ranked at first

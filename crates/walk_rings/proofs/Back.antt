@@ -25,10 +25,10 @@ use Rattle.walk_silent.proofs.Rings.{ring_walk, walk_ring}
 module _ (hs : List ℕ) where
   -- a walk back to s from the end of one of its hops, cut before its last hop
   pub ring_last : (s : ℕ) → OnRing hs s → (u : ℕ) × Leads hs s u × SilentOf hs u s
-  ring_last s (t, r, w) = cut stay r w where
-    cut : {a m : ℕ} → Leads hs s a → SilentOf hs a m → Leads hs m s → (u : ℕ) × Leads hs s u × SilentOf hs u s
-    cut {a} p r stay = (a, p, r)
-    cut p r (go r' q) = cut (join p (one r)) r' q
+  ring_last s (t, r, w) = cut w stay r where
+    cut : {a m : ℕ} → Leads hs m s → Leads hs s a → SilentOf hs a m → (u : ℕ) × Leads hs s u × SilentOf hs u s
+    cut {a} stay p r = (a, p, r)
+    cut (go r' q) p r = cut q (join p (one r)) r'
 
   pub ring_first : (s u : ℕ) → Leads hs s u → SilentOf hs u s → OnRing hs s
   ring_first s u stay r = (s, r, stay)

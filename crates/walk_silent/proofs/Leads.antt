@@ -17,22 +17,22 @@ use Rattle.walk_silent.proofs.Hops.{silent_chosen, chosen_silent}
 
 module _ (hs : List ℕ) where
   pub leads_self : (k s : ℕ) → leads hs k s s ≡ true
-  leads_self = by.leads-self hs (silent_at hs)
+  leads_self = by.leads_self hs (silent_at hs)
 
   -- a bounded walk is a walk
   pub leads_walk : (k s t : ℕ) → leads hs k s t ≡ true → Leads hs s t
-  leads_walk k s t e = star_mono (chosen_silent hs) (by.leads-walk hs (silent_at hs) k s t e)
+  leads_walk k s t e = star_mono (chosen_silent hs) (by.leads_walk hs (silent_at hs) k s t e)
 
   -- what the bytes say of a state that a search along the silent hops leaves
   pub visited_leads : (bytes : List ℕ) → Chooses hs (silent_at hs) bytes → (n s : ℕ) (rest : List ℕ) {t : ℕ} → t < n →
       visited (reached_bytes hs (chosen_in bytes) n s ++ rest) t ≡ leads hs n s t
   unfolding Chooses
   visited_leads bytes e n s rest {t} l =
-      visited_reached hs (chosen_in bytes) n s rest t l ∙ by.leads-same hs (chosen_in bytes) (silent_at hs) e n s t
+      visited_reached hs (chosen_in bytes) n s rest t l ∙ by.leads_same hs (chosen_in bytes) (silent_at hs) e n s t
 
 module _ {sh : Shape} {hs : List ℕ} (ranged : InRange sh hs) where
   pub walk_leads : {s t : ℕ} → Leads hs s t → leads hs sh.states s t ≡ true
-  walk_leads w = by.walk-leads ranged (silent_at hs) (star_mono (silent_chosen hs) w)
+  walk_leads w = by.walk_leads ranged (silent_at hs) (star_mono (silent_chosen hs) w)
 
   pub leads_iff : (s t : ℕ) → (leads hs sh.states s t ≡ true) ↔ Leads hs s t
   leads_iff s t = (leads_walk hs sh.states s t, walk_leads)

@@ -75,7 +75,7 @@ module _ {hs : List ℕ} {v lo : ℕ} {sorted : List ℕ} {n : ℕ} where
   pub putting_done : {sorted' : List ℕ} {i r hi : ℕ} → Ascending hs → lo ≡ first_of hs v → hi ≡ first_of hs (v + 1) → Putting hs v lo sorted n sorted' i r →
       (i < hi → label hs i ≡ 0 → ⊥) → RowAppended hs v sorted n sorted' r
   unfolding past_of
-  putting_done {sorted'} {i} {r} {hi} up lo-is hi-is p g = record {
+  putting_done {sorted'} {i} {r} {hi} up lo_is hi_is p g = record {
     long = p.long;
     later = omega (arith, p.longer, p.passed);
     few = p.few;
@@ -87,11 +87,11 @@ module _ {hs : List ℕ} {v lo : ℕ} {sorted : List ℕ} {n : ℕ} where
     before : (j : ℕ) → j < labelled_past hs v 0 → (j < i) ⊎ (i ≤ j) → j < i
     before j m (inl k) = k
     before j m (inr k) =
-        let (w, d) = labelled_only hs up v 0 {i = i} (omega (arith, lo-is, silent_first hs v, p.passed)) (omega arith) in
-        absurd (g (omega (arith, hi-is, labelled_past_lem hs up v 0)) (labelled_parts hs v 0 i d).1)
+        let (w, d) = labelled_only hs up v 0 {i = i} (omega (arith, lo_is, silent_first hs v, p.passed)) (omega arith) in
+        absurd (g (omega (arith, hi_is, labelled_past_lem hs up v 0)) (labelled_parts hs v 0 i d).1)
 
     inside : (j : ℕ) → j < count hs → labelled hs v 0 j ≡ true → (lo ≤ j) × (j < i)
-    inside j l e = let (a, b) = labelled_holds hs up v 0 l e in (omega (arith, lo-is, silent_first hs v), before j b (lt_or_le j i))
+    inside j l e = let (a, b) = labelled_holds hs up v 0 l e in (omega (arith, lo_is, silent_first hs v), before j b (lt_or_le j i))
 
     there : (j : ℕ) → (lo ≤ j) × (j < i) → (k : ℕ) × (n ≤ k) × (k < r) × (get_or sorted' k 0 ≡ j)
     there j (a, b) =

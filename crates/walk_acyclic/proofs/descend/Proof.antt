@@ -46,27 +46,27 @@ start-of-requires c κs = omega (arith, low c)
 
 next-unentered-requires : tie.Need-next_unentered-i-requires invariant-loop decreases-loop
 next-unentered-requires c κs =
-    let s = start c.before.before.before.before in
-    (s.requires.0.admitted, (past-within c.before, s.requires.1.0))
+    let s = start c.before.before.before in
+    (s.requires.0.admitted, (past-within c, s.requires.1.0))
 
 returns : tie.Need-returns-then-past-i invariant-loop decreases-loop
 returns c = c.loop-left.invariant
 
 -- the state that it goes on to
-here : (c : tie.Else-past-i invariant-loop decreases-loop) → c.next_unentered-i.result < count (start c.before.before.before.before.before.before).args.hops.now
-here c = lt_of_lt_of_le c.if-past-i.false (past-within c.before.before.before)
+here : (c : tie.Else-past-i invariant-loop decreases-loop) → c.next_unentered-i.result < count (start c.before.before.before.before.before).args.hops.now
+here c = lt_of_lt_of_le c.if-past-i.false (past-within c.before.before)
 
 to-at-requires : tie.Need-to_at-top-requires invariant-loop decreases-loop
 to-at-requires c κs = here c
 
-next : (c : tie.After-to_at-top invariant-loop decreases-loop) → c.to_at-top.result.0 < (start c.before.before.before.before.before.before.before).args.shape.states
+next : (c : tie.After-to_at-top invariant-loop decreases-loop) → c.to_at-top.result.0 < (start c.before.before.before.before.before.before).args.shape.states
 next c =
-    let s = start c.before.before.before.before.before.before.before in
+    let s = start c.before.before.before.before.before.before in
     rw c.to_at-top.ensures (s.requires.0.admitted.range.to_in _ (here c.before))
 
 enter-requires : tie.Need-enter-requires invariant-loop decreases-loop
 enter-requires c κs =
-    let a = (start c.before.before.before.before.before.before.before.before.before).requires.0.admitted in
+    let a = (start c.before.before.before.before.before.before.before.before).requires.0.admitted in
     (lt_of_lt_of_le (next c.before.before) a.states_most, le_trans (le_of_lt (here c.before.before.before)) a.hops_most)
 
 wide-requires-2 : tie.Need-wide-requires-in-loop-left invariant-loop decreases-loop
@@ -74,7 +74,7 @@ wide-requires-2 c κs = tt
 
 start-of-requires-2 : tie.Need-start_of-i-requires invariant-loop decreases-loop
 start-of-requires-2 c κs =
-    let s = start c.before.before.before.before.before.before.before.before.before.before.before in
+    let s = start c.before.before.before.before.before.before.before.before.before.before in
     rw c.wide-in-loop-left.ensures (le_of_lt (lt_of_lt_of_le (next c.before.before.before.before) s.requires.0.admitted.states_most))
 
 sub-left : tie.Need-overflow_sub-left invariant-loop decreases-loop

@@ -60,13 +60,13 @@ module _ (c : tie.At-loop-i invariant-loop decreases-loop) where
       start_is start.args.hops.now start.args.starts.now start.requires.0.table (w.result + 1) (ap (λ (k : ℕ). k + 1) w.ensures) (omega (arith, low at-state)) c.start_of-past.ensures
 
   within : (i : ℕ) → i < c.start_of-past.result → i < count start.args.hops.now
-  within = row_within start.args.hops.now start.args.ranked.now start.args.v.0 start.requires.0.admitted.ascending lo-is hi-is
+  within = row_within start.args.hops.now start.args.ranked.now start.args.v.0 start.requires.0.admitted.ascending lo_is hi_is
 
   -- the way out at a place where no silent hop stands
   all_here : (c.loop-i.i < c.start_of-past.result → label start.args.hops.now c.loop-i.i ≡ 0 → ⊥) →
       ends_visited start.args.hops.now start.args.ranked.now start.args.v.0 ≡ true
   all_here g =
-      ends_all start.args.hops.now start.args.ranked.now start.args.v.0 start.requires.0.admitted.ascending lo-is hi-is c.loop-i.i c.loop-i.invariant.0 g c.loop-i.invariant.1
+      ends_all start.args.hops.now start.args.ranked.now start.args.v.0 start.requires.0.admitted.ascending lo_is hi_is c.loop-i.i c.loop-i.invariant.0 g c.loop-i.invariant.1
 
 label-at-requires : tie.Need-label_at-requires invariant-loop decreases-loop
 label-at-requires c κs = within c.before _ c.loop-i-test.true
@@ -81,9 +81,9 @@ wide-requires-2 : tie.Need-wide-at-requires invariant-loop decreases-loop
 wide-requires-2 c κs = search rules
 
 -- the hop that is looked at
-module _ (c : tie.After-shared_slice_known-in-loop-i-1 invariant-loop decreases-loop) where
+module _ (c : tie.After-wide-at invariant-loop decreases-loop) where
   abbrev turn : tie.At-loop-i invariant-loop decreases-loop
-  turn = c.before.before.before.before.before.before.before
+  turn = c.before.before.before.before.before.before
 
   here : turn.loop-i.i < count (start turn).args.hops.now
   here = within turn _ c.loop-i-test.true
@@ -93,29 +93,29 @@ module _ (c : tie.After-shared_slice_known-in-loop-i-1 invariant-loop decreases-
 
 shared-slice-read-if2 : tie.Need-bounds-ranked-at invariant-loop decreases-loop
 shared-slice-read-if2 c =
-    let s = start (turn c) in
-    omega (arith, end_is c, s.requires.0.admitted.range.to_in _ (here c), s.requires.1.0)
+    let s = start (turn c.before) in
+    omega (arith, end_is c.before, s.requires.0.admitted.range.to_in _ (here c.before), s.requires.1.0)
 
 returns-2 : tie.Need-returns-then-ranked-at-ne1 invariant-loop decreases-loop
 returns-2 c =
-    let a = turn c.before in
+    let a = turn c.before.before in
     let s = start a in
     sym
-    (ends_fails s.args.hops.now s.args.ranked.now s.args.v.0 s.requires.0.admitted.ascending (lo-is a) (hi-is a) a.loop-i.i a.loop-i.inv.0
+    (ends_fails s.args.hops.now s.args.ranked.now s.args.v.0 s.requires.0.admitted.ascending (lo_is a) (hi_is a) a.loop-i.i a.loop-i.invariant.0
     c.loop-i-test.true
     (sym c.label_at.ensures ∙ c.if-label_at-ne0.false)
-    (rw (← end_is c.before) (visited_no _ _ c.if-ranked-at-ne1.true)))
+    (rw (← end_is c.before.before) (visited_no _ _ c.if-ranked-at-ne1.true)))
 
 add-i : tie.Need-overflow_add-i invariant-loop decreases-loop
-add-i c = omega (arith, here c.before)
+add-i c = omega (arith, here c.before.before)
 
 loop-less : tie.Need-loop-i-smaller invariant-loop decreases-loop
 loop-less c = omega (arith, c.loop-i-test.true)
 
 loop-again : tie.Need-loop-i-preserved invariant-loop decreases-loop
 loop-again c =
-    let i = (turn c.before).loop-i.inv in
-    (omega (arith, i.0), range_more i.1 (rw (← end_is c.before) (visited_yes _ _ c.if-ranked-at-ne1.false)))
+    let i = (turn c.before.before).loop-i.invariant in
+    (omega (arith, i.0), range_more i.1 (rw (← end_is c.before.before) (visited_yes _ _ c.if-ranked-at-ne1.false)))
 
 returns-3 : tie.Need-returns invariant-loop decreases-loop
 returns-3 c = sym (all_here c.before (λ l e. omega (arith, c.loop-i-test.false)))

@@ -25,10 +25,10 @@ module _ (o : tie.After-rank_once-first invariant-loop decreases-loop) where
   abbrev start : tie.Start invariant-loop decreases-loop
   start = o.before.before.before.before
 
-  same : length o.rank_once-first.last.1.1.1.0 ≡ length start.args.ranked.now
-  same = o.rank_once-first.kept.ranked
+  same : length o.rank_once-first.new.ranked ≡ length start.args.ranked.now
+  same = o.rank_once-first.auto.ranked
 
-  ranks : Ranks start.args.hops.now start.args.shape.states o.rank_once-first.last.1.1.1.0
+  ranks : Ranks start.args.hops.now start.args.shape.states o.rank_once-first.new.ranked
   ranks = ranks_later start.requires.1 same o.rank_once-first.ensures
 
 cast-v : tie.Need-overflow_cast-v invariant-loop decreases-loop
@@ -64,7 +64,7 @@ turn c = c.before.before.before.before.before.before.before
 add-got : tie.Need-overflow_add-got invariant-loop decreases-loop
 add-got c =
     let a = turn c in
-    omega (arith, ranked_within (ranked_join a.loop-v.inv.2 c.rank_from-got.ensures), (start (once a)).requires.0.admitted.states_most)
+    omega (arith, ranked_within (ranked_join a.loop-v.invariant.2 c.rank_from-got.ensures), (start (once a)).requires.0.admitted.states_most)
 
 loop-less : tie.Need-loop-v-smaller invariant-loop decreases-loop
 loop-less c = omega (arith, c.loop-v-test.true)

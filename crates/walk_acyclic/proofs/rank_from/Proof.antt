@@ -47,7 +47,7 @@ start-of-requires c κs =
     rw c.wide.ensures (le_of_lt (lt_of_lt_of_le s.requires.1.0 s.requires.0.admitted.states_most))
 
 abbrev start : tie.At-loop-left invariant-loop decreases-loop → tie.Start invariant-loop decreases-loop
-start a = a.before.before.before.before.before.before.before.before.before.before.before.before.before
+start a = a.before.before.before.before.before.before.before.before.before.before.before
 
 loop-holds : tie.Need-loop-left-init invariant-loop decreases-loop
 loop-holds c =
@@ -59,43 +59,43 @@ ranks a = ranks_later (start a).requires.1.1 a.loop-left.invariant.1 a.loop-left
 
 descend-requires : tie.Need-descend-top-requires invariant-loop decreases-loop
 descend-requires c κs =
-    let a = c.before.before.before.before in
+    let a = c.before.before.before in
     ((start a).requires.0, ((ranks a).capacity, a.loop-left.invariant.0))
 
 rank-one-requires : tie.Need-rank_one-got-requires invariant-loop decreases-loop
 rank-one-requires c κs =
-    let a = c.before.before.before.before.before.before in
+    let a = c.before.before.before.before.before in
     ((start a).requires.0, (c.descend-top.ensures, ranks a))
 
 -- after one state more is left
 module _ (c : tie.After-slice_known-in-loop-left-1 invariant-loop decreases-loop) where
   abbrev turn : tie.At-loop-left invariant-loop decreases-loop
-  turn = c.before.before.before.before.before.before.before.before.before
+  turn = c.before.before.before.before.before.before.before.before
 
   abbrev after : List ℕ
   after = c.rank_one-got.new.ranked
 
   same : length after ≡ length (start turn).args.ranked.now
-  same = c.rank_one-got.auto.ranked ∙ turn.loop-left.inv.1
+  same = c.rank_one-got.auto.ranked ∙ turn.loop-left.invariant.1
 
   joined : Ranked (start turn).args.hops.now (start turn).args.shape.states (start turn).args.ranked.now after (turn.loop-left.got + c.rank_one-got.result)
-  joined = ranked_join turn.loop-left.inv.2 c.rank_one-got.ensures
+  joined = ranked_join turn.loop-left.invariant.2 c.rank_one-got.ensures
 
 add-got : tie.Need-overflow_add-got invariant-loop decreases-loop
 add-got c = omega (arith, le_trans (ranked_within (joined c)) (start (turn c)).requires.0.admitted.states_most)
 
 entry-place-requires : tie.Need-entry_place-i-requires invariant-loop decreases-loop
-entry-place-requires c κs = lt_of_lt_of_le c.descend-top.ensures (start (turn c.before)).requires.0.admitted.states_most
+entry-place-requires c κs = lt_of_lt_of_le c.descend-top.ensures (start (turn c)).requires.0.admitted.states_most
 
 same-length-2 : tie.Need-shape_of-ranked-then-none-i invariant-loop decreases-loop
-same-length-2 c = same c.before.before.before
+same-length-2 c = same c.before.before
 
 returns-2 : tie.Need-returns-then-none-i invariant-loop decreases-loop
-returns-2 c = joined c.before.before.before
+returns-2 c = joined c.before.before
 
 -- the hop by which the state was entered
-way : (c : tie.Else-none-i invariant-loop decreases-loop) → c.entry_IsPlace.result < count (start (turn c.before.before.before)).args.hops.now
-way c = rw (turn c.before.before.before).before.hop_count-none.ensures at c.if-none-i.false
+way : (c : tie.Else-none-i invariant-loop decreases-loop) → c.entry_place-i.result < count (start (turn c.before.before)).args.hops.now
+way c = rw (turn c.before.before).before.hop_count-none.ensures at c.if-none-i.false
 
 from-at-requires : tie.Need-from_at-from-requires invariant-loop decreases-loop
 from-at-requires c κs = way c
@@ -111,7 +111,7 @@ loop-less c = omega (arith, c.loop-left-test.true)
 
 loop-again : tie.Need-loop-left-preserved invariant-loop decreases-loop
 loop-again c =
-    let k = c.before.before.before.before in
+    let k = c.before.before.before in
     (rw c.from_at-from.ensures ((start (turn k)).requires.0.admitted.range.from_in _ (way c.before)), same k, joined k)
 
 same-length-3 : tie.Need-shape_of-ranked invariant-loop decreases-loop

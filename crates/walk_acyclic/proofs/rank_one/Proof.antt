@@ -37,7 +37,7 @@ returns-2 : tie.Need-returns-then-not-ends_ranked
 returns-2 c = ranked_none _ c.requires.1.1.unringed
 
 slice-write-ranked : tie.Need-bounds-ranked-at-2
-slice-write-ranked c = within c.before.before.before.before.before.before.before.before
+slice-write-ranked c = within c.before.before.before.before.before.before.before
 
 same-length-2 : tie.Need-shape_of-ranked
 same-length-2 c = simp length-set

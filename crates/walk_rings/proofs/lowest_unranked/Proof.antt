@@ -53,7 +53,7 @@ is-on-ring-requires c κs =
     let l = c.before.before.before in
     let p = (start l).requires in
     let i = l.loop-s.invariant in (
-      record { chosen = record { tabled = p.0; byte_a_hop = omega (arith, slice-aggregate-is-on-ring c.before.before, p.0.admitted.hops_most) }; silent = l.silent_bytes-silent.ensures },
+      record { chosen = record { tabled = p.0; byte_a_hop = omega (arith, p.0.admitted.hops_most) }; silent = l.silent_bytes-silent.ensures },
       (below l, (p.1, record { seen_capacity = omega (arith, i.2, p.0.admitted.states_most); queue_capacity = omega (arith, i.3, p.0.admitted.states_most) })),
     )
 

@@ -46,7 +46,7 @@ place-one-requires c κs =
 add-k : tie.Need-overflow_add-k invariant-loop decreases-loop
 add-k c =
     let w = c in
-    omega (arith, w.loop-k-test.true, (start w.before).requires.0.admitted.states_most)
+    omega (arith, w.loop-k-test.true, (start c.before.before.before.before.before.before.before).requires.0.admitted.states_most)
 
 loop-less : tie.Need-loop-k-smaller invariant-loop decreases-loop
 loop-less c = omega (arith, c.loop-k-test.true)
@@ -55,7 +55,7 @@ loop-again : tie.Need-loop-k-preserved invariant-loop decreases-loop
 loop-again c =
     let p = c.place_one-got in
     let t = c in
-    let a = t.before.before in
+    let a = c.before.before.before.before.before.before.before in
     (p.auto.placed ∙ a.loop-k.invariant.0, p.ensures.0, placed_or_stuck_more (start a).args.shape.states (start a).args.down a.loop-k.k t.pass_state.ensures a.loop-k.invariant.2 p.ensures.1)
 
 same_length : tie.Need-shape_of-placed invariant-loop decreases-loop

@@ -45,12 +45,12 @@ returns-2 c =
     (s.requires.1.1, placed_or_stuck_unready _ _ _ _ (sym {b = ends_visited s.args.hops.now s.args.placed.now s.args.v.0} c.ends_ranked.ensures ∙ not-true _ c.if-not-ends_ranked.true-raw))
 
 slice-write-placed : tie.Need-bounds-placed-s-2
-slice-write-placed c = byte c.before.before.before.before.before.before.before.before
+slice-write-placed c = byte c.before.before.before.before.before.before.before
 
 -- v is not placed, and can be
 module _ (c : tie.Else-not-ends_ranked) where
   abbrev start : tie.Start
-  start = c.before.before.before.before.before.before.before.before
+  start = c.before.before.before.before.before.before.before
 
   off : visited start.args.placed.now start.args.v.0 ≡ false
   off = visited_no _ _ c.if-placed-s-eq1.false

@@ -53,7 +53,7 @@ module _ (c : tie.After-start_of-i invariant-loop decreases-loop) where
   hi_is = start_is start.args.hops.now start.args.starts.now start.requires.0.table (state + 1) refl (omega (arith, low c.before.before)) c.start_of-past.ensures
 
 loop-holds : tie.Need-loop-i-init invariant-loop decreases-loop
-loop-holds c = putting_none (omega (arith, lo-is c, first_within (start c).args.hops.now (start c).requires.0.admitted.ascending (state c)))
+loop-holds c = putting_none (omega (arith, lo_is c, first_within (start c).args.hops.now (start c).requires.0.admitted.ascending (state c)))
 
 -- a hop of v
 module _ (c : tie.In-loop-i invariant-loop decreases-loop) where
@@ -61,7 +61,7 @@ module _ (c : tie.In-loop-i invariant-loop decreases-loop) where
   first = c.before.before
 
   here : c.loop-i.i < count (start first).args.hops.now
-  here = omega (arith, c.loop-i-test.true, hi-is first, first_within (start first).args.hops.now (start first).requires.0.admitted.ascending (state first + 1))
+  here = omega (arith, c.loop-i-test.true, hi_is first, first_within (start first).args.hops.now (start first).requires.0.admitted.ascending (state first + 1))
 
 label-at-requires : tie.Need-label_at-requires invariant-loop decreases-loop
 label-at-requires c κs = here c
@@ -72,7 +72,7 @@ done : (c : tie.At-loop-i invariant-loop decreases-loop) →
     RowAppended (start c.before).args.hops.now (start c.before).args.v.0 (start c.before).args.sorted.now (start c.before).args.n c.loop-i.sorted c.loop-i.at
 done c g =
     let f = c.before in
-    put_result _ f.wide-s.ensures (putting_done (start f).requires.0.admitted.ascending (lo-is f) (hi-is f) c.loop-i.invariant g)
+    put_result _ f.wide-s.ensures (putting_done (start f).requires.0.admitted.ascending (lo_is f) (hi_is f) c.loop-i.invariant g)
 
 returns : tie.Need-returns-then-label_at-ne0 invariant-loop decreases-loop
 returns c = done c.before.before.before.before (λ l e. c.if-label_at-ne0.true (c.label_at.ensures ∙ e))
@@ -87,12 +87,12 @@ module _ (c : tie.Else-label_at-ne0 invariant-loop decreases-loop) where
   own =
       let s = start (first pass-state) in
       labelled_yes s.args.hops.now (state (first pass-state)) 0 pass-state.loop-i.i
-      (range_only s.args.hops.now s.requires.0.admitted.ascending (state (first pass-state)) (here pass-state) (omega (arith, lo-is (first pass-state), pass-state.loop-i.inv.passed))
-      (omega (arith, hi-is (first pass-state), pass-state.loop-i-test.taken)))
+      (range_only s.args.hops.now s.requires.0.admitted.ascending (state (first pass-state)) (here pass-state) (omega (arith, lo_is (first pass-state), pass-state.loop-i.invariant.passed))
+      (omega (arith, hi_is (first pass-state), pass-state.loop-i-test.true)))
       (sym c.label_at.ensures ∙ c.if-label_at-ne0.false)
 
   capacity : pass-state.loop-i.at < count (start (first pass-state)).args.hops.now
-  capacity = omega (arith, putting_capacity pass-state.loop-i.inv (here pass-state) own, row_result (start (first pass-state)).args.hops.now (first pass-state).before.wide-s.ensures, (start (first pass-state)).requires.1.1.0)
+  capacity = omega (arith, putting_capacity pass-state.loop-i.invariant (here pass-state) own, row_result (start (first pass-state)).args.hops.now (first pass-state).before.wide-s.ensures, (start (first pass-state)).requires.1.1.0)
 
   low-capacity : pass-state.loop-i.at < most_hops
   low-capacity = omega (arith, capacity, (start (first pass-state)).requires.0.admitted.hops_most)
@@ -104,19 +104,19 @@ mul-sorted : tie.Need-offset_bounds-sorted-at invariant-loop decreases-loop
 mul-sorted c = omega (arith, low-capacity c)
 
 element-write-sorted : tie.Need-bounds-sorted-at invariant-loop decreases-loop
-element-write-sorted c = low-capacity c
+element-write-sorted c = low-capacity c.before
 
 add_at : tie.Need-overflow_add-at invariant-loop decreases-loop
-add_at c = omega (arith, low-capacity c)
+add_at c = omega (arith, low-capacity c.before)
 
 add-i : tie.Need-overflow_add-i invariant-loop decreases-loop
-add-i c = omega (arith, here (pass-state c), (start (first (pass-state c))).requires.0.admitted.hops_most)
+add-i c = omega (arith, here (pass-state c.before), (start (first (pass-state c.before))).requires.0.admitted.hops_most)
 
 loop-less : tie.Need-loop-i-smaller invariant-loop decreases-loop
-loop-less c = omega (arith, (pass-state c).loop-i-test.true)
+loop-less c = omega (arith, (pass-state c.before).loop-i-test.true)
 
 loop-again : tie.Need-loop-i-preserved invariant-loop decreases-loop
-loop-again c = putting_more (pass-state c).before.loop-i.invariant (here (pass-state c)) (own c) (omega (arith, capacity c, (start (first (pass-state c))).requires.1.1.1))
+loop-again c = putting_more (pass-state c.before).before.loop-i.invariant (here (pass-state c.before)) (own c.before) (omega (arith, capacity c.before, (start (first (pass-state c.before))).requires.1.1.1))
 
 returns-2 : tie.Need-returns invariant-loop decreases-loop
 returns-2 c = done c.before (λ l e. omega (arith, c.loop-i-test.false))
