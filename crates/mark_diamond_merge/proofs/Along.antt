@@ -32,7 +32,7 @@ module _ (hs : List ℕ) (up : Ascending hs) where
   ends_rise : {s a at past : ℕ} → Row hs s a at past → {k i : ℕ} → at ≤ k → k < i → i < past → label hs k ≡ a → label hs i ≡ a → to hs k < to hs i
   ends_rise row {k} {i} l m n p q = go (before_below (hop_at hs k) (hop_at hs i) (ascending_lt hs up i m (omega (arith, row.within)))) where
     go : Below (hop_at hs k) (hop_at hs i) → to hs k < to hs i
-    go (inl d) = absurd (omega (arith, row.own_val k l (omega arith), row.own_val i (omega arith) n))
+    go (inl d) = absurd (omega (arith, row.own k l (omega arith), row.own i (omega arith) n))
     go (inr (d, inl e)) = absurd (omega arith)
     go (inr (d, inr (e, f))) = f
 

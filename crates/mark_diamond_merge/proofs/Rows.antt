@@ -30,7 +30,7 @@ module _ (hs : List ℕ) (up : Ascending hs) where
   pub row_answers : (u : Pairs) (s a s3 : ℕ) {at past : ℕ} → Row hs s a at past → {k s4 : ℕ} {v : Bool} → at ≤ k → k < past → label hs k ≡ a →
       s4 ≡ to hs k → v ≡ closing u s3 s4 → v ≡ true → true ≡ hop_answers hs (closing u) s a s3
   row_answers u s a s3 row {k} l m q t e d =
-      sym (hop_answers_lem hs u s a s3 (omega (arith, row.within)) (labelled_yes hs s a k (row.own_val k l m) q) (closing_is u s3 t e d))
+      sym (hop_answers_lem hs u s a s3 (omega (arith, row.within)) (labelled_yes hs s a k (row.own k l m) q) (closing_is u s3 t e d))
 
   -- the walk over a row stops at a place k: none before it closes s3, and the one there, if any,
   -- has another label. So no hop answers.
@@ -45,7 +45,7 @@ module _ (hs : List ℕ) (up : Ascending hs) where
     late j b m n e =
         let (p, q) = labelled_parts hs s a j e in
         let w : k < past = omega arith in
-        let d : from hs k ≡ from hs j = row.own_val k l w ∙ sym p in
+        let d : from hs k ≡ from hs j = row.own k l w ∙ sym p in
         let h : label hs k ≤ label hs j = ascending_label n (omega (arith, row.within)) d in
         g w (omega (arith, row.low k l w))
 

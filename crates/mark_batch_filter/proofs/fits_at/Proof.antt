@@ -38,7 +38,7 @@ mul_holds : tie.Need-offset_bounds-answers-wide
 mul_holds c = search rules
 
 element-copy-out-holds : tie.Need-bounds-answers-wide
-element-copy-out-holds c = (end c).1
+element-copy-out-holds c = (end c.before).1
 
 wide-requires-2 : tie.Need-wide-requires-2
 wide-requires-2 c κs = search rules
@@ -47,7 +47,7 @@ mul-holds-2 : tie.Need-offset_bounds-froms-wide
 mul-holds-2 c = search rules
 
 element-copy-out-holds-2 : tie.Need-bounds-froms-wide
-element-copy-out-holds-2 c = (begin c).1
+element-copy-out-holds-2 c = (begin c.before).1
 
 holds-requires : tie.Need-holds-requires
 holds-requires c κs = search rules
@@ -57,7 +57,7 @@ unfolding fits bit_in
 returns c =
     let st = c in
     c.holds.ensures ∙ ap₂ (λ (x y : ℕ). all word_bits (λ (b : ℕ). not (bit_at (get_or st.args.froms.now x 0) b) || bit_at (get_or st.args.answers.now y 0) b))
-    (begin c.before.before).0 (end c.before.before.before.before).0
+    (begin c.before.before.before).0 (end c.before.before.before.before.before.before).0
 
 pub fits_at_spec : {M : Type 1} → statement M
 fits_at_spec =

@@ -32,7 +32,7 @@ visit-at-requires c κs = search rules
 -- the place visited is one of the order
 module _ (c : tie.After-visit_at invariant-loop decreases-loop) where
   abbrev start : tie.Start invariant-loop decreases-loop
-  start = c.before.before.before.before.before.before.before.before
+  start = c.before.before.before.before.before.before.before
 
   below : c.visit_at.result < start.args.n
   below = omega (arith, c.visit_at.ensures, visit_below start.args.down c.loop-k-test.true)
@@ -43,8 +43,8 @@ place-at-requires c κs = omega (arith, below c, (start c).requires.1.0.capacity
 step-at-requires : tie.Need-step_at-requires invariant-loop decreases-loop
 step-at-requires c κs =
     let p = c in
-    let r = (start p.before).requires in
-    (r.0, (r.1.1, omega (arith, p.place_at.ensures, r.1.0.within p.visit_at.result (below p.before))))
+    let r = (start c.before.before).requires in
+    (r.0, (r.1.1, omega (arith, p.place_at.ensures, r.1.0.within p.visit_at.result (below c.before.before))))
 
 add-k : tie.Need-overflow_add-k invariant-loop decreases-loop
 add-k c = omega arith
@@ -55,7 +55,7 @@ loop-less c = omega arith
 loop-again : tie.Need-loop-k-preserved invariant-loop decreases-loop
 loop-again c =
     let p = c in
-    let v = p.before in
+    let v = c.before.before.before in
     let a = (start v).args in
     let loop = v.loop-k in (
       omega arith,

@@ -56,16 +56,16 @@ mul-pending : tie.Need-offset_bounds-touched-wide invariant-loop decreases-loop
 mul-pending c = omega (arith, begin c.before c.wide.ensures)
 
 element-copy-out-pending : tie.Need-bounds-touched-wide invariant-loop decreases-loop
-element-copy-out-pending c = begin c.before c.wide.ensures
+element-copy-out-pending c = begin c.before.before c.wide.ensures
 
 wide-requires-2 : tie.Need-wide-requires-then-lost_mark invariant-loop decreases-loop
 wide-requires-2 c κs = search rules
 
 mul-pending-2 : tie.Need-offset_bounds-touched-wide-then-lost_mark invariant-loop decreases-loop
-mul-pending-2 c = omega (arith, end c.before.before.before c.wide-then-lost_mark.ensures)
+mul-pending-2 c = omega (arith, end c.before.before.before.before c.wide-then-lost_mark.ensures)
 
 element-copy-out-pending-2 : tie.Need-bounds-touched-wide-then-lost_mark invariant-loop decreases-loop
-element-copy-out-pending-2 c = end c.before.before.before c.wide-then-lost_mark.ensures
+element-copy-out-pending-2 c = end c.before.before.before.before c.wide-then-lost_mark.ensures
 
 add-i : tie.Need-overflow_add-i invariant-loop decreases-loop
 add-i c = omega arith

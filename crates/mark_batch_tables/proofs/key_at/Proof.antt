@@ -22,13 +22,13 @@ to-at-requires : tie.Need-to_at-requires
 to-at-requires c κs = search rules
 
 returns : tie.Need-returns-in-From
-returns c = rw c.enum_told-1.given.1 c.from_at.ensures
+returns c = rw c.in-From.is c.from_at.ensures
 
 returns-2 : tie.Need-returns-in-Label
-returns-2 c = rw c.enum_told-in-Label-1.given.1 c.label_at.ensures
+returns-2 c = rw c.in-Label.is c.label_at.ensures
 
 returns-3 : tie.Need-returns-in-To
-returns-3 c = rw c.enum_told-in-To-1.given.1 c.to_at.ensures
+returns-3 c = rw c.in-To.is c.to_at.ensures
 
 pub key_at_spec : {M : Type 1} → statement M
 key_at_spec =

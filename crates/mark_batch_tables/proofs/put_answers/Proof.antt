@@ -36,7 +36,7 @@ hop-at-requires c κs = omega arith
 -- the hop at hand: its numbers, as they index the tables
 module _ (c : tie.After-hop_at-h invariant-loop decreases-loop) where
   abbrev start : tie.Start invariant-loop decreases-loop
-  start = c.before.before.before.before.before.before.before.before.before
+  start = c.before.before.before.before.before.before.before.before
 
   abbrev place : ℕ
   place = c.loop-i.i
@@ -66,28 +66,28 @@ mul-out : tie.Need-offset_bounds-ends-wide invariant-loop decreases-loop
 mul-out c = omega (arith, (end_is c.before c.wide.ensures).1)
 
 element-copy-out-out : tie.Need-bounds-ends-wide invariant-loop decreases-loop
-element-copy-out-out c = (end_is c.before c.wide.ensures).1
+element-copy-out-out c = (end_is c.before.before c.wide.ensures).1
 
 wide-requires-2 : tie.Need-wide-requires-in-loop-i invariant-loop decreases-loop
 wide-requires-2 c κs = search rules
 
 mul-out-2 : tie.Need-offset_bounds-labels-wide invariant-loop decreases-loop
-mul-out-2 c = omega (arith, (label_is c.before.before.before c.wide-in-loop-i.ensures).1)
+mul-out-2 c = omega (arith, (label_is c.before.before.before.before c.wide-in-loop-i.ensures).1)
 
 element-copy-out-out-2 : tie.Need-bounds-labels-wide invariant-loop decreases-loop
-element-copy-out-out-2 c = (label_is c.before.before.before c.wide-in-loop-i.ensures).1
+element-copy-out-out-2 c = (label_is c.before.before.before.before.before c.wide-in-loop-i.ensures).1
 
 wide-requires-3 : tie.Need-wide-requires-in-loop-i-2 invariant-loop decreases-loop
 wide-requires-3 c κs = search rules
 
 mul-out-3 : tie.Need-offset_bounds-out-wide invariant-loop decreases-loop
-mul-out-3 c = omega (arith, (begin_is c.before.before.before.before.before c.wide-in-loop-i-2.ensures).1)
+mul-out-3 c = omega (arith, (begin_is c.before.before.before.before.before.before.before c.wide-in-loop-i-2.ensures).1)
 
 element-copy-out-out-3 : tie.Need-bounds-out-wide invariant-loop decreases-loop
-element-copy-out-out-3 c = (begin_is c.before.before.before.before.before c.wide-in-loop-i-2.ensures).1
+element-copy-out-out-3 c = (begin_is c.before.before.before.before.before.before.before.before c.wide-in-loop-i-2.ensures).1
 
 element-write-out : tie.Need-bounds-out-wide-in-loop-i invariant-loop decreases-loop
-element-write-out c = (begin_is c.before.before.before.before.before.before c.wide-in-loop-i-2.ensures).1
+element-write-out c = (begin_is c.before.before.before.before.before.before.before.before.before c.wide-in-loop-i-2.ensures).1
 
 add-i : tie.Need-overflow_add-i invariant-loop decreases-loop
 add-i c = omega arith
@@ -97,7 +97,7 @@ loop-less c = omega arith
 
 loop-again : tie.Need-loop-i-preserved invariant-loop decreases-loop
 loop-again c =
-    let h = c.before.before.before.before.before.before in
+    let h = c.before.before.before.before.before.before.before.before.before in
     let v = c.loop-i in
     let (ef, lf) = begin_is h c.wide-in-loop-i-2.ensures in
     let (et, lt) = end_is h c.wide.ensures in

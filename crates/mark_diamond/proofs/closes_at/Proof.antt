@@ -161,8 +161,8 @@ loop-again c =
       ⊎_elim (λ x. rw x.at-is (walk_pass _ up _ _ _ _ (walk_skip _ up _ _ _ _ w l (rw x.label_at-a.ensures at x.skip-at.ensures)) l)) (λ x. rw x.at-is (walk_pass _ up _ _ _ _ w l)) c.if-not-stays.branch-raw,
       ⊎_elim (λ x. beside_next _ up _ _ _ _ w.own l v (rw (x.hop_of.ensures, x.label_at-a.ensures, x.to_at.ensures, t)) x.find_ahead-found.ensures (x.same-is ∙ x.place_of-same.ensures))
           (λ x. rw x.same-is (λ i m n. v i (omega arith) n)) c.if-not-stays.branch-raw,
-      ⊎_elim (λ x. tried_next _ up _ _ w.own l _ _ t x.is_answered_unless_alike.ensures x.if-not-is_answered_unless_alike.false f)
-          (λ x. tried_next _ up _ _ w.own l _ _ t (answered_stays _ _ _ _ c.stays.ensures (not-false _ x.if-not-stays.false)) refl f) c.if-not-stays.branch-raw,
+      ⊎_elim (λ x. tried_next _ up _ _ w.own l _ _ t x.is_answered_unless_alike.ensures x.if-not-is_answered_unless_alike.false-raw f)
+          (λ x. tried_next _ up _ _ w.own l _ _ t (answered_stays _ _ _ _ c.stays.ensures (not-false _ x.if-not-stays.false-raw)) refl f) c.if-not-stays.branch-raw,
     )
 
 returns-2 : tie.Need-returns invariant-loop decreases-loop

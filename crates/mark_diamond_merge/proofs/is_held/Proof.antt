@@ -8,14 +8,14 @@ enum-known-found : tie.Need-enum_known-found
 enum-known-found c = search rules
 
 shared-slice-read-result : tie.Need-bounds-marks-p
-shared-slice-read-result c = c.requires _ c.found-1.given.1
+shared-slice-read-result c = c.requires _ c.in-At.is
 
 enum_told : tie.Need-enum_told-1
 enum_told c = search rules
 
 returns : tie.Need-returns-in-At
 unfolding is_marked
-returns c = rw c.found-1.given.1
+returns c = rw c.in-At.is
 
 returns-2 : tie.Need-returns-in-Gap
 returns-2 c = search rules

@@ -21,7 +21,7 @@ enum-known-p c = search rules
 shared-slice-read-result : tie.Need-bounds-marks-p
 shared-slice-read-result c =
     let st = c in
-    omega (arith, (mark_set_found st.args.hops.now st.args.marks.now st.requires.0.ready.ascending _ _ c.hop_of.ensures c.find_row.ensures c.p-1.given.1).0)
+    omega (arith, (mark_set_found st.args.hops.now st.args.marks.now st.requires.0.ready.ascending _ _ c.hop_of.ensures c.find_row.ensures c.in-At.is).0)
 
 enum_told : tie.Need-enum_told-1
 enum_told c = search rules
@@ -30,11 +30,11 @@ returns : tie.Need-returns-in-At
 unfolding is_marked
 returns c =
     let st = c in
-    (mark_set_found _ _ st.requires.0.ready.ascending _ _ c.hop_of.ensures c.find_row.ensures c.p-1.given.1).1
+    (mark_set_found _ _ st.requires.0.ready.ascending _ _ c.hop_of.ensures c.find_row.ensures c.in-At.is).1
 
 returns-2 : tie.Need-returns-in-Gap
 returns-2 c =
-    mark_set_missing _ _ c.requires.0.ready.ascending _ _ c.hop_of.ensures c.find_row.ensures c.enum_told-1.given.1
+    mark_set_missing _ _ c.requires.0.ready.ascending _ _ c.hop_of.ensures c.find_row.ensures c.in-Gap.is
 
 pub holds_spec : {M : Type 1} → statement M
 holds_spec =

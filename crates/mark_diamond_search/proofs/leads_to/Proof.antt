@@ -22,12 +22,12 @@ enum-told-2 c = search rules
 
 returns : tie.Need-returns-in-At
 returns c =
-    rw c.hop_of.ensures at (sym (at_has _ _ (sym c.find_row.ensures ∙ c.enum_told-1.given.1)))
+    rw c.hop_of.ensures at (sym (at_has _ _ (sym c.find_row.ensures ∙ c.in-At.is)))
 
 returns-2 : tie.Need-returns-in-Gap
 returns-2 c =
     rw c.hop_of.ensures at
-    (sym (gap_has _ _ c.requires.0.ascending (sym c.find_row.ensures ∙ c.enum_told-in-Gap-1.given.1)))
+    (sym (gap_has _ _ c.requires.0.ascending (sym c.find_row.ensures ∙ c.in-Gap.is)))
 
 pub leads_to_spec : {M : Type 1} → statement M
 leads_to_spec =

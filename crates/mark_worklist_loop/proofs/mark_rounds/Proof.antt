@@ -70,7 +70,7 @@ returns-2 c =
     let td = c.test_first-lost.ensures in
     let m : count hs ≤ length c.unmark_fallen.new.marks = omega (arith, c.unmark_fallen.auto, c.start_marks.auto, st.requires.1.1) in
     let a = after_first hs _ _ st.requires.1.1 c.start_marks.ensures ls td (omega (arith, td.most, lists_most hs ls, st.requires.0.hops_most)) c.unmark_fallen.ensures m in
-    (c.later_rounds.ensures.0, marks_over hs (marked hs) (survives hs 1) st.args.marks.now a.marks-1 c.later_rounds.ensures.1)
+    (c.later_rounds.ensures.0, marks_over hs (marked hs) (survives hs 1) st.args.marks.now a.marks c.later_rounds.ensures.1)
 
 pub mark_rounds_spec : {M : Type 1} → statement M
 mark_rounds_spec =

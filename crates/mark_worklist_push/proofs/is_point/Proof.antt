@@ -26,12 +26,12 @@ enum-told-2 c = search rules
 returns-2 : tie.Need-returns-in-At
 returns-2 c =
     let st = c in
-    point_found _ st.requires.0.ascending _ _ _ c.hop_of.ensures c.find_row.ensures c.enum_told-1.given.1
+    point_found _ st.requires.0.ascending _ _ _ c.hop_of.ensures c.find_row.ensures c.in-At.is
 
 returns-3 : tie.Need-returns-in-Gap
 returns-3 c =
     let st = c in
-    point_missing _ st.requires.0.ascending _ _ _ c.hop_of.ensures c.find_row.ensures c.enum_told-in-Gap-1.given.1
+    point_missing _ st.requires.0.ascending _ _ _ c.hop_of.ensures c.find_row.ensures c.in-Gap.is
     (⊎_elim (λ w z e. w.if-s4-s2.false e) (λ w z e. w.if-a-eq0.false z) c.if-a-eq0.branch-raw)
 
 pub is_point_spec : {M : Type 1} → statement M

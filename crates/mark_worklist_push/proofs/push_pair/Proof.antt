@@ -22,7 +22,7 @@ enum_told c = search rules
 returns : tie.Need-returns-in_default
 returns c =
     let st = c in
-    pair_gap _ _ st.requires.0.given.ready.ascending _ _ c.hop_of.ensures c.find_row.ensures c.enum_told-1.given.1 st.requires.0.queue
+    pair_gap _ _ st.requires.0.given.ready.ascending _ _ c.hop_of.ensures c.find_row.ensures c.in_default.is st.requires.0.queue
 
 push-requires : tie.Need-push-requires
 push-requires c κs =
@@ -30,13 +30,13 @@ push-requires c κs =
     let i = st.requires.0 in
     let q = c.hop_of.ensures in
     let e = c.find_row.ensures in
-    let (w, z) = pair_there st.args.hops.now st.args.marks.now i.given.ready.ascending _ _ q e c.i-1.given.1 in
+    let (w, z) = pair_there st.args.hops.now st.args.marks.now i.given.ready.ascending _ _ q e c.in-At.is in
     (i.given.ready, (i.given.capacity, (i.queue, (w, z))))
 
 returns-2 : tie.Need-returns
 returns-2 c =
     let st = c in
-    pair_at _ _ st.requires.0.given.ready.ascending _ _ c.hop_of.ensures c.find_row.ensures c.i-1.given.1 c.push.ensures
+    pair_at _ _ st.requires.0.given.ready.ascending _ _ c.hop_of.ensures c.find_row.ensures c.in-At.is c.push.ensures
 
 pub push_pair_spec : {M : Type 1} → statement M
 push_pair_spec =

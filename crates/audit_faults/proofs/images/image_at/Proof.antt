@@ -69,10 +69,10 @@ cast-result-2 : tie.Need-overflow_cast-result-in-Gap
 cast-result-2 c = search rules
 
 returns : tie.Need-returns-in-At
-returns c = told c.before.before.before (At _) c.found-1.given.1
+returns c = told c.before (At _) c.found-1.given.1
 
 returns-2 : tie.Need-returns-in-Gap
-returns-2 c = told c.before.before (Gap _) c.enum_told-1.given.1
+returns-2 c = told c.before (Gap _) c.enum_told-1.given.1
 
 pub image_at_spec : {M : Type 1} → statement M
 image_at_spec =

@@ -20,7 +20,7 @@ wide-requires c κs = search rules
 -- what the function was called with, and the place that it read
 module _ (c : tie.After-wide) where
   abbrev start : tie.Start
-  start = c.before.before.before.before.before
+  start = c.before.before.before.before.before.before
 
   place_is : c.wide.result ≡ image_of start.args.hops1.now start.args.hops2.now start.args.map.now start.args.i
   unfolding Imaged
