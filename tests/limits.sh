@@ -3,7 +3,7 @@
 set -euo pipefail
 cd "$(dirname "$0")/.."
 
-archive=target/staticlib/libcapi.a
+archive=crates/capi/out/libcapi.a
 work=$(mktemp -d)
 trap 'rm -rf "$work"' EXIT
 

@@ -4,8 +4,8 @@
 set -euo pipefail
 cd "$(dirname "$0")/.."
 
-program=target/bin/zundrafipo
-[ -x "$program" ] || rt check zundrafipo >/dev/null
+program=crates/zundrafipo/out/zundrafipo
+[ -x "$program" ] || ./run >/dev/null
 work=$(mktemp -d)
 trap 'rm -rf "$work"' EXIT
 passed=0

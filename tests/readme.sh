@@ -6,7 +6,8 @@ set -euo pipefail
 cd "$(dirname "$0")/.."
 top=$PWD
 
-[ -x target/bin/zundrafipo ] || rt check zundrafipo >/dev/null
+program=crates/zundrafipo/out/zundrafipo
+[ -x "$program" ] || ./run >/dev/null
 tests/archive
 work=$(mktemp -d)
 trap 'rm -rf "$work"' EXIT
@@ -93,8 +94,8 @@ shown() {
 block README.md '```c' 'int main(void)' >"$work/p1.c"
 cp "$work/p1.c" "$work/p1.cpp"
 flags=(-Wall -Wextra -Werror -pedantic -I include)
-gcc -std=c99 "${flags[@]}" "$work/p1.c" -L target/staticlib -lcapi -o "$work/p1_c"
-g++ -std=c++17 "${flags[@]}" "$work/p1.cpp" -L target/staticlib -lcapi -o "$work/p1_cpp"
+gcc -std=c99 "${flags[@]}" "$work/p1.c" -L crates/capi/out -lcapi -o "$work/p1_c"
+g++ -std=c++17 "${flags[@]}" "$work/p1.cpp" -L crates/capi/out -lcapi -o "$work/p1_cpp"
 for kind in c cpp; do
     "$work/p1_$kind" >"$work/printed"
     shown "the C program ($kind)" "$work/printed"
@@ -146,7 +147,7 @@ same "the bytes of P1 with an initial state and a name" tests/program/p1_referen
 [ "$(wc -c <"$work/lined.zf")" -eq 39 ]
 same "the bytes of P1 with lines" tests/program/p1_lines.in "$work/lined.zf"
 printf 'in 2 1\nmap 0 0\nmap 1 1\nout 2 1 0\nhop 0 1 1 0\n' >"$work/expected"
-target/bin/zundrafipo <"$work/two.zf" >"$work/printed"
+"$program" <"$work/two.zf" >"$work/printed"
 same "the file written by hand" "$work/expected" "$work/printed"
 
 # rust/README.md: its program is the example p1, and its listings that have an output are run in rust/

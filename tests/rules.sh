@@ -19,7 +19,7 @@ none() {
 # one named line each
 none "lines of more than 160 characters" "$(grep -nE '^.{161,}$' crates/*/src/*.rt | grep -vE ':[0-9]+: *(\/\/|ghost use )' || true)"
 none "comments of more than 100 characters" "$(find crates \( -name '*.rt' -o -name '*.antt' \) -print0 | sort -z | xargs -0 grep -nE '^ *(//|--|pub mod |mod )' | grep -E '^[^:]*:[0-9]+:.{101,}$' || true)"
-none "a requires that asks several things" "$(grep -nE 'requires.*⌝ ∗ ⌜' crates/*/src/*.rt || true)"
+none "a requires that asks several things" "$(grep -nE 'requires.*( × | ∗ )' crates/*/src/*.rt || true)"
 
 # specs/ is what a reader must believe: what the entries' contracts and README's theorems cite, down to
 # the kit, lies in specs/*.antt, and nothing there is outside it
@@ -55,7 +55,7 @@ none "a hop's line looked at elsewhere" "$(grep -nE '(^|[^A-Za-z_])(lineAt|line_
 
 # the order of two hops is decided by their sums, in graph::order, and not by their numbers one by one.
 # (Labels and ends of two hops are compared for equality in marking: docs/DECISIONS.md, "Hops".)
-none "hops compared by their numbers" "$(grep -nE '\.(from|label|to)\>[^;⌜]*([<>]|[=!]=)[^;⌜]*\.(from|label|to)\>' crates/*/src/*.rt | grep -vE ':[0-9]+: *//' || true)"
+none "hops compared by their numbers" "$(grep -nE '\.(from|label|to)\>[^;]*([<>]|[=!]=)[^;]*\.(from|label|to)\>' crates/*/src/*.rt | grep -vE ':[0-9]+: *(//|requires|ensures)' || true)"
 
 # a hop is looked for by the search of graph, and by nothing else: sums are made there, and in row 4 of check
 none "hops looked for elsewhere than in graph" "$(grep -nE '(^|[^a-z_])(sum_of|is_below|is_same|is_hop_at)([^a-z_]|$)' crates/*/src/*.rt | grep -vE '^crates/(graph|graph_check)/' |
@@ -63,29 +63,6 @@ none "hops looked for elsewhere than in graph" "$(grep -nE '(^|[^a-z_])(sum_of|i
 
 # every module of a list has a word on it
 none "modules without a word" "$(grep -nE '^pub mod [A-Za-z]+ *$' crates/*/specs/Lib.antt crates/*/specs/Internal.antt crates/*/proofs/Lib.antt || true)"
-
-# The gate's time goes into edits, since each checks its crate again. Where the gate has just tried
-# them, their seconds are in target/: the edits of a crate take together at most twelve times what a
-# crate takes to prove on average, and all edits at most four times what all proofs take. The rule
-# of 25 processor seconds is three times the average proof; by the clock, where edits run four at a
-# time and proofs often alone, it is five times, and up to nine was seen beside other work. Each edit
-# counts as the fastest of its crate, so that one that had to wait does not break the rule.
-seconds() {
-    sed -nE 's/^rt: (must-fail )?([a-z_0-9]+)(\/[a-z_0-9]+: refused.*[ (]| proved \()([0-9]+) s\)$/\2 \4/p' "$@"
-}
-if compgen -G 'target/must-fail/*/*.out' >/dev/null; then
-    none "crates whose edits take too long (seconds, and what is allowed)" "$({
-        seconds target/log/*.out | sed 's/^/proof /'
-        seconds target/must-fail/*/*.out | sed 's/^/edit /'
-    } | awk '
-        $1 == "proof" { crates++; proofs += $3 }
-        $1 == "edit" { tried[$2]++; edits += $3; if (!($2 in least) || $3 < least[$2]) least[$2] = $3 }
-        END {
-            if (!crates || !proofs) { print "no times of proofs in target/log"; exit }
-            for (crate in tried) if (tried[crate] * least[crate] > 12 * proofs / crates) printf "%s: %d, %d\n", crate, tried[crate] * least[crate], 12 * proofs / crates
-            if (edits > 4 * proofs) printf "all edits: %d, %d\n", edits, 4 * proofs
-        }')"
-fi
 
 # docs/TRACE.md: each edit is there, and each name that it gives to a crate is in that crate
 none "edits that docs/TRACE.md does not name" "$(for edit in crates/*/must-fail/*.edit; do
@@ -111,11 +88,12 @@ none "edits of docs/TRACE.md that are in another crate" "$(sed -nE 's/^\| `([a-z
     [ -f "$edit" ] || echo "$edit"
 done)"
 
-# an edit is refused because a fact fails, and not because a name is not there (where the gate has tried the edits: their logs)
-shopt -s nullglob
-none "edits refused for a name" "$(for log in target/must-fail/*/*/.log; do
-    grep -m 1 -a error "$log" | grep -aE 'is not in scope|unknown-name|can be named from here|has no function' || true
-done)"
+# an edit is refused because a fact fails, and not because a name is not there (where the gate has tried
+# the edits: what rt ci said)
+if [ -e target/ci.log ]; then
+    none "edits refused for a name" "$(grep -a '^rt: must-fail .*: refused' target/ci.log |
+        grep -aE 'is not in scope|unknown-name|can be named from here|has no function|only because a proof file names' || true)"
+fi
 
 [ "$failed" -eq 0 ] || exit 1
 echo "rules: kept"

@@ -5,14 +5,14 @@
 set -euo pipefail
 cd "$(dirname "$0")/.."
 
-archive=target/staticlib/libcapi.a
-program=target/bin/zundrafipo
+archive=crates/capi/out/libcapi.a
+program=crates/zundrafipo/out/zundrafipo
 promised=512
 work=$(mktemp -d)
 trap 'rm -rf "$work"' EXIT
 
 tests/archive
-[ -x "$program" ] || rt check zundrafipo >/dev/null
+[ -x "$program" ] || ./run >/dev/null
 
 # bound when it starts, so that no entry's stack has the loader's on it
 gcc -std=c99 -O2 -Wall -Wextra -Werror -pedantic -pthread -Wl,-z,now -I include tests/stack.c "$archive" -o "$work/stack"

@@ -1,4 +1,4 @@
-//! Finds the archive that `rt staticlib capi` writes, for x86-64 Linux, and links it.
+//! Finds the archive that `rt lib` in `crates/capi` writes, for x86-64 Linux, and links it.
 
 use std::env;
 use std::path::PathBuf;
@@ -12,7 +12,7 @@ fn main() {
     }
     let dir = match env::var_os("ZUNDRAFIPO_ARCHIVE_DIR") {
         Some(dir) => PathBuf::from(dir),
-        None => PathBuf::from(env::var_os("CARGO_MANIFEST_DIR").expect("cargo names the manifest's folder")).join("../../target/staticlib"),
+        None => PathBuf::from(env::var_os("CARGO_MANIFEST_DIR").expect("cargo names the manifest's folder")).join("../../crates/capi/out"),
     };
     let archive = dir.join("libcapi.a");
     println!("cargo:rerun-if-changed={}", archive.display());
@@ -23,7 +23,7 @@ fn main() {
         }
         Err(_) => {
             eprintln!(
-                "{} is not there: run `rt staticlib capi` at the repository's top, or let ZUNDRAFIPO_ARCHIVE_DIR name the archive's folder",
+                "{} is not there: run `rt lib` in the repository's folder crates/capi, or let ZUNDRAFIPO_ARCHIVE_DIR name the archive's folder",
                 archive.display()
             );
             std::process::exit(1);

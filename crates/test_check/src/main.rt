@@ -5,16 +5,10 @@
 
 use graph::{Answer, Shape};
 use graph_check::check;
-use io::print_decimal;
-use libc::STDOUT_FILENO;
+use std::io;
 
-fn print_answer(a: Answer) {
-    print_decimal(STDOUT_FILENO, a.number as u64);
-    io::write_all(STDOUT_FILENO, b" ");
-    print_decimal(STDOUT_FILENO, a.table as u64);
-    io::write_all(STDOUT_FILENO, b" ");
-    print_decimal(STDOUT_FILENO, a.place as u64);
-    io::write_all(STDOUT_FILENO, b"\n");
+fn print_answer(rt: &impl Print, a: Answer) -> io::Result<()> {
+    println!(rt; "{} {} {}", a.number, a.table, a.place)
 }
 
 fn shape(states: u32, labels: u32, initial: u32) -> Shape {
@@ -26,12 +20,18 @@ fn shape(states: u32, labels: u32, initial: u32) -> Shape {
 }
 
 // The first n numbers of `hops` as a graph's hop list.
-fn print_check(name: &[u8], shape: Shape, hops: &[u16], n: usize) {
-    io::write_all(STDOUT_FILENO, name);
-    io::write_all(STDOUT_FILENO, b": ");
+fn print_check(
+    rt: &impl Print,
+    name: &str,
+    shape: Shape,
+    hops: &[u16],
+    n: usize,
+) -> io::Result<()> {
+    print!(rt; "{name}: ")?;
     if n <= hops.len() {
-        print_answer(check(shape, &hops[0..n]));
+        print_answer(rt, check(shape, &hops[0..n]))?;
     }
+    Ok(())
 }
 
 // A number of the list made another.
@@ -43,72 +43,80 @@ fn put(hops: &mut [u16], at: usize, number: u16) {
 
 // Hops in ascending order, four a state: the hop at place i is i / 4, i % 4, 0, of no line.
 fn fill(hops: &mut [u16]) {
-    let mut i = 0;
-    while i < 4097 {
+    for i in 0..4097 {
         put(hops, 4 * i, (i / 4) as u16);
         put(hops, 4 * i + 1, (i % 4) as u16);
-        i += 1;
     }
 }
 
-fn limits(hops: &[u16]) {
-    print_check(b"4096 hops", shape(1024, 4, 0), hops, 16384);
-    print_check(b"4097 hops", shape(1024, 4, 0), hops, 16388);
-    print_check(b"no multiple of four", shape(1024, 4, 0), hops, 7);
-    print_check(b"no hops", shape(1, 1, 0), hops, 0);
-    print_check(b"1024 states", shape(1024, 1, 1023), hops, 0);
-    print_check(b"1025 states", shape(1025, 1, 0), hops, 0);
-    print_check(b"0 states", shape(0, 1, 0), hops, 0);
-    print_check(b"1024 labels", shape(1, 1024, 0), hops, 0);
-    print_check(b"1025 labels", shape(1, 1025, 0), hops, 0);
-    print_check(b"0 labels", shape(1, 0, 0), hops, 0);
+fn limits(rt: &impl Print, hops: &[u16]) -> io::Result<()> {
+    print_check(rt, "4096 hops", shape(1024, 4, 0), hops, 16384)?;
+    print_check(rt, "4097 hops", shape(1024, 4, 0), hops, 16388)?;
+    print_check(rt, "no multiple of four", shape(1024, 4, 0), hops, 7)?;
+    print_check(rt, "no hops", shape(1, 1, 0), hops, 0)?;
+    print_check(rt, "1024 states", shape(1024, 1, 1023), hops, 0)?;
+    print_check(rt, "1025 states", shape(1025, 1, 0), hops, 0)?;
+    print_check(rt, "0 states", shape(0, 1, 0), hops, 0)?;
+    print_check(rt, "1024 labels", shape(1, 1024, 0), hops, 0)?;
+    print_check(rt, "1025 labels", shape(1, 1025, 0), hops, 0)?;
+    print_check(rt, "0 labels", shape(1, 0, 0), hops, 0)
 }
 
-fn bad_numbers(hops: &[u16]) {
-    print_check(b"initial state at the count", shape(4, 1, 4), hops, 0);
+fn bad_numbers(rt: &impl Print, hops: &[u16]) -> io::Result<()> {
+    print_check(rt, "initial state at the count", shape(4, 1, 4), hops, 0)?;
     print_check(
-        b"largest counts",
+        rt,
+        "largest counts",
         shape(4294967295, 4294967295, 4294967295),
         hops,
         0,
-    );
+    )?;
     print_check(
-        b"largest initial state",
+        rt,
+        "largest initial state",
         shape(1024, 4, 4294967295),
         hops,
         16384,
-    );
-    print_check(b"a state out of range", shape(1023, 4, 0), hops, 16384);
-    print_check(b"a label out of range", shape(1024, 3, 0), hops, 16384);
+    )?;
+    print_check(rt, "a state out of range", shape(1023, 4, 0), hops, 16384)?;
+    print_check(rt, "a label out of range", shape(1024, 3, 0), hops, 16384)
 }
 
 // A number made another, and the list of 4,096 hops checked.
-fn changed(name: &[u8], hops: &mut [u16], at: usize, number: u16) {
+fn changed(
+    rt: &impl Print,
+    name: &str,
+    hops: &mut [u16],
+    at: usize,
+    number: u16,
+) -> io::Result<()> {
     put(hops, at, number);
-    print_check(name, shape(1024, 4, 0), hops, 16384);
+    print_check(rt, name, shape(1024, 4, 0), hops, 16384)
 }
 
-fn main() {
+fn main(rt: HostRuntime) -> io::Result<()> {
     let mut hops = [0u16; 16388];
     fill(&mut hops);
-    limits(&hops);
-    bad_numbers(&hops);
-    changed(b"the largest line", &mut hops, 3, 65535);
+    limits(&rt, &hops)?;
+    bad_numbers(&rt, &hops)?;
+    changed(&rt, "the largest line", &mut hops, 3, 65535)?;
     // the place is that of the first such hop; a hop out of range is refused before any out of
     // order; a line may be any number, and hops that differ in it alone are equal
-    changed(b"the largest state", &mut hops, 400, 65535);
-    changed(b"a hop below the one before", &mut hops, 400, 24);
-    changed(b"a hop equal to the one before", &mut hops, 401, 3);
+    changed(&rt, "the largest state", &mut hops, 400, 65535)?;
+    changed(&rt, "a hop below the one before", &mut hops, 400, 24)?;
+    changed(&rt, "a hop equal to the one before", &mut hops, 401, 3)?;
     changed(
-        b"a hop that differs from the one before in its line alone",
+        &rt,
+        "a hop that differs from the one before in its line alone",
         &mut hops,
         403,
         7,
-    );
+    )?;
     changed(
-        b"out of range speaks before out of order",
+        &rt,
+        "out of range speaks before out of order",
         &mut hops,
         802,
         1024,
-    );
+    )
 }

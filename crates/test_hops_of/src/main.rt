@@ -6,10 +6,12 @@
 
 use graph::Shape;
 use graph_hops_of::hops_of;
+use std::io;
 use test_print::{number, numbers, shape_of, text};
 
 // One lifetime for both tables: the part may be of either.
 fn print_part<'a>(
+    rt: &impl Print,
     name: &[u8],
     side: u32,
     state: u32,
@@ -17,22 +19,23 @@ fn print_part<'a>(
     hops1: &'a [u16],
     shape2: Shape,
     hops2: &'a [u16],
-) {
-    text(name);
-    text(b"side");
-    number(side as u64);
-    text(b" state");
-    number(state as u64);
-    text(b":");
-    numbers(hops_of(side, state, shape1, hops1, shape2, hops2));
-    text(b"\n");
+) -> io::Result<()> {
+    text(rt, name)?;
+    text(rt, b"side")?;
+    number(rt, side as u64)?;
+    text(rt, b" state")?;
+    number(rt, state as u64)?;
+    text(rt, b":")?;
+    numbers(rt, hops_of(side, state, shape1, hops1, shape2, hops2))?;
+    text(rt, b"\n")
 }
 
 // Both tables as they should be.
-fn good(side: u32, state: u32) {
+fn good(rt: &impl Print, side: u32, state: u32) -> io::Result<()> {
     let p1 = [0u16, 0, 1, 3, 0, 1, 2, 4, 1, 1, 3, 5, 2, 0, 3, 2];
     let short = [0u16, 1, 1, 5];
     print_part(
+        rt,
         b"",
         side,
         state,
@@ -40,13 +43,14 @@ fn good(side: u32, state: u32) {
         &p1,
         shape_of(2, 2, 0),
         &short,
-    );
+    )
 }
 
-fn bad_table_1(side: u32) {
+fn bad_table_1(rt: &impl Print, side: u32) -> io::Result<()> {
     let falling = [0u16, 0, 1, 3, 0, 1, 2, 4, 2, 0, 3, 2, 1, 1, 3, 5];
     let short = [0u16, 1, 1, 5];
     print_part(
+        rt,
         b"table 1 bad, ",
         side,
         0,
@@ -54,13 +58,14 @@ fn bad_table_1(side: u32) {
         &falling,
         shape_of(2, 2, 0),
         &short,
-    );
+    )
 }
 
-fn bad_table_2(side: u32) {
+fn bad_table_2(rt: &impl Print, side: u32) -> io::Result<()> {
     let p1 = [0u16, 0, 1, 3, 0, 1, 2, 4, 1, 1, 3, 5, 2, 0, 3, 2];
     let short = [0u16, 1, 1, 5];
     print_part(
+        rt,
         b"table 2 bad, ",
         side,
         0,
@@ -68,25 +73,25 @@ fn bad_table_2(side: u32) {
         &p1,
         shape_of(2, 2, 2),
         &short,
-    );
+    )
 }
 
-fn main() {
-    good(1, 0);
-    good(1, 1);
-    good(1, 2);
-    good(1, 3);
-    good(1, 4);
-    good(1, 65536);
-    good(2, 0);
-    good(2, 1);
-    good(2, 2);
-    good(2, 4294967295);
-    good(0, 0);
-    good(3, 0);
-    good(4294967295, 0);
-    bad_table_1(1);
-    bad_table_1(2);
-    bad_table_2(1);
-    bad_table_2(2);
+fn main(rt: HostRuntime) -> io::Result<()> {
+    good(&rt, 1, 0)?;
+    good(&rt, 1, 1)?;
+    good(&rt, 1, 2)?;
+    good(&rt, 1, 3)?;
+    good(&rt, 1, 4)?;
+    good(&rt, 1, 65536)?;
+    good(&rt, 2, 0)?;
+    good(&rt, 2, 1)?;
+    good(&rt, 2, 2)?;
+    good(&rt, 2, 4294967295)?;
+    good(&rt, 0, 0)?;
+    good(&rt, 3, 0)?;
+    good(&rt, 4294967295, 0)?;
+    bad_table_1(&rt, 1)?;
+    bad_table_1(&rt, 2)?;
+    bad_table_2(&rt, 1)?;
+    bad_table_2(&rt, 2)
 }

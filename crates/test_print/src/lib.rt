@@ -1,44 +1,40 @@
 // How test programs print names, numbers, answers and shapes to standard output: each number behind
 // a space.
 // It serves `test_records`, `test_hops_of` and `test_round_trip`.
-// Uses `graph` for answers and shapes, and io and libc of the toolchain.
+// Uses `graph` for answers and shapes.
 #![tactic(auto)]
 
 use graph::{Answer, Shape};
-use io::print_decimal;
-use libc::STDOUT_FILENO;
+use std::io;
 
-pub fn text(bytes: &[u8]) {
-    io::write_all(STDOUT_FILENO, bytes);
+pub fn text(rt: &impl Print, bytes: &[u8]) -> io::Result<()> {
+    rt.write_all(bytes)
 }
 
 // Each number stands behind a space.
-pub fn number(n: u64) {
-    text(b" ");
-    print_decimal(STDOUT_FILENO, n);
+pub fn number(rt: &impl Print, n: u64) -> io::Result<()> {
+    print!(rt; " {n}")
 }
 
-pub fn bytes(list: &[u8]) {
-    let mut i = 0;
-    while i < list.len() {
-        number(list[i] as u64);
-        i += 1;
+pub fn bytes(rt: &impl Print, list: &[u8]) -> io::Result<()> {
+    for n in list {
+        number(rt, *n as u64)?;
     }
+    Ok(())
 }
 
-pub fn numbers(list: &[u16]) {
-    let mut i = 0;
-    while i < list.len() {
-        number(list[i] as u64);
-        i += 1;
+pub fn numbers(rt: &impl Print, list: &[u16]) -> io::Result<()> {
+    for n in list {
+        number(rt, *n as u64)?;
     }
+    Ok(())
 }
 
 // Number, table and place.
-pub fn answer(a: Answer) {
-    number(a.number as u64);
-    number(a.table as u64);
-    number(a.place as u64);
+pub fn answer(rt: &impl Print, a: Answer) -> io::Result<()> {
+    number(rt, a.number as u64)?;
+    number(rt, a.table as u64)?;
+    number(rt, a.place as u64)
 }
 
 pub fn shape_of(states: u32, labels: u32, initial: u32) -> Shape {
@@ -50,8 +46,8 @@ pub fn shape_of(states: u32, labels: u32, initial: u32) -> Shape {
 }
 
 // States, labels and initial state.
-pub fn shape(s: Shape) {
-    number(s.states as u64);
-    number(s.labels as u64);
-    number(s.initial as u64);
+pub fn shape(rt: &impl Print, s: Shape) -> io::Result<()> {
+    number(rt, s.states as u64)?;
+    number(rt, s.labels as u64)?;
+    number(rt, s.initial as u64)
 }

@@ -5,47 +5,56 @@
 // Uses `report_entry` for the report.
 #![tactic(auto)]
 
-use libc::STDOUT_FILENO;
 use report_entry::print::{MOST_TEXT, print_file};
+use std::io;
 
-fn show(name: &[u8], file: &[u8]) {
-    io::write_all(STDOUT_FILENO, name);
-    io::write_all(STDOUT_FILENO, b":\n");
+fn show(rt: &impl Print, name: &str, file: &[u8]) -> io::Result<()> {
+    println!(rt; "{name}:")?;
     let mut out = [0u8; MOST_TEXT];
     let n = print_file(file, &mut out);
-    io::write_all(STDOUT_FILENO, &out[..n]);
+    rt.write_all(&out[..n])
 }
 
-fn main() {
-    show(b"an empty file", b"");
+fn main(rt: HostRuntime) -> io::Result<()> {
+    show(&rt, "an empty file", b"")?;
     show(
-        b"a front of a file",
+        &rt,
+        "a front of a file",
         b"\x02\x04\x00\x02\x00\x04\x00\x00\x00",
-    );
-    show(b"bits 4 to 7", b"\x10");
-    show(b"one state, no hops", b"\x00\x01\x00\x01\x00");
-    show(b"a byte left over", b"\x00\x01\x00\x01\x00\x00");
-    show(b"an initial state of 0", b"\x01\x01\x00\x01\x00\x00\x00");
+    )?;
+    show(&rt, "bits 4 to 7", b"\x10")?;
+    show(&rt, "one state, no hops", b"\x00\x01\x00\x01\x00")?;
+    show(&rt, "a byte left over", b"\x00\x01\x00\x01\x00\x00")?;
     show(
-        b"an initial state at the count",
+        &rt,
+        "an initial state of 0",
+        b"\x01\x01\x00\x01\x00\x00\x00",
+    )?;
+    show(
+        &rt,
+        "an initial state at the count",
         b"\x01\x01\x00\x01\x00\x01\x00",
-    );
-    show(b"no states", b"\x00\x00\x00\x01\x00");
+    )?;
+    show(&rt, "no states", b"\x00\x00\x00\x01\x00")?;
     show(
-        b"a ring of one hop",
+        &rt,
+        "a ring of one hop",
         b"\x02\x01\x00\x01\x00\x01\x00\x00\x00\x00\x00\x00\x00",
-    );
-    show(b"a repeated name", b"\x04\x01\x00\x03\x00\x01a\x01a");
-    show(b"names", b"\x04\x01\x00\x03\x00\x01a\x01b");
+    )?;
+    show(&rt, "a repeated name", b"\x04\x01\x00\x03\x00\x01a\x01a")?;
+    show(&rt, "names", b"\x04\x01\x00\x03\x00\x01a\x01b")?;
     show(
-        b"P1 with lines",
+        &rt,
+        "P1 with lines",
         b"\x0a\x04\x00\x02\x00\x04\x00\
 \x00\x00\x00\x00\x01\x00\x00\x00\x01\x00\x02\x00\
 \x01\x00\x01\x00\x03\x00\x02\x00\x00\x00\x03\x00\
 \x03\x00\x04\x00\x05\x00\x02\x00",
-    );
+    )?;
     show(
-        b"lines that are all 0",
+        &rt,
+        "lines that are all 0",
         b"\x0a\x02\x00\x02\x00\x01\x00\x00\x00\x01\x00\x01\x00\x00\x00",
-    );
+    )?;
+    Ok(())
 }

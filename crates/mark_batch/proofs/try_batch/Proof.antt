@@ -42,31 +42,22 @@ same_length c = search rules
 
 returns : tie.Need-returns
 returns c =
-    let at-filter = c.before.before in
-    let at-froms = at-filter.before.before.before.before in
-    let at_before = at-froms.before.before.before.before.before.before.before.before in
-    let at-answers = at_before.before.before.before in
-    let at-labels = at-answers.before.before.before.before in
-    let at_after = at-labels.before.before in
-    let at-closing = at_after.before.before.before in
-    let at-ends = at-closing.before.before.before in
-    let st = at-ends.before.before.before.before in
-    let tables : Tables (sense_of st.args.sense) st.args.hops.now _ st.args.base st.args.m _ =
+    let tables : Tables (sense_of c.args.sense) c.args.hops.now _ c.args.base c.args.m _ =
     record {
       ends = _;
       closed = _;
       followed = _;
       labels = _;
       taken = _;
-      ends_are = at-ends.put_keys.ensures;
-      closed_are = at-closing.closing_table.ensures;
-      followed_are = at_after.after_table.ensures;
-      labels_are = at-labels.put_keys-2.ensures;
-      taken_are = at-answers.put_answers.ensures;
-      answers_are = at_before.before_table.ensures;
+      ends_are = c.put_keys.ensures;
+      closed_are = c.closing_table.ensures;
+      followed_are = c.after_table.ensures;
+      labels_are = c.put_keys-2.ensures;
+      taken_are = c.put_answers.ensures;
+      answers_are = c.before_table.ensures;
     } in
-    filtered_swept (sense_of st.args.sense) st.args.shape st.args.hops.now st.args.marks.now st.requires.1.0 st.args.base st.args.m _ _
-    st.requires.1.1.0 st.requires.1.1.1 at-froms.put_keys-3.ensures tables _ _ at-filter.filter.ensures
+    filtered_swept (sense_of c.args.sense) c.args.shape c.args.hops.now c.args.marks.now c.requires.1.0 c.args.base c.args.m _ _
+    c.requires.1.1.0 c.requires.1.1.1 c.put_keys-3.ensures tables _ _ c.filter.ensures
 
 pub try_batch_spec : {M : Type 1} → statement M
 try_batch_spec =

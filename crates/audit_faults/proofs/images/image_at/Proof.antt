@@ -29,28 +29,18 @@ map-at-requires-2 c κs = omega (arith, c.requires.0.admitted.range.to_in c.args
 hop-of-requires : tie.Need-hop_of-requires
 hop-of-requires c κs = search rules
 
--- what the function was called with
-abbrev start : (c : tie.After-from_at) → tie.Start
-start c = c.before.before.before.before
-
 find-row-requires : tie.Need-find_row-found-requires
 find-row-requires c κs =
-    let f = c.before.before.before.before.before in
-    let s = start f in
-    let low = s.requires.0.entries_in f.from_at.result.0 (omega (arith, f.from_at.ensures, s.requires.0.admitted.range.from_in s.args.i s.requires.1.1)) in
-    (s.requires.0.ready, (s.requires.1.0, omega (arith, low, ap (λ (h : Hop). h.from) c.hop_of.ensures, c.map_at-r.ensures)))
+    let low = c.requires.0.entries_in c.from_at.result.0 (omega (arith, c.from_at.ensures, c.requires.0.admitted.range.from_in c.args.i c.requires.1.1)) in
+    (c.requires.0.ready, (c.requires.1.0, omega (arith, low, ap (λ (h : Hop). h.from) c.hop_of.ensures, c.map_at-r.ensures)))
 
 -- the place of the hop that was searched for, by what was read for it
 module _ (c : tie.After-find_row-found) where
   told : (g : Found) → c.find_row-found.result ≡ g →
-      place_of g ≡
-      image_of (start c.before.before.before.before.before.before).args.hops1.now (start c.before.before.before.before.before.before).args.hops2.now
-      (start c.before.before.before.before.before.before).args.map.now (start c.before.before.before.before.before.before).args.i
+      place_of g ≡ image_of c.args.hops1.now c.args.hops2.now c.args.map.now c.args.i
   told g d =
-      let m = c in
-      let s = start m.before.before.before.before in
-      image_result s.args.hops1.now s.args.hops2.now s.args.map.now s.args.i m.from_at.ensures
-      m.map_at-r.ensures m.label_at-a.ensures m.to_at.ensures m.map_at-q.ensures
+      image_result c.args.hops1.now c.args.hops2.now c.args.map.now c.args.i c.from_at.ensures
+      c.map_at-r.ensures c.label_at-a.ensures c.to_at.ensures c.map_at-q.ensures
       c.hop_of.ensures c.find_row-found.ensures d
 
 enum-known-found : tie.Need-enum_known-found
@@ -58,9 +48,8 @@ enum-known-found c = search rules
 
 cast-result : tie.Need-overflow_cast-result
 cast-result c =
-    let f = c in
-    let few = (start f.before.before.before.before.before.before).requires.0.ready.hops_most in
-    omega (arith, few, found_within _ _ f.find_row-found.ensures c.found-1.given.1)
+    let few = c.requires.0.ready.hops_most in
+    omega (arith, few, found_within _ _ c.find_row-found.ensures c.in-At.is)
 
 enum_told : tie.Need-enum_told-1
 enum_told c = search rules
@@ -69,10 +58,10 @@ cast-result-2 : tie.Need-overflow_cast-result-in-Gap
 cast-result-2 c = search rules
 
 returns : tie.Need-returns-in-At
-returns c = told c.before.before.before (At _) c.found-1.given.1
+returns c = told c.before (At _) c.in-At.is
 
 returns-2 : tie.Need-returns-in-Gap
-returns-2 c = told c.before.before (Gap _) c.enum_told-1.given.1
+returns-2 c = told c.before (Gap _) c.in-Gap.is
 
 pub image_at_spec : {M : Type 1} → statement M
 image_at_spec =

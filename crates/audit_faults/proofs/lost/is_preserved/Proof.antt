@@ -17,18 +17,14 @@ element-copy-out-wide c = search rules
 wide-requires : tie.Need-wide-requires
 wide-requires c κs = search rules
 
--- what the function was called with, and the place that it read
-module _ (c : tie.After-wide) where
-  abbrev start : tie.Start
-  start = c.before.before.before.before.before
-
-  place_is : c.wide.result ≡ image_of start.args.hops1.now start.args.hops2.now start.args.map.now start.args.i
-  unfolding Imaged
-  place_is = c.wide.ensures ∙ start.requires.1.0 start.args.i start.requires.1.1
+-- the place that it read
+place_is : (c : tie.After-wide) → c.wide.result ≡ image_of c.args.hops1.now c.args.hops2.now c.args.map.now c.args.i
+unfolding Imaged
+place_is c = c.wide.ensures ∙ c.requires.1.0 c.args.i c.requires.1.1
 
 returns : tie.Need-returns-then-wide-ne-NO_PLACE
 returns c =
-    let s = start c.before in
+    let s = c in
     preserved_image s.args.hops1.now s.args.hops2.now s.args.map.now s.requires.0.ready s.args.i (place_is c.before) c.if-wide-ne-NO_PLACE.true
 
 from-at-requires : tie.Need-from_at-requires
@@ -36,27 +32,26 @@ from-at-requires c κs = search rules
 
 map-at-requires : tie.Need-map_at-r-requires
 map-at-requires c κs =
-    let s = start c.before.before in omega (arith, c.from_at.ensures, s.requires.0.one_a_state, s.requires.0.admitted.range.from_in s.args.i s.requires.1.1)
+    let s = c in omega (arith, c.from_at.ensures, s.requires.0.one_a_state, s.requires.0.admitted.range.from_in s.args.i s.requires.1.1)
 
 to-at-requires : tie.Need-to_at-requires
 to-at-requires c κs = search rules
 
 map-at-requires-2 : tie.Need-map_at-q-requires
 map-at-requires-2 c κs =
-    let s = start c.before.before.before.before in
+    let s = c in
     omega (arith, c.to_at.ensures, s.requires.0.one_a_state, s.requires.0.admitted.range.to_in s.args.i s.requires.1.1)
 
 label-at-requires : tie.Need-label_at-requires
 label-at-requires c κs = search rules
 
 returns-2 : tie.Need-returns
+unfolding Imaged
 returns-2 c =
-    let l = c in
-    let e = l in
-    let s = start e.before in
-    preserved_no_place s.args.hops1.now s.args.hops2.now s.args.map.now s.requires.0.ready s.args.i (place_is e.before) e.if-wide-ne-NO_PLACE.false
-    l.from_at.ensures l.map_at-r.ensures l.label_at.ensures l.to_at.ensures
-    l.map_at-q.ensures
+    preserved_no_place c.args.hops1.now c.args.hops2.now c.args.map.now c.requires.0.ready c.args.i
+    (c.wide.ensures ∙ c.requires.1.0 c.args.i c.requires.1.1) c.if-wide-ne-NO_PLACE.false
+    c.from_at.ensures c.map_at-r.ensures c.label_at.ensures c.to_at.ensures
+    c.map_at-q.ensures
 
 pub is_preserved_spec : {M : Type 1} → statement M
 is_preserved_spec =

@@ -61,8 +61,8 @@ loop-again : tie.Need-loop-i-preserved invariant-loop decreases-loop
 loop-again c = let a = c.before.before.before in (
   search rules,
   omega arith,
-  ⊎_elim (λ w. w.faults-is ∙ tally_more (lost a) a.loop-i.i a.loop-i.invariant.2 (lost-is c.before w.if-not-is_preserved.true))
-      (λ w. w.faults-is ∙ tally_skip (lost a) a.loop-i.i a.loop-i.invariant.2 (lost-is c.before w.if-not-is_preserved.false)) c.if-not-is_preserved.branch-raw,
+  ⊎_elim (λ w. w.faults-is ∙ tally_more (lost a) a.loop-i.i a.loop-i.invariant.2 (lost-is c.before w.if-not-is_preserved.true-raw))
+      (λ w. w.faults-is ∙ tally_skip (lost a) a.loop-i.i a.loop-i.invariant.2 (lost-is c.before w.if-not-is_preserved.false-raw)) c.if-not-is_preserved.branch-raw,
 )
 
 returns : tie.Need-returns invariant-loop decreases-loop

@@ -1,1 +1,0 @@
-pub mod Front  -- the front of a local array, lent and given back
