@@ -75,6 +75,6 @@ module _ (sh : Shape) (hs : List ℕ) (k : ℕ) (map short : List ℕ) where
         let capacity : length hs ≤ length short = reduce_short_capacity sh hs k (length map) (length short) (zero accepts) in
         rw (e, ← figures accepts) (omega arith)
 
-    pub output_faultless : {x : Audit} {map-after short_after : List ℕ} → x ≡ audit_of_reduce sh hs red map-after short-after →
-        map-after ≡ map_output sh hs k map short → short-after ≡ short_output sh hs k map short → x ≡ faultless
+    pub output_faultless : {x : Audit} {map_after short_after : List ℕ} → x ≡ audit_of_reduce sh hs red map_after short_after →
+        map_after ≡ map_output sh hs k map short → short_after ≡ short_output sh hs k map short → x ≡ faultless
     output_faultless a p q = (rw (e, p, q) at a) ∙ reduce_audit_zero accepts
