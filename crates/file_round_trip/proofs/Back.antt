@@ -288,7 +288,7 @@ encode_decode sh hs ns capacity e m =
     let t = a.whole_hops in
     record {
       accepts = answer_back sh hs ns t l a capacity m;
-      same_graph = rw (shape_back sh hs ns t l a, (hops_back sh hs ns t).0, (block_back sh hs ns t l).1, (block_back sh hs ns t l).2);
+      same_contents = rw (shape_back sh hs ns t l a, (hops_back sh hs ns t).0, (block_back sh hs ns t l).1, (block_back sh hs ns t l).2);
       same_hops = list_back sh hs ns t l;
       same_block = (block_back sh hs ns t l).0;
     }

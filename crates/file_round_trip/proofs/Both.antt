@@ -218,7 +218,7 @@ module _ (sh : Shape) (hs ns file again : List ℕ) where
               ((file' ≡ back_bytes sh hs ns file (length again)) × (read_hops (encode sh hs ns) again ≡ back_hops sh hs ns (length file) again))
           unfolding read_of read_hops write_bytes back_of back_bytes back_hops
           back_accepted f =
-              (rw (same.accepts, eq-eqb _ _ back_zero) same.same_graph, (f ∙ rw (eq-eqb _ _ y, eq-eqb _ _ back_zero), rw (same.accepts, eq-eqb _ _ back_zero, same.same_hops)))
+              (rw (same.accepts, eq-eqb _ _ back_zero) same.same_contents, (f ∙ rw (eq-eqb _ _ y, eq-eqb _ _ back_zero), rw (same.accepts, eq-eqb _ _ back_zero, same.same_hops)))
 
           pub written_capacity : length (encode sh hs ns) ≤ length file
           unfolding write_answer

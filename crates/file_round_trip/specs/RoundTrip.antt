@@ -46,6 +46,6 @@ back_hops sh hs ns capacity old = written (back_answer sh hs ns capacity (length
 -- what is read of a file that was written
 pub record ReadBack (sh : Shape) (hs ns b : List ℕ) (capacity : ℕ) : Type 0 where
   pub accepts : read_answer b capacity ≡ accepted
-  pub same_graph : contents_of b ≡ same_graph sh hs ns
+  pub same_contents : contents_of b ≡ same_graph sh hs ns
   pub same_hops : hop_list_in b ≡ hs
   pub same_block : block_in b ≡ ns

@@ -1,8 +1,7 @@
 // The entries `check` and `mark` for callers that hold their hops (transitions) as a slice of
 // records instead of a flat list of numbers.
 // The records are copied into an array of numbers and checked or marked there, so that the answers
-// are those of the flat list. A slice of records is none of the forms that the prover steps through
-// by itself: each function that takes one has a proof by hand, and they are few.
+// are those of the flat list.
 // Uses `check` of `graph_check` and `mark` of `mark_entry`.
 #![tactic(auto)]
 

@@ -1,5 +1,5 @@
--- What `check_of` says of the array is said of the records' flat list; more records than a graph may
--- have hops are refused either way.
+-- What `check_of` says of the array is said of the records' flat list; more records than a graph
+-- may have hops are refused either way.
 use Rattle.std.proofs.Common.{length, ◌∙◌}
 use Rattle.graph.specs.Hops.{between, flat}
 use Rattle.graph.specs.Answers.{refused}
