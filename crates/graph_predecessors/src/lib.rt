@@ -16,10 +16,7 @@ use graph::{MOST_HOPS, NUMBERS_A_HOP, TO_COLUMN};
 use graph_counting_sort::{fill, key_starts};
 use graph_successors::STARTS;
 
-// Where the hops into each state begin. What the sort keeps meanwhile stands in a frame of its own,
-// here and below: inside the caller's it would stay while the rounds run, and take `zf_mark` over
-// the stack that the header promises.
-#[inline(never)]
+// Where the hops into each state begin.
 pub fn predecessor_starts(hops: &[u16]) -> [u16; STARTS]
     requires { Indexable hops.now }
     ensures { PredecessorStarts hops.now result }
@@ -29,7 +26,6 @@ pub fn predecessor_starts(hops: &[u16]) -> [u16; STARTS]
 }
 
 // Each place in its slot: with an empty order the sort puts the places themselves.
-#[inline(never)]
 pub fn places_of(hops: &[u16], begins: &[u16; STARTS]) -> [u16; MOST_HOPS]
     requires ready { Indexable hops.now }
     requires begins { PredecessorStarts hops.now begins.now }
