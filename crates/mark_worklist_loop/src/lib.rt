@@ -9,7 +9,7 @@
 // `graph_predecessors` for the index.
 #![tactic(auto)]
 
-ghost use Rattle.std.specs.Prelude.{◌≡◌, ◌≤◌, length};
+ghost use Rattle.std.specs.Prelude.{ℕ, ◌≡◌, ◌≤◌, List, length};
 ghost use Rattle.base_outputs.specs.Output.{on_front};
 ghost use Rattle.graph.specs.Hops.{count};
 ghost use Rattle.graph.specs.Answers.{most_hops};
@@ -17,6 +17,8 @@ ghost use Rattle.mark_confluence.specs.Rounds.{marked};
 ghost use Rattle.mark_confluence.specs.Marks.{marks_of};
 ghost use Rattle.graph_successors.specs.Internal.SuccessorIndex.{SuccessorIndex, Indexable, MarkInput};
 ghost use Rattle.mark_worklist.specs.Tests.{tests_of};
+ghost use Rattle.mark_worklist_push.specs.Internal.Queue.{PlacesBelow};
+ghost use Rattle.mark_worklist_round.specs.Internal.Round.{DirtyStates, TestInput, SkipsClean, Tested, Cleared};
 ghost use Rattle.mark_worklist_loop.specs.Internal.BetweenRounds.{AfterSome};
 
 use graph::MOST_HOPS;
@@ -25,6 +27,33 @@ use graph_successors::STARTS;
 use mark_confluence::start_marks;
 use mark_worklist_next::{leaving_of, next_queue};
 use mark_worklist_round::{dirty_of, list_silent, test_again, test_first, unmark_fallen};
+
+// A later round, of the n hops in the queue: those to the dirty states, which the `left` fallen hops
+// leave, are tried. The dirty states are made in here: among what `later_rounds` keeps they would
+// take `zf_mark` over the stack that the header promises.
+#[inline(always)]
+fn test_dirty(
+    hops: &[u16],
+    starts: &[u16; STARTS],
+    marks: &[u8],
+    queue: &[u16; MOST_HOPS],
+    n: usize,
+    left: usize,
+    flags: &mut [u8; MOST_HOPS],
+    fallen: &mut [u16; MOST_HOPS],
+) -> usize
+    requires given { TestInput hops.now starts.now marks.now queue.now n fallen.old }
+    requires most { left ≤ most_hops }
+    requires places { PlacesBelow hops.now fallen.old left }
+    requires clean { (dirty : List ℕ) → DirtyStates hops.now fallen.old left dirty →
+        SkipsClean hops.now marks.now dirty queue.now n }
+    requires flags { count hops.now ≤ length flags.old }
+    ensures tested { Tested hops.now marks.now queue.now n fallen.new result }
+    ensures cleared { Cleared hops.now queue.now n flags.old flags.new }
+{
+    let dirty = dirty_of(hops, fallen, left);
+    test_again(hops, starts, marks, &dirty, queue, n, flags, fallen)
+}
 
 // The rounds after the first, in which `lost` hops fell; returns the number of all tests. The
 // predecessor index and the flags are made here, since most graphs need none: nothing falls in
@@ -55,8 +84,7 @@ fn later_rounds(
             hops, starts, &begins, &places, &leaving, marks, fallen, left, &mut flags, queue,
         );
         sum += n;
-        let dirty = dirty_of(hops, fallen, left);
-        left = test_again(hops, starts, marks, &dirty, queue, n, &mut flags, fallen);
+        left = test_dirty(hops, starts, marks, queue, n, left, &mut flags, fallen);
         unmark_fallen(marks, fallen, left);
     }
     sum

@@ -60,14 +60,8 @@ add-sum c =
     let l = after_early hs a c.loop-left-test.true in
     omega (arith, pushed_most hs a q c.next_queue-n.ensures, a.tests, tests_most hs (suc v.2.0) v.1.push.given.ready.hops_most)
 
-dirty-of-requires : tie.Need-dirty_of-dirty-requires invariant-loop decreases-loop
-dirty-of-requires c κs =
-    let v = c.loop-left.invariant in
-    let a = v.2.1 in
-    (v.1.push.given.ready, (a.most, λ q l. (a.falls.each q l).0))
-
-test-again-requires : tie.Need-test_again-left-requires invariant-loop decreases-loop
-test-again-requires c κs =
+test-dirty-requires : tie.Need-test_dirty-left-requires invariant-loop decreases-loop
+test-dirty-requires c κs =
     let v = c.loop-left.invariant in
     let a = v.2.1 in
     let q = v.1.push.queue in
@@ -80,7 +74,7 @@ test-again-requires c κs =
         places = lists_listed hs (pushed_lists hs a q g);
         capacity = a.capacity;
       },
-      (pushed_skipped hs a q g _ c.dirty_of-dirty.ensures, g.queue.flags),
+      (a.most, ((λ q l. (a.falls.each q l).0), ((λ d e. pushed_skipped hs a q g d e), g.queue.flags))),
     )
 
 unmark-fallen-requires : tie.Need-unmark_fallen-requires invariant-loop decreases-loop
@@ -89,7 +83,7 @@ unmark-fallen-requires c κs =
     let a = v.2.1 in
     let q = v.1.push.queue in
     let g = c.next_queue-n.ensures in
-    let d = c.test_again-left.ensures.0 in
+    let d = c.test_dirty-left.ensures.0 in
     let hs = c.args.hops.now in
     let i = v.1.push.given in
     (omega (arith, d.most, pushed_most hs a q g, i.ready.hops_most), λ j l. let h = ((next_falls hs a q g d).each j l).0 in omega (arith, i.capacity))
@@ -100,7 +94,7 @@ loop-less c =
     let a = v.2.1 in
     let q = v.1.push.queue in
     let g = c.next_queue-n.ensures in
-    let d = c.test_again-left.ensures.0 in
+    let d = c.test_dirty-left.ensures.0 in
     let hs = c.args.hops.now in
     let m : count hs ≤ length c.unmark_fallen.new.marks = omega (arith, v.1.push.given.capacity, c.unmark_fallen.auto) in
     after_less hs a q g d m c.unmark_fallen.ensures c.loop-left-test.true
@@ -111,14 +105,14 @@ loop-again c =
     let a = v.2.1 in
     let q = v.1.push.queue in
     let g = c.next_queue-n.ensures in
-    let d = c.test_again-left.ensures.0 in
+    let d = c.test_dirty-left.ensures.0 in
     let hs = c.args.hops.now in
     let m : count hs ≤ length c.unmark_fallen.new.marks = omega (arith, v.1.push.given.capacity, c.unmark_fallen.auto) in
     let w = c.unmark_fallen.ensures in
     let i = v.1.push.given in (
       omega (arith, v.0, c.unmark_fallen.auto),
       record {
-        push = record { given = record { ready = i.ready; table = i.table; capacity = m }; queue = tested_queue hs a q g c.test_again-left.ensures.1 };
+        push = record { given = record { ready = i.ready; table = i.table; capacity = m }; queue = tested_queue hs a q g c.test_dirty-left.ensures.1 };
         tables = v.1.tables;
         leaving = leaving_next hs a q g d m w _ v.1.leaving;
       },
@@ -147,8 +141,7 @@ later_rounds_spec =
     loop-holds
     next-queue-requires
     add-sum
-    dirty-of-requires
-    test-again-requires
+    test-dirty-requires
     unmark-fallen-requires
     loop-less
     loop-again
