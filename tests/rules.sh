@@ -18,7 +18,7 @@ none() {
 # lines of code and contracts have at most 160 characters, comments 100, and what a function asks stands
 # one named line each
 none "lines of more than 160 characters" "$(grep -nE '^.{161,}$' crates/*/src/*.rt | grep -vE ':[0-9]+: *(\/\/|ghost use )' || true)"
-none "comments of more than 100 characters" "$(find crates \( -name '*.rt' -o -name '*.antt' \) -print0 | sort -z | xargs -0 grep -nE '^ *(//|--|pub mod |mod )' | grep -E '^[^:]*:[0-9]+:.{101,}$' || true)"
+none "comments of more than 100 characters" "$(find crates -path 'crates/*/out' -prune -o \( -name '*.rt' -o -name '*.antt' \) -print0 | sort -z | xargs -0 grep -nE '^ *(//|--|pub mod |mod )' | grep -E '^[^:]*:[0-9]+:.{101,}$' || true)"
 none "a requires that asks several things" "$(grep -nE 'requires.*( × | ∗ )' crates/*/src/*.rt || true)"
 
 # specs/ is what a reader must believe: what the entries' contracts and README's theorems cite, down to
@@ -30,7 +30,7 @@ declared() {
     grep -hoE '^ *((abbrev|unfoldable)( pub)?|(pub )?(record|data)) [^ ]+' "$@" | awk '{ print $NF }' | sort -u
 }
 none "names of specs/ that stand in several crates" "$(for crate in crates/*/specs; do
-    [[ $crate == crates/test_* ]] || find "$crate" -name '*.antt' -print0 | xargs -0 grep -hoE '^ *((abbrev|unfoldable)( pub)?|(pub )?(record|data)) [^ ]+' | awk '{ print $NF }' | sort -u
+    [[ $crate == crates/test_* ]] || find "$crate" -path "$crate/out" -prune -o -name '*.antt' -print0 | xargs -0 grep -hoE '^ *((abbrev|unfoldable)( pub)?|(pub )?(record|data)) [^ ]+' | awk '{ print $NF }' | sort -u
 done | sort | uniq -d)"
 
 # names are the field's, not pictures of our own

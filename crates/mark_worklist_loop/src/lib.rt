@@ -28,9 +28,9 @@ use mark_confluence::start_marks;
 use mark_worklist_next::{leaving_of, next_queue};
 use mark_worklist_round::{dirty_of, list_silent, test_again, test_first, unmark_fallen};
 
-// A later round, of the n hops in the queue: those to the dirty states, which the `left` fallen hops
-// leave, are tried. The dirty states are made in here: among what `later_rounds` keeps they would
-// take `zf_mark` over the stack that the header promises.
+// A later round, of the n hops in the queue: those to the dirty states, which the `left` fallen
+// hops leave, are tried. The dirty states are made in here: among what `later_rounds` keeps they
+// would take `zf_mark` over the stack that the header promises.
 #[inline(always)]
 fn test_dirty(
     hops: &[u16],
