@@ -63,7 +63,8 @@ fn stamp_state(
     }
 }
 
-// Stamps the images of the hops of every such state of graph 1.
+// Stamps the images of the hops of every such state of graph 1. Most states are not visited, so
+// that is asked before anything else.
 pub fn stamp_all(
     shape1: Shape,
     hops1: &[u16],
@@ -85,19 +86,21 @@ pub fn stamp_all(
     let n = shape1.states as usize;
     let mut u = 0;
     while u < n {
-        stamp_state(
-            shape1,
-            hops1,
-            starts1,
-            hops2,
-            map,
-            images,
-            seen,
-            stamps,
-            r,
-            k,
-            OldState(u as u16),
-        );
+        if seen[u] == 1 {
+            stamp_state(
+                shape1,
+                hops1,
+                starts1,
+                hops2,
+                map,
+                images,
+                seen,
+                stamps,
+                r,
+                k,
+                OldState(u as u16),
+            );
+        }
         u += 1;
     }
 }

@@ -2,12 +2,16 @@
 -- passed so far. Assumes nothing.
 use borrow.Author.Rules.{rules}
 use Prim.Native.Nat.{◌≤◌, ◌-◌}
-use mathlib.Core.Path.{◌≡◌}
+use mathlib.Core.Path.{◌≡◌, refl, ◌∙◌}
+use mathlib.Core.Logic.{⊎_elim}
 use native.Mathlib.Omega.{arith}
+use borrow.Author.Tests.{ne_eqb}
 use lib.ListN.{length}
 use Rattle.graph.specs.Search.{first_of}
+use Rattle.graph.specs.Map.{mapped}
+use Rattle.base_bounded.proofs.Bools.{and_no_left}
 use Rattle.audit_matched.specs.Internal.Stamps.{StampedUpTo, StampedFrom}
-use Rattle.audit_matched.proofs.Rows.{stamped_first, stamped_last}
+use Rattle.audit_matched.proofs.Rows.{stamped_first, stamped_last, state_skipped}
 use Rattle.audit_matched.proofs.stamp_all.Statement.{statement}
 use Rattle.audit_matched.proofs.stamp_all.Tie as tie
 
@@ -24,13 +28,16 @@ cast-n c = search rules
 loop-holds : tie.Need-loop-u-init invariant-loop decreases-loop
 loop-holds c = (search rules, search rules, search rules, stamped_first _ _ _ _ _ _ c.requires.0.auditable.admitted.ascending _)
 
-cast-t17 : tie.Need-overflow_cast-u invariant-loop decreases-loop
-cast-t17 c = search rules
+seen-u : tie.Need-bounds-seen-u invariant-loop decreases-loop
+seen-u c = omega (arith, c.loop-u-test.true, c.loop-u.invariant.0, c.requires.1.0)
+
+cast-t19 : tie.Need-overflow_cast-u invariant-loop decreases-loop
+cast-t19 c = omega (arith, c.loop-u-test.true, c.loop-u.invariant.0, c.requires.0.auditable.admitted.states_most)
 
 stamp-state-requires : tie.Need-stamp_state-requires invariant-loop decreases-loop
 stamp-state-requires c κs =
     let s = c in
-    (s.requires.0, (s.requires.1.0, (omega (arith, c.loop-u.invariant.2, s.requires.1.1), omega arith)))
+    (s.requires.0, (s.requires.1.0, (omega (arith, c.loop-u.invariant.2, s.requires.1.1), omega (arith, c.loop-u-test.true, c.loop-u.invariant.0))))
 
 add-u : tie.Need-overflow_add-u invariant-loop decreases-loop
 add-u c = search rules
@@ -40,7 +47,17 @@ loop-less c = search rules
 
 loop-again : tie.Need-loop-u-preserved invariant-loop decreases-loop
 unfolding StampedFrom
-loop-again c = (search rules, omega arith, omega arith, c.stamp_state.ensures _ c.loop-u.invariant.3)
+loop-again c =
+    let v = c.loop-u.invariant in
+    let hs = c.args.hops1.now in
+    let m = c.args.map.now in (
+      refl,
+      omega (arith, c.loop-u-test.true, v.0),
+      ⊎_elim (λ x. omega arith) (λ x. rw x.stamps-is v.2) c.if-seen-u-eq1.branch-raw,
+      ⊎_elim (λ x. rw x.stamps-is (x.stamp_state.ensures _ v.3))
+          (λ x. rw x.stamps-is (state_skipped hs c.args.hops2.now m c.args.seen.now c.args.r.0 c.args.k c.requires.0.auditable.admitted.ascending c.loop-u.u {v = mapped m c.loop-u.u} refl (and_no_left _ (ne_eqb _ _ x.if-seen-u-eq1.false)) c.loop-u.stamps _ v.3))
+          c.if-seen-u-eq1.branch-raw,
+    )
 
 same_length : tie.Need-shape_of-stamps invariant-loop decreases-loop
 same_length c = search rules
@@ -58,7 +75,8 @@ stamp_all_spec =
     decreases-loop
     cast-n
     loop-holds
-    cast-t17
+    seen-u
+    cast-t19
     stamp-state-requires
     add-u
     loop-less
