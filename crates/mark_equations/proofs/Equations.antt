@@ -2,11 +2,12 @@
 -- a state's hops instead of the whole list. Assumes nothing.
 use Prim.Native.Nat.{ℕ, zero, suc, ◌-◌, ◌<◌, ◌≤◌}
 use mathlib.Core.Path.{◌≡◌, refl, sym, ◌∙◌}
-use mathlib.Core.Bool.{Bool, true, false}
+use mathlib.Core.Bool.{Bool, true, false, not}
 use mathlib.Core.List.{List}
 use mathlib.Core.Logic.{◌⊎◌, inl, inr}
 use native.Mathlib.Numerals.{sub-one}
 use native.Mathlib.Omega.{arith}
+use borrow.Author.Tests.{not-true, not-false}
 use Rattle.base_bounded.proofs.Bools.{clash, no_test, eq_or_not}
 use Rattle.base_bounded.proofs.Quantifiers.{all_fails}
 use Rattle.graph.specs.Hops.{count, from, label, to, hop_of, has}
@@ -44,11 +45,11 @@ module _ (hs : List ℕ) (up : Ascending hs) (u : Pairs) where
             go (inl p) = p
             go (inr n) = clash (tried_other hs u s1 s2 q n) d
 
-    pub closes_not : j < past → first_of hs s1 ≤ j → {v : Bool} → v ≡ answered hs u s2 j → v ≡ false → false ≡ closes hs u s1 s2
+    pub closes_not : j < past → first_of hs s1 ≤ j → {v : Bool} → v ≡ answered hs u s2 j → not v ≡ true → false ≡ closes hs u s1 s2
     unfolding closes
     closes_not b a {v} d n =
         let l : j < count hs = omega (arith, past_within hs up s1) in
-        let w : answered hs u s2 j ≡ false = sym d ∙ n in
+        let w : answered hs u s2 j ≡ false = sym d ∙ not-true v n in
         sym (all_fails (tried hs (answers hs (closing u)) s1 s2) (count hs) l (tried_own hs u s1 s2 j (range_only hs up s1 l a (omega arith)) ∙ w))
 
   -- Y of the hop at place i, labelled a to s3: a walk over the hops of s2 labelled a, up to `past`,
@@ -72,6 +73,10 @@ module _ (hs : List ℕ) (up : Ascending hs) (u : Pairs) where
 
       pub answered_no : (a ≡ 0 → ⊥) → false ≡ answered hs u s2 i
       answered_no n = sym none ∙ answers_else hs u s2 a s3 (λ z. absurd (n z)) ∙ answered_at hs u s2 i x y
+
+-- a hop passed is answered
+pub passed_answered : (hs : List ℕ) (u : Pairs) (s2 j : ℕ) {v : Bool} → v ≡ answered hs u s2 j → not v ≡ false → answered hs u s2 j ≡ true
+passed_answered hs u s2 j {v} e d = sym e ∙ not-false v d
 
 -- Z: the silent hop s3 to s4 where the search finds it, or does not
 module _ (hs : List ℕ) (s3 s4 : ℕ) {h : Hop} {f : Found} (q : h ≡ hop_of s3 0 s4) (e : f ≡ placed hs h) where

@@ -1,5 +1,5 @@
 -- X, Y and Z leave by the ways of `Equations.antt`; what they write into the table is right.
-use Rattle.std.proofs.Common.{◌≡◌, ℕ, ◌+◌, ◌<◌, true, false, sym, ap, arith, rules}
+use Rattle.std.proofs.Common.{◌≡◌, ℕ, ◌+◌, ◌<◌, true, false, not, sym, ap, arith, rules}
 use Rattle.graph.specs.Hops.{from, to}
 use Rattle.graph.specs.Search.{past_of}
 use Rattle.graph.specs.Answers.{most_states}
@@ -60,7 +60,7 @@ x-returns-then-not-y-clause-answers t c =
     let r = c.requires.prepared in
     let b = c.loop-j.invariant in
     one_round _ _ _ c.requires.place c.requires.silent c.if-k-eq0.false c.to_at-s2.ensures
-    (closes_not _ r.ready.ascending _ _ _ b.past_is c.loop-j-test.true b.first_below c.y.ensures.answers c.if-not-y.true)
+    (closes_not _ r.ready.ascending _ _ _ b.past_is c.loop-j-test.true b.first_below c.y.ensures.answers (ap not c.if-not-y.true))
 
 pub x-returns-then-not-y-clause-keeps : goal.x-returns-then-not-y-clause-keeps
 x-returns-then-not-y-clause-keeps t c =
