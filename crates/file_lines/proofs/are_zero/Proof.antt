@@ -31,12 +31,6 @@ add-number-in c = search rules
 number-in-requires : tie.Need-number_in-requires invariant-loop decreases-loop
 number-in-requires c κs = search rules
 
-returns : tie.Need-returns-then-number_in-ne0 invariant-loop decreases-loop
-unfolding zero_lines
-returns c =
-    let a = c.args in
-    sym (all_fails (zero_line a.file.now a.at) a.n c.loop-i-test.true (ne_eqb _ _ (λ e. c.if-number_in-ne0.true (c.number_in.ensures ∙ e))))
-
 add-i : tie.Need-overflow_add-i invariant-loop decreases-loop
 add-i c = search rules
 
@@ -47,7 +41,7 @@ loop-again : tie.Need-loop-i-preserved invariant-loop decreases-loop
 loop-again c =
     let a = c.args in
     let v = c.loop-i in
-    (all_more (zero_line a.file.now a.at) v.i v.invariant.0 (eq-eqb _ _ (sym c.number_in.ensures ∙ c.if-number_in-ne0.false)), omega arith, v.invariant.2)
+    (all_more (zero_line a.file.now a.at) v.i v.invariant.0 (eq-eqb _ _ (sym c.number_in.ensures ∙ (search rules))), omega arith, v.invariant.2)
 
 returns-2 : tie.Need-returns invariant-loop decreases-loop
 unfolding zero_lines
@@ -56,6 +50,7 @@ returns-2 c =
     sym (all_done (zero_line a.file.now a.at) c.loop-i.invariant.1 (omega arith) c.loop-i.invariant.0)
 
 pub are_zero_spec : {M : Type 1} → statement M
+unfolding zero_lines
 are_zero_spec =
     tie.close
     (tie.spec
@@ -65,7 +60,8 @@ are_zero_spec =
     mul-number-in
     add-number-in
     number-in-requires
-    returns
+    (λ c. let a = c.args in
+    sym (all_fails (zero_line a.file.now a.at) a.n c.loop-i-test.true (let other : c.number_in.result ≡ 0 → ⊥ = search rules in ne_eqb _ _ (λ e. other (c.number_in.ensures ∙ e)))))
     add-i
     loop-less
     loop-again

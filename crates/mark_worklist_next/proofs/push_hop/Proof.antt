@@ -17,11 +17,6 @@ element-copy-out-if1 c =
     let st = c in
     omega (arith, c.wide-s1.ensures, c.from_at.ensures, st.requires.0.push.given.ready.from_in st.args.j st.requires.1.0)
 
-returns : tie.Need-returns-then-leaving-s1-ne1
-returns c =
-    let st = c in
-    trying_none _ _ _ _ st.args.leaving.now st.requires.0.leaving (c.wide-s1.ensures ∙ c.from_at.ensures) c.if-leaving-s1-ne1.true st.requires.0.push.queue
-
 to-at-requires : tie.Need-to_at-requires
 to-at-requires c κs = search rules
 
@@ -90,7 +85,8 @@ push_hop_spec =
     from-at-requires
     wide-requires
     element-copy-out-if1
-    returns
+    (λ c. let st = c in
+    trying_none _ _ _ _ st.args.leaving.now st.requires.0.leaving (c.wide-s1.ensures ∙ c.from_at.ensures) (search rules) st.requires.0.push.queue)
     to-at-requires
     wide-requires-2
     add-start-of

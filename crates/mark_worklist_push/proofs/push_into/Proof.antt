@@ -22,12 +22,8 @@ push-pair-requires c κs =
     let st = c in
     (record { given = st.requires.0.given; queue = c.push_answers-length.ensures.queue }, rw c.from_at-s1.ensures (st.requires.0.given.ready.from_in _ st.requires.1.1.0))
 
-returns : tie.Need-returns-then-label_at-eq0
-returns c =
-    trying_silent _ _ _ _ _ _ c.label_at.ensures c.if-label_at-eq0.true c.from_at-s1.ensures c.to_at-s4.ensures c.push_answers-length.ensures c.push_pair.ensures
-
 returns-2 : tie.Need-returns
-returns-2 c = trying_visible _ _ _ _ c.label_at.ensures c.if-label_at-eq0.false c.push_answers-length.ensures
+returns-2 c = trying_visible _ _ _ _ c.label_at.ensures (search rules) c.push_answers-length.ensures
 
 pub push_into_spec : {M : Type 1} → statement M
 push_into_spec =
@@ -38,5 +34,5 @@ push_into_spec =
     from-at-requires
     to-at-requires
     push-pair-requires
-    returns
+    (λ c. trying_silent _ _ _ _ _ _ c.label_at.ensures (search rules) c.from_at-s1.ensures c.to_at-s4.ensures c.push_answers-length.ensures c.push_pair.ensures)
     returns-2)

@@ -1,6 +1,6 @@
 -- `shrink_entry::shrink` meets its contract: a refusal writes nothing, and acceptance is what the
 -- repetition requires. Assumes nothing.
-use mathlib.Core.Path.{◌∙◌}
+use mathlib.Core.Path.{◌≡◌, ◌∙◌}
 use Rattle.reduce_entry.proofs.Answering.{reduce_reducible, reduce_map_capacity, reduce_short_capacity}
 use Rattle.shrink_entry.proofs.Answering.{refused_returns, refused_map, refused_short, accepts, accepted_returns, accepted_map, accepted_short}
 use borrow.Author.Rules.{rules}
@@ -13,19 +13,10 @@ reduce-answer-requires c κs = search rules
 refused-shrinking-requires : tie.Need-refused_shrinking-requires
 refused-shrinking-requires c κs = search rules
 
-returns : tie.Need-returns-then-answer-ne0
-returns c =
-    let st = c.args in
-    let map = st.map.now in
-    let short = st.short.now in
-    let e = c.reduce_answer-answer.ensures in
-    let n = c.if-answer-ne0.true in
-    (c.refused_shrinking.ensures ∙ refused_returns _ _ _ map short e n, (refused_map _ _ _ map short e n, refused_short _ _ _ map short e n))
-
 accepted-shrinking-requires : tie.Need-accepted_shrinking-requires
 accepted-shrinking-requires c κs =
     let st = c.args in
-    let z = accepts _ _ _ st.map.now st.short.now c.reduce_answer-answer.ensures c.if-answer-ne0.false in
+    let z = accepts _ _ _ st.map.now st.short.now c.reduce_answer-answer.ensures (search rules) in
     (reduce_reducible _ _ _ _ _ z, (reduce_map_capacity _ _ _ _ _ z, reduce_short_capacity _ _ _ _ _ z))
 
 same_length : tie.Need-shape_of-map
@@ -40,7 +31,7 @@ returns-2 c =
     let map = st.map.now in
     let short = st.short.now in
     let e = c.reduce_answer-answer.ensures in
-    let z = c.if-answer-ne0.false in
+    let z : c.reduce_answer-answer.result.number ≡ 0 = search rules in
     let w = c.accepted_shrinking.ensures in
     (w.0 ∙ accepted_returns _ _ _ map short e z, (accepted_map _ _ _ map short e z w.1.0, accepted_short _ _ _ map short e z w.1.1))
 
@@ -50,7 +41,12 @@ shrink_spec =
     (tie.spec
     reduce-answer-requires
     refused-shrinking-requires
-    returns
+    (λ c. let st = c.args in
+    let map = st.map.now in
+    let short = st.short.now in
+    let e = c.reduce_answer-answer.ensures in
+    let n : c.reduce_answer-answer.result.number ≡ 0 → ⊥ = search rules in
+    (c.refused_shrinking.ensures ∙ refused_returns _ _ _ map short e n, (refused_map _ _ _ map short e n, refused_short _ _ _ map short e n)))
     accepted-shrinking-requires
     same_length
     same-length-2

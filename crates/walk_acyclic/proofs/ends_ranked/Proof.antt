@@ -96,16 +96,6 @@ shared-slice-read-if2 c =
     let s = start (turn c.before) in
     omega (arith, end_is c.before, s.requires.0.admitted.range.to_in _ (here c.before), s.requires.1.0)
 
-returns-2 : tie.Need-returns-then-ranked-at-ne1 invariant-loop decreases-loop
-returns-2 c =
-    let a = turn c.before.before in
-    let s = start a in
-    sym
-    (ends_fails s.args.hops.now s.args.ranked.now s.args.v.0 s.requires.0.admitted.ascending (lo_is a) (hi_is a) a.loop-i.i a.loop-i.invariant.0
-    c.loop-i-test.true
-    (sym c.label_at.ensures ∙ c.if-label_at-ne0.false)
-    (rw (← end_is c.before.before) (visited_no _ _ c.if-ranked-at-ne1.true)))
-
 add-i : tie.Need-overflow_add-i invariant-loop decreases-loop
 add-i c = omega (arith, here c.before.before)
 
@@ -115,7 +105,7 @@ loop-less c = omega (arith, c.loop-i-test.true)
 loop-again : tie.Need-loop-i-preserved invariant-loop decreases-loop
 loop-again c =
     let i = (turn c.before.before).loop-i.invariant in
-    (omega (arith, i.0), range_more i.1 (rw (← end_is c.before.before) (visited_yes _ _ c.if-ranked-at-ne1.false)))
+    (omega (arith, i.0), range_more i.1 (rw (← end_is c.before.before) (visited_yes _ _ (search rules))))
 
 returns-3 : tie.Need-returns invariant-loop decreases-loop
 returns-3 c = sym (all_here c.before (λ l e. omega (arith, c.loop-i-test.false)))
@@ -136,7 +126,13 @@ ends_ranked_spec =
     to-at-requires
     wide-requires-2
     shared-slice-read-if2
-    returns-2
+    (λ c. let a = turn c.before.before in
+    let s = start a in
+    sym
+    (ends_fails s.args.hops.now s.args.ranked.now s.args.v.0 s.requires.0.admitted.ascending (lo_is a) (hi_is a) a.loop-i.i a.loop-i.invariant.0
+    c.loop-i-test.true
+    (sym c.label_at.ensures ∙ c.if-label_at-ne0.false)
+    (rw (← end_is c.before.before) (visited_no _ _ (search rules)))))
     add-i
     loop-less
     loop-again

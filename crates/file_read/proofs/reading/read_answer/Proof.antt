@@ -19,9 +19,6 @@ returns c = format_speaks _ _ c.format_answer-format.ensures c.if-format-ne0.tru
 hops-answer-requires : tie.Need-hops_answer-graph-requires
 hops-answer-requires c κs = (format_sound _ (ap (λ (x : Answer). x.number) (sym c.format_answer-format.ensures) ∙ c.if-format-ne0.false)).exact
 
-returns-2 : tie.Need-returns-then-graph-ne0
-returns-2 c = graph_speaks _ _ c.format_answer-format.ensures c.if-format-ne0.false c.hops_answer-graph.ensures c.if-graph-ne0.true
-
 hops-in-requires : tie.Need-hops_in-requires
 hops-in-requires c κs = search rules
 
@@ -29,7 +26,7 @@ cast-number-place : tie.Need-overflow_cast-hops_in
 cast-number-place c = search rules
 
 number-place-requires : tie.Need-number_place-requires
-number-place-requires c κs = omega (arith, c.hops_in.ensures, graph_few _ c.hops_answer-graph.ensures c.if-graph-ne0.false)
+number-place-requires c κs = omega (arith, c.hops_in.ensures, graph_few _ c.hops_answer-graph.ensures (search rules))
 
 refuse-requires : tie.Need-refuse-requires
 refuse-requires c κs = search rules
@@ -37,7 +34,7 @@ refuse-requires c κs = search rules
 returns-3 : tie.Need-returns-then-capacity-number_place
 returns-3 c =
     c.refuse.ensures ∙
-    capacity_speaks _ _ c.format_answer-format.ensures c.if-format-ne0.false c.hops_answer-graph.ensures c.if-graph-ne0.false (c.number_place.ensures ∙ ap number_place c.hops_in.ensures) c.if-capacity-number_place.true
+    capacity_speaks _ _ c.format_answer-format.ensures c.if-format-ne0.false c.hops_answer-graph.ensures (search rules) (c.number_place.ensures ∙ ap number_place c.hops_in.ensures) c.if-capacity-number_place.true
 
 accept-requires : tie.Need-accept-requires
 accept-requires c κs = search rules
@@ -45,7 +42,7 @@ accept-requires c κs = search rules
 returns-4 : tie.Need-returns
 returns-4 c =
     c.accept.ensures ∙
-    none_speaks _ _ c.format_answer-format.ensures c.if-format-ne0.false c.hops_answer-graph.ensures c.if-graph-ne0.false (c.number_place.ensures ∙ ap number_place c.hops_in.ensures) c.if-capacity-number_place.false
+    none_speaks _ _ c.format_answer-format.ensures c.if-format-ne0.false c.hops_answer-graph.ensures (search rules) (c.number_place.ensures ∙ ap number_place c.hops_in.ensures) c.if-capacity-number_place.false
 
 pub read_answer_spec : {M : Type 1} → statement M
 read_answer_spec =
@@ -54,7 +51,7 @@ read_answer_spec =
     format-answer-requires
     returns
     hops-answer-requires
-    returns-2
+    (λ c. graph_speaks _ _ c.format_answer-format.ensures c.if-format-ne0.false c.hops_answer-graph.ensures (search rules))
     hops-in-requires
     cast-number-place
     number-place-requires

@@ -1,5 +1,6 @@
 -- `mark_entry::mark::mark` meets its contract: acceptance implies what marking needs. Assumes
 -- nothing.
+use mathlib.Core.Path.{◌≡◌}
 use borrow.Author.Rules.{rules}
 use Rattle.graph_check.proofs.Checked.{check_admitted}
 use Rattle.graph_successors.proofs.Firsts.{admitted_indexable}
@@ -35,21 +36,12 @@ mark-in-requires c κs =
     let e = c.check-checked.ensures in
     let z = c.if-checked-ne0.false in
     let d = mark_later _ _ _ st.args.marks.now e z c.sense_answer-sensed.ensures c.if-sensed-ne0.false c.later_answer-answer.ensures in
-    let y = rw d at c.if-answer-eq0.true in
+    let z0 : c.later_answer-answer.result.number ≡ 0 = search rules in
+    let y = rw d at z0 in
     (record { admitted = check_admitted _ _ (rw e at z); table = c.starts_of-starts.ensures }, (mark_ringless _ _ _ _ y, mark_capacity _ _ _ _ y))
 
 same_length : tie.Need-shape_of-marks
 same_length c = search rules
-
-returns-3 : tie.Need-returns-then-answer-eq0
-returns-3 c =
-    let d = mark_later _ _ _ _ c.check-checked.ensures c.if-checked-ne0.false c.sense_answer-sensed.ensures c.if-sensed-ne0.false c.later_answer-answer.ensures in
-    (d, output_marked _ _ _ _ (rw d at c.if-answer-eq0.true) c.mark_in.ensures)
-
-returns-4 : tie.Need-returns-else-answer-eq0
-returns-4 c =
-    let d = mark_later _ _ _ _ c.check-checked.ensures c.if-checked-ne0.false c.sense_answer-sensed.ensures c.if-sensed-ne0.false c.later_answer-answer.ensures in
-    (d, output_same _ _ _ _ (rw d at c.if-answer-eq0.false))
 
 pub mark_spec : {M : Type 1} → statement M
 mark_spec =
@@ -63,5 +55,7 @@ mark_spec =
     later-answer-requires
     mark-in-requires
     same_length
-    returns-3
-    returns-4)
+    (λ c. let d = mark_later _ _ _ _ c.check-checked.ensures c.if-checked-ne0.false c.sense_answer-sensed.ensures c.if-sensed-ne0.false c.later_answer-answer.ensures in
+    (d, output_marked _ _ _ _ (let z0 : c.later_answer-answer.result.number ≡ 0 = search rules in rw d at z0) c.mark_in.ensures))
+    (λ c. let d = mark_later _ _ _ _ c.check-checked.ensures c.if-checked-ne0.false c.sense_answer-sensed.ensures c.if-sensed-ne0.false c.later_answer-answer.ensures in
+    (d, output_same _ _ _ _ (let n0 : c.later_answer-answer.result.number ≡ 0 → ⊥ = search rules in rw d at n0))))

@@ -24,12 +24,6 @@ cast-if3 c = search rules
 refuse-requires : tie.Need-refuse-requires
 refuse-requires c κs = search rules
 
-returns-3 : tie.Need-returns-then-entries-shape
-returns-3 c =
-    let s = c.sense_answer-sensed.ensures in
-    let r = c.ring_answer-ringed.ensures in
-    c.refuse.ensures ∙ later_narrow _ _ _ _ _ s c.if-sensed-ne0.false r c.if-ringed-ne0.false c.if-entries-shape.true
-
 accept-requires : tie.Need-accept-requires
 accept-requires c κs = search rules
 
@@ -37,7 +31,7 @@ returns-4 : tie.Need-returns
 returns-4 c =
     let s = c.sense_answer-sensed.ensures in
     let r = c.ring_answer-ringed.ensures in
-    c.accept.ensures ∙ later_accepts _ _ _ _ _ s c.if-sensed-ne0.false r c.if-ringed-ne0.false c.if-entries-shape.false
+    c.accept.ensures ∙ later_accepts _ _ _ _ _ s c.if-sensed-ne0.false r c.if-ringed-ne0.false (search rules)
 
 pub later_answer_spec : {M : Type 1} → statement M
 later_answer_spec =
@@ -49,6 +43,8 @@ later_answer_spec =
     returns-2
     cast-if3
     refuse-requires
-    returns-3
+    (λ c. let s = c.sense_answer-sensed.ensures in
+    let r = c.ring_answer-ringed.ensures in
+    c.refuse.ensures ∙ later_narrow _ _ _ _ _ s c.if-sensed-ne0.false r c.if-ringed-ne0.false (search rules))
     accept-requires
     returns-4)

@@ -4,6 +4,8 @@ use borrow.Author.Tests.{eq-eqb, ne_eqb}
 use Rattle.mark_confluence.specs.Internal.MarkSet.{is_marked}
 use Rattle.reduce_representatives.specs.Internal.Tables.{with_next}
 use borrow.Author.Rules.{rules}
+use mathlib.Core.Path.{◌≡◌}
+use lib.ListN.{get_or}
 use Rattle.reduce_representatives.proofs.follow.enter.Statement.{statement}
 use Rattle.reduce_representatives.proofs.follow.enter.Tie as tie
 
@@ -25,16 +27,8 @@ mul_next c = search rules
 element-write-next : tie.Need-bounds-next-at
 element-write-next c = search rules
 
-returns : tie.Need-returns-then-marks-i-eq1
-unfolding with_next is_marked
-returns c =
-    rw (eq-eqb _ 1 c.if-marks-i-eq1.true) (cc)
-
-returns-2 : tie.Need-returns-else-marks-i-eq1
-unfolding with_next is_marked
-returns-2 c = rw (ne_eqb _ 1 c.if-marks-i-eq1.false)
-
 pub enter_spec : {M : Type 1} → statement M
+unfolding with_next is_marked
 enter_spec =
     tie.close
     (tie.spec
@@ -44,5 +38,5 @@ enter_spec =
     to-at-requires
     mul_next
     element-write-next
-    returns
-    returns-2)
+    (λ c. let yes : get_or c.args.marks.now c.args.i 0 ≡ 1 = search rules in rw (eq-eqb _ 1 yes) cc)
+    (λ c. let other : get_or c.args.marks.now c.args.i 0 ≡ 1 → ⊥ = search rules in rw (ne_eqb _ 1 other)))
