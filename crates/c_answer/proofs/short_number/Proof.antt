@@ -1,5 +1,5 @@
--- `c_answer::short_number` meets its contract. The test is not named, so that a wrong one is refused
--- for what it says. Assumes nothing.
+-- `c_answer::short_number` meets its contract. The test is not named, so that a wrong one is
+-- refused for what it says. Assumes nothing.
 use borrow.Author.Rules.{rules}
 use Rattle.c_answer.proofs.Answers.{short_six, refusal_returns}
 use Rattle.c_answer.proofs.short_number.Statement.{statement}
