@@ -53,7 +53,8 @@ pub fn is_answered(hops: &[u16], starts: &[u16; STARTS], marks: &[u8], rest: Res
     let a = label_at(hops, j);
     let s3 = to_at(hops, j);
     let s2 = rest.state;
-    if a.0 == 0 {
+    let is_silent = a.0 == 0;
+    if is_silent {
         if is_closed(hops, starts, marks, s3, s2) {
             return true;
         }

@@ -71,7 +71,8 @@ pub fn closes_again(
     let end = start_of(starts, s1 + 1);
     let mut j = start_of(starts, s1);
     while j < end {
-        if dirty[wide(to_at(hops, j).0)] == 1 {
+        let is_dirty = dirty[wide(to_at(hops, j).0)] == 1;
+        if is_dirty {
             if !passes(hops, starts, marks, s2, j) {
                 return false;
             }

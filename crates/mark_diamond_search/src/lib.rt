@@ -118,7 +118,8 @@ fn ends_answer(
         if label_at(hops, i).0 != 0 {
             return false;
         }
-        if marks[i] == 1 {
+        let is_marked = marks[i] == 1;
+        if is_marked {
             if leads_to(hops, starts, s2, a, to_at(hops, i)) {
                 return true;
             }

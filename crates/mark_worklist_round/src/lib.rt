@@ -35,7 +35,8 @@ pub fn list_silent(hops: &[u16], queue: &mut [u16; MOST_HOPS]) -> usize
     let mut i = 0;
     while i < past {
         queue[n] = i as u16;
-        if label_at(hops, i).0 == 0 {
+        let is_silent = label_at(hops, i).0 == 0;
+        if is_silent {
             n += 1;
         }
         i += 1;

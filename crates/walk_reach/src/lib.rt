@@ -66,7 +66,8 @@ fn expand(
     let mut end = tail;
     let mut i = start_of(starts, at);
     while i < past {
-        if chosen[i] == 1 {
+        let is_chosen = chosen[i] == 1;
+        if is_chosen {
             end = visit(seen, queue, end, to_at(hops, i));
         }
         i += 1;

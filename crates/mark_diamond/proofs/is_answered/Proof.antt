@@ -19,7 +19,7 @@ is-closed-requires c κs =
     (st.requires.0, rw c.to_at-s3.ensures (st.requires.0.ready.to_in _ st.requires.1.0))
 
 returns : tie.Need-returns-then-is_closed
-returns c = answered_still _ _ _ _ c.label_at-a.ensures c.to_at-s3.ensures c.if-a-eq0.true c.is_closed.ensures c.if-is_closed.true
+returns c = answered_still _ _ _ _ c.label_at-a.ensures c.to_at-s3.ensures c.if-is_silent.true c.is_closed.ensures c.if-is_closed.true
 
 hop-answers-requires : tie.Need-hop_answers-requires
 hop-answers-requires c κs =
@@ -34,7 +34,7 @@ hop-answers-requires c κs =
 returns-2 : tie.Need-returns
 returns-2 c =
     answered_else _ _ _ _ c.label_at-a.ensures c.to_at-s3.ensures c.hop_answers.ensures
-    (⊎_elim (λ w q. sym w.is_closed.ensures ∙ w.if-is_closed.false) (λ w q. absurd (w.if-a-eq0.false q)) c.if-a-eq0.branch-raw)
+    (⊎_elim (λ w q. sym w.is_closed.ensures ∙ w.if-is_closed.false) (λ w q. absurd (w.if-is_silent.false q)) c.if-is_silent.branch-raw)
 
 pub is_answered_spec : {M : Type 1} → statement M
 is_answered_spec =

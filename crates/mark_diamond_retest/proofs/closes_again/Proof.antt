@@ -95,8 +95,8 @@ loop-again c =
     let end = c.wide.ensures ∙ c.to_at.ensures in (
       own_next _ up _ _ o l,
       ⊎_elim (λ w. tried_next _ up _ _ o l _ _ t w.passes.ensures w.if-not-passes.false-raw f)
-          (λ w. tried_next _ up _ _ o l _ _ t (sym (clean_at _ _ _ st.args.i st.requires.1.1 (own_in _ up _ _ o l) (own_from _ up _ _ o l) t (rw end at (ne_eqb _ _ w.if-dirty-wide-eq1.false)))) refl f)
-          c.if-dirty-wide-eq1.branch-raw,
+          (λ w. tried_next _ up _ _ o l _ _ t (sym (clean_at _ _ _ st.args.i st.requires.1.1 (own_in _ up _ _ o l) (own_from _ up _ _ o l) t (rw end at (ne_eqb _ _ w.if-is_dirty.false)))) refl f)
+          c.if-is_dirty.branch-raw,
     )
 
 returns-2 : tie.Need-returns invariant-loop decreases-loop

@@ -69,7 +69,7 @@ to-at-requires c κs =
     let st = lp in
     passed_in _ _ _ _ _ st.requires.0.ready.ascending lp.loop-i.invariant c.loop-i-test.true
 
-leads-to-requires-2 : tie.Need-leads_to-requires-then-marks-i-eq1 invariant-loop decreases-loop
+leads-to-requires-2 : tie.Need-leads_to-requires-then-is_marked invariant-loop decreases-loop
 leads-to-requires-2 c κs = search rules
 
 returns-3 : tie.Need-returns-then-leads_to-2 invariant-loop decreases-loop
@@ -79,7 +79,7 @@ returns-3 c =
     let st = lp in
     let silent = sym c.label_at.ensures ∙ c.if-label_at-ne0.false in
     rw lp.wide-t3.ensures at (marked_answers _ _ _ _ _ st.requires.0.ready.ascending lp.loop-i.invariant c.loop-i-test.true silent
-    (eq-eqb _ _ c.if-marks-i-eq1.true) c.to_at.ensures c.leads_to-then-marks-i-eq1.ensures c.if-leads_to-2.true)
+    (eq-eqb _ _ c.if-is_marked.true) c.to_at.ensures c.leads_to-then-is_marked.ensures c.if-leads_to-2.true)
 
 add-i : tie.Need-overflow_add-i invariant-loop decreases-loop
 add-i c =
@@ -96,7 +96,7 @@ loop-again c =
     let lp = c in
     let st = lp in
     passed_next _ _ _ _ _ st.requires.0.ready.ascending lp.loop-i.invariant
-    (⊎_elim (λ w e. leads_is _ _ _ w.to_at.ensures w.leads_to-then-marks-i-eq1.ensures w.if-leads_to-2.false) (λ w e. clash e (ne_eqb _ _ w.if-marks-i-eq1.false)) c.if-marks-i-eq1.branch-raw)
+    (⊎_elim (λ w e. leads_is _ _ _ w.to_at.ensures w.leads_to-then-is_marked.ensures w.if-leads_to-2.false) (λ w e. clash e (ne_eqb _ _ w.if-is_marked.false)) c.if-is_marked.branch-raw)
 
 returns-4 : tie.Need-returns invariant-loop decreases-loop
 returns-4 c =

@@ -44,7 +44,7 @@ element-write-queue c =
     let st = c in
     omega (arith, st.requires.0.hops_most, c.loop-i.invariant.3.most)
 
-label-at-requires : tie.Need-label_at-requires invariant-loop decreases-loop
+label-at-requires : tie.Need-label_at-is_silent-requires invariant-loop decreases-loop
 label-at-requires c κs = omega arith
 
 add-n : tie.Need-overflow_add-n invariant-loop decreases-loop
@@ -62,13 +62,13 @@ loop-again : tie.Need-loop-i-preserved invariant-loop decreases-loop
 loop-again c =
     let st = c in
     let v = c.loop-i.invariant in
-    let e = c.label_at.ensures in (
+    let e = c.label_at-is_silent.ensures in (
       v.0,
       omega arith,
       simp length-set v.2,
       ⊎_elim
-          (λ w. rw w.n-is (lists_more _ _ v.3 (omega (arith, st.requires.0.hops_most, v.3.most)) (first_yes st.args.hops.now _ e w.if-label_at-eq0.true)))
-          (λ w. rw w.n-is (lists_skip _ _ v.3 (omega (arith, st.requires.0.hops_most, v.3.most)) (first_no st.args.hops.now _ e w.if-label_at-eq0.false))) c.if-label_at-eq0.branch-raw,
+          (λ w. rw w.n-is (lists_more _ _ v.3 (omega (arith, st.requires.0.hops_most, v.3.most)) (first_yes st.args.hops.now _ e w.if-is_silent.true)))
+          (λ w. rw w.n-is (lists_skip _ _ v.3 (omega (arith, st.requires.0.hops_most, v.3.most)) (first_no st.args.hops.now _ e w.if-is_silent.false))) c.if-is_silent.branch-raw,
     )
 
 returns : tie.Need-returns invariant-loop decreases-loop

@@ -95,9 +95,9 @@ loop-again c =
       omega (arith, a.loop-i.invariant.0),
       λ sh v r f.
           ⊎_elim
-          (λ w. passed_more r _ (a.loop-i.invariant.1 sh v r f) a.loop-i.invariant.0 l (chosen_yes _ _ w.if-chosen-i-eq1.true) w.to_at.ensures (w.seen-is ∙ w.visit-end.ensures.0)
+          (λ w. passed_more r _ (a.loop-i.invariant.1 sh v r f) a.loop-i.invariant.0 l (chosen_yes _ _ w.if-is_chosen.true) w.to_at.ensures (w.seen-is ∙ w.visit-end.ensures.0)
           (w.queue-is ∙ w.visit-end.ensures.1.0) (w.end-is ∙ w.visit-end.ensures.1.1))
-          (λ w. rw (w.seen-is, w.queue-is, w.end-is) (passed_over r _ (a.loop-i.invariant.1 sh v r f) (chosen_no _ _ w.if-chosen-i-eq1.false))) c.if-chosen-i-eq1.branch-raw,
+          (λ w. rw (w.seen-is, w.queue-is, w.end-is) (passed_over r _ (a.loop-i.invariant.1 sh v r f) (chosen_no _ _ w.if-is_chosen.false))) c.if-is_chosen.branch-raw,
     )
 
 same_length : tie.Need-shape_of-seen invariant-loop decreases-loop
