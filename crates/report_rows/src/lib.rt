@@ -34,7 +34,8 @@ fn put_mark(out: &mut [u8], at: usize, hops: &[u16], marks: &[u8], i: usize) -> 
     requires capacity { TextFits at (marked_line hops.now (by_place marks.now) i) out.old }
     ensures { TextPut out.old at (marked_line hops.now (by_place marks.now) i) result out.new }
 {
-    if marks[i] == 1 {
+    let is_marked = marks[i] == 1;
+    if is_marked {
         let from = from_at(hops, i).0 as usize;
         let to = to_at(hops, i).0 as usize;
         let numbers = [from, to];

@@ -35,7 +35,8 @@ fn put_digits(out: &mut [u8], at: usize, n: usize, k: usize) -> usize
     if k == 0 {
         return at;
     }
-    if n < 10 {
+    let is_digit = n < 10;
+    if is_digit {
         return put_byte(out, at, 48 + (n as u8));
     }
     let next = put_digits(out, at, n / 10, k - 1);

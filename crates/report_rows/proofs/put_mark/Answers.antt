@@ -8,14 +8,14 @@ use Rattle.report_rows.proofs.put_mark.Goals as goal
 pub put_line-requires : goal.put_line-requires
 put_line-requires c =
     let a = c.args in
-    let e = mark_yes a.hops.now (by_place a.marks.now) a.i c.if-marks-i-eq1.true c.from_at-from.ensures c.to_at-to.ensures in
+    let e = mark_yes a.hops.now (by_place a.marks.now) a.i c.if-is_marked.true c.from_at-from.ensures c.to_at-to.ensures in
     capacity_same e c.requires.capacity
 
-pub returns-then-marks-i-eq1 : goal.returns-then-marks-i-eq1
-returns-then-marks-i-eq1 c =
+pub returns-then-is_marked : goal.returns-then-is_marked
+returns-then-is_marked c =
     let a = c.args in
-    let e = mark_yes a.hops.now (by_place a.marks.now) a.i c.if-marks-i-eq1.true c.from_at-from.ensures c.to_at-to.ensures in
+    let e = mark_yes a.hops.now (by_place a.marks.now) a.i c.if-is_marked.true c.from_at-from.ensures c.to_at-to.ensures in
     put_same (sym e) c.put_line.ensures
 
 pub returns : goal.returns
-returns c = put_same (sym (mark_no _ _ _ c.if-marks-i-eq1.false)) (put_none _ _)
+returns c = put_same (sym (mark_no _ _ _ c.if-is_marked.false)) (put_none _ _)
