@@ -1,6 +1,6 @@
 -- `walk_topological_order::place_one` meets its contract: v is placed where it is not yet and all
--- its silent hops lead to placed states. The test of these ends is not named, so that a wrong one is
--- refused for what it says. Assumes nothing.
+-- its silent hops lead to placed states. The test of these ends is not named, so that a wrong one
+-- is refused for what it says. Assumes nothing.
 use Prim.Native.Nat.{◌<◌}
 use mathlib.Core.Path.{◌≡◌, refl, sym, ◌∙◌}
 use mathlib.Core.Bool.{true, false}
