@@ -90,7 +90,8 @@ done)"
 
 # an edit is refused because a fact fails, and not because a name is not there (where the gate has tried
 # the edits: what rt ci said). rt ci shows the first error that is not about a name. Where that one only
-# says what was not checked for an earlier error, the name was all.
+# says what was not checked for an earlier error, the name was all. (Not seen: an answer to a goal that has
+# another name with the edit.)
 if [ -e target/ci.log ]; then
     none "edits refused for a name" "$(grep -a '^rt: must-fail .*: refused' target/ci.log |
         grep -aE 'is not in scope|unknown-name|can be named from here|has no function|only because a proof file names|declarations? that depends? on' || true)"
