@@ -13,7 +13,10 @@ fi
 work=$(mktemp -d)
 trap 'rm -rf "$work"' EXIT
 
-# the plain implementation needs no archive: it is compared beside what follows
+# the plain implementation needs no archive: it is compared beside what follows. cargo makes a target
+# folder elsewhere and renames it, over an empty one too, so two that start at once can lose one: they
+# find both there
+mkdir -p rust/target/differential
 (
     cd rust
     CARGO_TARGET_DIR=target/differential cargo run --release --offline --quiet -p differential -- --small 40000 --files 40000 --large 80 "$@"
