@@ -17,7 +17,7 @@ none() {
 
 # lines of code and contracts have at most 160 characters, comments 100, and what a function asks stands
 # one named line each
-none "lines of more than 160 characters" "$(grep -nE '^.{161,}$' crates/*/src/*.rt | grep -vE ':[0-9]+: *(\/\/|ghost use )' || true)"
+none "lines of more than 160 characters" "$(grep -nE '^.{161,}$' crates/*/src/*.rt | grep -vE ':[0-9]+: *\/\/' || true)"
 none "comments of more than 100 characters" "$(find crates -path 'crates/*/out' -prune -o \( -name '*.rt' -o -name '*.antt' \) -print0 | sort -z | xargs -0 grep -nE '^ *(//|--|pub mod |mod )' | grep -E '^[^:]*:[0-9]+:.{101,}$' || true)"
 none "a requires that asks several things" "$(grep -nE 'requires.*( × | ∗ )' crates/*/src/*.rt || true)"
 

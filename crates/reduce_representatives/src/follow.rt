@@ -5,7 +5,9 @@ ghost use Rattle.std.specs.Prelude.{◌≡◌, ◌<◌, ◌≤◌, length};
 ghost use Rattle.graph.specs.Hops.{count, from};
 ghost use Rattle.graph.specs.Answers.{most_states};
 ghost use Rattle.mark_confluence.specs.Internal.MarkSet.{mark_set};
-ghost use Rattle.reduce_representatives.specs.Internal.Tables.{Marks, IdentityTable, FromIn, NextTable, ClosedTable, TerminatingTable, Compressed, with_next, is_fixed, table_steps};
+ghost use Rattle.reduce_representatives.specs.Internal.Tables.{Marks, IdentityTable, FromIn, NextTable};
+ghost use Rattle.reduce_representatives.specs.Internal.Tables.{ClosedTable, TerminatingTable, Compressed};
+ghost use Rattle.reduce_representatives.specs.Internal.Tables.{with_next, is_fixed, table_steps};
 
 use graph::hops::{from_at, hop_count, to_at};
 use graph::{MOST_STATES, OldState};
