@@ -1,41 +1,40 @@
--- The ways out of the audit's answer, and what it means: 0 exactly where both graphs and the map
--- are admitted and the label counts agree. Assumes nothing.
-use Prim.Native.Nat.{ℕ, ◌<◌, ◌≤◌}
-use mathlib.Core.Path.{◌≡◌, refl, sym, ap}
+-- What the audit's answer means: 0 exactly where both graphs and the map are admitted and the label
+-- counts agree. Assumes nothing.
+use Prim.Native.Nat.{ℕ, ◌≤◌}
+use mathlib.Core.Path.{◌≡◌, refl, sym, ap, ◌∙◌}
 use mathlib.Core.Bool.{Bool, true, false, cond, not}
 use mathlib.Core.List.{List}
 use mathlib.Core.Logic.{◌↔◌}
 use native.Mathlib.Nat.{le_refl}
 use native.Mathlib.Omega.{arith}
-use borrow.Author.Tests.{eq-eqb, ne_eqb, eqb-true, eqb-false, lt-ltb, le-ltb, ltb-true, ltb-false, not-false}
+use borrow.Author.Tests.{eq-eqb, eqb-true, eqb-false, lt-ltb, le-ltb, ltb-true, ltb-false, not-false}
 use lib.ListN.{length}
 use lib.Dec.{eqb, ltb}
+use Rattle.std.proofs.lemmas.Bool.{not_from_true}
 use Rattle.base_bounded.specs.Quantifiers.{least}
 use Rattle.graph.specs.Answers.{accepted, refused, in_table, and_then}
 use Rattle.graph.specs.Map.{mapped}
 use Rattle.graph.specs.declared.Shape.{Shape}
 use Rattle.graph.specs.declared.Answer.{Answer}
 use Rattle.graph_check.specs.Check.{check_of}
-use Rattle.base_bounded.proofs.Bools.{not_yes}
 use Rattle.base_bounded.proofs.Quantifiers.{least_no, least_before}
 use Rattle.graph_check.proofs.Checked.{check_admitted, admitted_check}
-use Rattle.audit_admitted.specs.Admitted.{AdmittedMap, first_high, map_fits, audit_answer}
+use Rattle.graph.proofs.Accepts.{refusal_ne0, accepts}
+use Rattle.audit_admitted.specs.Admitted.{AdmittedMap, first_high, map_fits, audit_answer, audit_refusal_answer}
 use Rattle.audit_admitted.specs.Admitted.{Audited}
+use Rattle.audit_admitted.specs.declared.AuditRefusal.{AuditRefusal}
+use Rattle.audit_admitted.specs.declared.AuditRefusal.TheVariants.{Graph2, Other}
+
+-- no refusal of an audit has number 0
+pub audit_refusal_ne0 : (r : AuditRefusal) → (audit_refusal_answer r).number ≡ 0 → ⊥
+audit_refusal_ne0 (Graph2 r) = refusal_ne0 r
+audit_refusal_ne0 (Other r) = refusal_ne0 r
 
 -- row 8
 module _ (sh1 sh2 : Shape) (m : List ℕ) where
-  pub fits_length : (length m ≡ sh1.states → ⊥) → refused 8 (length m) ≡ map_fits sh1 sh2 m
+  fits_accepts : length m ≡ sh1.states → length m ≤ first_high sh2 m → accepted ≡ map_fits sh1 sh2 m
   unfolding map_fits
-  fits_length d = rw (ne_eqb _ _ d)
-
-  module _ (e : length m ≡ sh1.states) {o : ℕ} (p : o ≡ first_high sh2 m) where
-    pub fits_high : o < length m → refused 8 o ≡ map_fits sh1 sh2 m
-    unfolding map_fits
-    fits_high l = rw (eq-eqb _ _ e, ← p, lt-ltb _ _ l)
-
-    pub fits_accepts : length m ≤ o → accepted ≡ map_fits sh1 sh2 m
-    unfolding map_fits
-    fits_accepts l = rw (eq-eqb _ _ e, ← p, le-ltb _ _ l)
+  fits_accepts e l = rw (eq-eqb _ _ e, le-ltb _ _ l)
 
   abbrev high : ℕ → Bool
   high s = not (ltb (mapped m s) sh2.states)
@@ -56,28 +55,13 @@ module _ (sh1 sh2 : Shape) (m : List ℕ) where
   pub admits_fits : AdmittedMap sh1 sh2 m → accepted ≡ map_fits sh1 sh2 m
   unfolding first_high
   admits_fits a =
-      fits_accepts a.one_a_state refl (rw (least_no high (length m) (λ s l. not_yes (lt-ltb _ _ (a.entries_in s (omega arith))))) (le_refl (length m)))
+      fits_accepts a.one_a_state (rw (least_no high (length m) (λ s l. not_from_true _ (lt-ltb _ _ (a.entries_in s (omega arith))))) (le_refl (length m)))
 
 module _ (sh1 sh2 : Shape) (h1 h2 m : List ℕ) where
-  -- the ways out, in the order of the code
-  module _ {a : Answer} (ea : a ≡ check_of sh1 h1) where
-    pub answer_first : (a.number ≡ 0 → ⊥) → a ≡ audit_answer sh1 sh2 h1 h2 m
-    unfolding audit_answer
-    answer_first d = rw (← ea, ne_eqb _ _ d)
-
-    module _ (za : a.number ≡ 0) {b : Answer} (eb : b ≡ check_of sh2 h2) where
-      pub answer_second : (b.number ≡ 0 → ⊥) → in_table 2 b ≡ audit_answer sh1 sh2 h1 h2 m
-      unfolding audit_answer
-      answer_second d = rw (← ea, eq-eqb _ _ za, ← eb, ne_eqb _ _ d)
-
-      module _ (zb : b.number ≡ 0) where
-        pub answer_labels : (sh1.labels ≡ sh2.labels → ⊥) → refused 7 0 ≡ audit_answer sh1 sh2 h1 h2 m
-        unfolding audit_answer
-        answer_labels d = rw (← ea, eq-eqb _ _ za, ← eb, eq-eqb _ _ zb, ne_eqb _ _ d)
-
-        pub answer_map : sh1.labels ≡ sh2.labels → {x : Answer} → x ≡ map_fits sh1 sh2 m → x ≡ audit_answer sh1 sh2 h1 h2 m
-        unfolding audit_answer
-        answer_map d e = rw (← ea, eq-eqb _ _ za, ← eb, eq-eqb _ _ zb, eq-eqb _ _ d) e
+  -- where nothing speaks before it, row 8 is the answer
+  answer_map : (check_of sh1 h1).number ≡ 0 → (check_of sh2 h2).number ≡ 0 → sh1.labels ≡ sh2.labels → map_fits sh1 sh2 m ≡ audit_answer sh1 sh2 h1 h2 m
+  unfolding audit_answer
+  answer_map x y d = rw (eq-eqb _ _ x, eq-eqb _ _ y, eq-eqb _ _ d)
 
   pub answer_audited : (audit_answer sh1 sh2 h1 h2 m).number ≡ 0 → Audited sh1 sh2 h1 h2 m
   unfolding audit_answer
@@ -99,7 +83,7 @@ module _ (sh1 sh2 : Shape) (h1 h2 m : List ℕ) where
 
   pub audited_answer : Audited sh1 sh2 h1 h2 m → audit_answer sh1 sh2 h1 h2 m ≡ accepted
   audited_answer a =
-      sym (answer_map (sym (admitted_check sh1 h1 a.first)) refl (sym (admitted_check sh2 h2 a.second)) refl a.labels (admits_fits sh1 sh2 m a.map))
+      sym (admits_fits sh1 sh2 m a.map ∙ answer_map (accepts (sym (admitted_check sh1 h1 a.first))) (accepts (sym (admitted_check sh2 h2 a.second))) a.labels)
 
   -- the answer is 0 exactly for what document 01 admits
   pub answer_zero : ((audit_answer sh1 sh2 h1 h2 m).number ≡ 0) ↔ Audited sh1 sh2 h1 h2 m

@@ -2,7 +2,9 @@
 -- Assumes nothing: these are definitions.
 use Rattle.std.specs.Prelude.{ℕ, ◌<◌, ◌≡◌, cond, not, List, length, eqb, ltb}
 use Rattle.base_bounded.specs.Quantifiers.{least}
-use Rattle.graph.specs.Answers.{accepted, refused, in_table, and_then}
+use Rattle.graph.specs.Answers.{accepted, refused, in_table, and_then, refusal_answer}
+use Rattle.audit_admitted.specs.declared.AuditRefusal.{AuditRefusal}
+use Rattle.audit_admitted.specs.declared.AuditRefusal.TheVariants.{Graph2, Other}
 use Rattle.graph.specs.Map.{mapped}
 use Rattle.graph.specs.declared.Shape.{Shape}
 use Rattle.graph.specs.declared.Answer.{Answer}
@@ -30,6 +32,12 @@ map_fits sh1 sh2 m =
 unfoldable pub audit_answer : Shape → Shape → List ℕ → List ℕ → List ℕ → Answer
 audit_answer sh1 sh2 h1 h2 m =
     and_then (check_of sh1 h1) (and_then (in_table 2 (check_of sh2 h2)) (and_then (same_labels sh1 sh2) (map_fits sh1 sh2 m)))
+
+-- "If the answer is an enum, a definition gives this paper's number and values for each of its
+-- cases", and "table (2 only for graph 2 of the audit, else 1)"
+abbrev pub audit_refusal_answer : AuditRefusal → Answer
+audit_refusal_answer (Graph2 r) = in_table 2 (refusal_answer r)
+audit_refusal_answer (Other r) = refusal_answer r
 
 -- both graphs and the map are admitted, and the label counts agree
 pub record Audited (sh1 sh2 : Shape) (h1 h2 m : List ℕ) : Type 0 where

@@ -30,9 +30,9 @@ auditable a =
 
 -- the ways out of the entry
 module _ (sh1 sh2 : Shape) (h1 h2 m : List ℕ) {a : Answer} (ea : a ≡ audit_answer sh1 sh2 h1 h2 m) where
-  pub audit_refuses : (a.number ≡ 0 → ⊥) → {f : Fault} → f ≡ no_fault → ◌≡◌ {A = Audit} (record { answer = a; faults = 0; first = f }) (audit_of sh1 sh2 h1 h2 m)
+  pub audit_refuses : (a.number ≡ 0 → ⊥) → ◌≡◌ {A = Audit} (record { answer = a; faults = 0; first = no_fault }) (audit_of sh1 sh2 h1 h2 m)
   unfolding audit_of
-  audit_refuses d n = rw (← ea, ne_eqb _ _ d, n)
+  audit_refuses d = rw (← ea, ne_eqb _ _ d)
 
   pub audit_counts : a.number ≡ 0 → {x : ℕ} {f : Fault} → x ≡ faults_of sh1 sh2 h1 h2 m → f ≡ first_fault sh1 sh2 h1 h2 m →
       ◌≡◌ {A = Audit} (record { answer = a; faults = x; first = f }) (audit_of sh1 sh2 h1 h2 m)
@@ -43,7 +43,10 @@ module _ (sh1 sh2 : Shape) (h1 h2 m : List ℕ) {a : Answer} (ea : a ≡ audit_a
 -- 0
 pub faultless_iff : (sh1 sh2 : Shape) (h1 h2 m : List ℕ) → (audit_of sh1 sh2 h1 h2 m ≡ faultless) ↔ (Audited sh1 sh2 h1 h2 m × (faults_of sh1 sh2 h1 h2 m ≡ 0))
 unfolding audit_of
-faultless_iff sh1 sh2 h1 h2 m = (λ e. (audited e, none e), λ (a, z). sym (audit_counts sh1 sh2 h1 h2 m (sym (audited_answer sh1 sh2 h1 h2 m a)) refl (sym z) (no_fault_named sh1 sh2 h1 h2 m z))) where
+faultless_iff sh1 sh2 h1 h2 m = (
+  λ e. (audited e, none e),
+  λ (a, z). sym (audit_counts sh1 sh2 h1 h2 m (sym (audited_answer sh1 sh2 h1 h2 m a)) refl (sym z) (no_fault_named sh1 sh2 h1 h2 m z)),
+) where
   zero : audit_of sh1 sh2 h1 h2 m ≡ faultless → (audit_answer sh1 sh2 h1 h2 m).number ≡ 0
   zero e = ap (λ (x : Audit). x.answer.number) e
 

@@ -9,11 +9,11 @@ use mathlib.Core.Logic.{◌⊎◌, inl, inr, ⊎_elim, ◌↔◌}
 use native.Mathlib.Omega.{arith}
 use borrow.Author.Tests.{eq-eqb, eqb-true, not-false}
 use lib.Dec.{eqb}
+use Rattle.std.proofs.lemmas.Bool.{and_from, and_left, and_parts, and_right, cases_Bool, not_from_true, or_cases, or_left, or_right}
 use Rattle.base_bounded.specs.Quantifiers.{tally}
 use Rattle.graph.specs.Hops.{count, from, label, to}
 use Rattle.graph_check.specs.Check.{InRange, Admitted}
 use Rattle.graph.specs.declared.Shape.{Shape}
-use Rattle.base_bounded.proofs.Bools.{decided, not_yes, and_yes, and_left, and_right, and_no_left, and_no_right, or_left, or_right, or_yes}
 use Rattle.base_bounded.proofs.Quantifiers.{any_found, any_at, tally_zero, tally_each, total_zero, total_each}
 use Rattle.graph.proofs.Places.{has_at, has_place, place_has}
 use Rattle.lts.specs.Star.{stay}
@@ -45,15 +45,15 @@ module _ (h1 h2 m : List ℕ) where
       ((label h1 i ≡ 0) × (mapped m (from h1 i) ≡ mapped m (to h1 i))) ⊎ HopOf h2 (mapped m (from h1 i)) (label h1 i) (mapped m (to h1 i))
   unfolding preserved
   kept_says i e =
-      ⊎_elim (λ d. inl (eqb-true _ _ (and_left (eqb (label h1 i) 0) _ d), eqb-true _ _ (and_right (eqb (label h1 i) 0) _ d))) inr
-      (or_yes (eqb (label h1 i) 0 && eqb (mapped m (from h1 i)) (mapped m (to h1 i))) _ e)
+      ⊎_elim (λ d. inl (eqb-true _ _ (and_parts (eqb (label h1 i) 0) _ d).0, eqb-true _ _ (and_parts (eqb (label h1 i) 0) _ d).1)) inr
+      (or_cases (eqb (label h1 i) 0 && eqb (mapped m (from h1 i)) (mapped m (to h1 i))) _ e)
 
   says_kept : (i : ℕ) →
       ((label h1 i ≡ 0) × (mapped m (from h1 i) ≡ mapped m (to h1 i))) ⊎ HopOf h2 (mapped m (from h1 i)) (label h1 i) (mapped m (to h1 i)) →
       preserved h1 h2 m i ≡ true
   unfolding preserved
-  says_kept i (inl (a, b)) = or_left _ (and_yes (eq-eqb _ _ a) (eq-eqb _ _ b))
-  says_kept i (inr e) = or_right (eqb (label h1 i) 0 && eqb (mapped m (from h1 i)) (mapped m (to h1 i))) e
+  says_kept i (inl (a, b)) = or_left _ _ (and_from _ _ (eq-eqb _ _ a) (eq-eqb _ _ b))
+  says_kept i (inr e) = or_right (eqb (label h1 i) 0 && eqb (mapped m (from h1 i)) (mapped m (to h1 i))) _ e
 
 module _ (sh1 sh2 : Shape) (h1 h2 m : List ℕ) (ranged : InRange sh1 h1) where
   -- a test of the third sum: the state that s leads to, and its hop
@@ -61,21 +61,21 @@ module _ (sh1 sh2 : Shape) (h1 h2 m : List ℕ) (ranged : InRange sh1 h1) where
   unfolding matched_from match_at
   backed_says s a q e =
       let (u, l, d) = any_at (λ (u : ℕ). leads h1 sh1.states s u && match_at h1 m (mapped m s) a q u) sh1.states e in
-      let o = and_right (leads h1 sh1.states s u) _ d in
-      let (i, k, f) = any_at (λ (i : ℕ). eqb (from h1 i) u && (eqb (label h1 i) a && eqb (mapped m (to h1 i)) q)) (count h1) (and_right (eqb (mapped m u) (mapped m s)) _ o) in
-      let g = and_right (eqb (from h1 i) u) _ f in (
+      let o = (and_parts (leads h1 sh1.states s u) _ d).1 in
+      let (i, k, f) = any_at (λ (i : ℕ). eqb (from h1 i) u && (eqb (label h1 i) a && eqb (mapped m (to h1 i)) q)) (count h1) (and_parts (eqb (mapped m u) (mapped m s)) _ o).1 in
+      let g = (and_parts (eqb (from h1 i) u) _ f).1 in (
         u,
         to h1 i,
-        (leads_iff ranged s u).0 (and_left (leads h1 sh1.states s u) _ d),
-        eqb-true _ _ (and_left (eqb (mapped m u) (mapped m s)) _ o),
+        (leads_iff ranged s u).0 (and_parts (leads h1 sh1.states s u) _ d).0,
+        eqb-true _ _ (and_parts (eqb (mapped m u) (mapped m s)) _ o).0,
         place_has h1 u a (to h1 i) (record {
           at = i;
           within = k;
-          from_is = eqb-true _ _ (and_left (eqb (from h1 i) u) _ f);
-          label_is = eqb-true _ _ (and_left (eqb (label h1 i) a) _ g);
+          from_is = eqb-true _ _ (and_parts (eqb (from h1 i) u) _ f).0;
+          label_is = eqb-true _ _ (and_parts (eqb (label h1 i) a) _ g).0;
           to_is = refl;
         }),
-        eqb-true _ _ (and_right (eqb (label h1 i) a) _ g),
+        eqb-true _ _ (and_parts (eqb (label h1 i) a) _ g).1,
       )
 
   says_matched_from : (s a q : ℕ) → MatchedBack (HopOf h1) (mapped m) s a q → matched_from sh1 h1 m s (mapped m s) a q ≡ true
@@ -83,23 +83,22 @@ module _ (sh1 sh2 : Shape) (h1 h2 m : List ℕ) (ranged : InRange sh1 h1) where
   says_matched_from s a q (u, t, su, c, h, e) =
       let p = has_place h1 u a t h in
       any_found (λ (u : ℕ). leads h1 sh1.states s u && match_at h1 m (mapped m s) a q u) sh1.states (hop_from_lem ranged u a t h)
-      (and_yes ((leads_iff ranged s u).1 su) (and_yes (eq-eqb _ _ c)
-      (any_found (λ (i : ℕ). eqb (from h1 i) u && (eqb (label h1 i) a && eqb (mapped m (to h1 i)) q)) (count h1) p.within
-      (and_yes (eq-eqb _ _ p.from_is) (and_yes (eq-eqb _ _ p.label_is) (eq-eqb _ _ (ap (mapped m) p.to_is ∙ e)))))))
+      (and_from _ _ ((leads_iff ranged s u).1 su) (and_from _ _ (eq-eqb _ _ c) (any_found (λ (i : ℕ). eqb (from h1 i) u && (eqb (label h1 i) a && eqb (mapped m (to h1 i)) q)) (count h1) p.within
+      (and_from _ _ (eq-eqb _ _ p.from_is) (and_from _ _ (eq-eqb _ _ p.label_is) (eq-eqb _ _ (ap (mapped m) p.to_is ∙ e)))))))
 
   module _ (j s : ℕ) (e : mapped m s ≡ from h2 j) where
     matched_says : matched sh1 h1 h2 m j s ≡ true →
         ((label h2 j ≡ 0) × (mapped m s ≡ to h2 j)) ⊎ MatchedBack (HopOf h1) (mapped m) s (label h2 j) (to h2 j)
     unfolding matched
     matched_says d =
-        ⊎_elim (λ f. inl (eqb-true _ _ (and_left (eqb (label h2 j) 0) _ f), e ∙ eqb-true _ _ (and_right (eqb (label h2 j) 0) _ f)))
-        (λ f. inr (backed_says s _ _ (rw e f))) (or_yes (eqb (label h2 j) 0 && eqb (from h2 j) (to h2 j)) _ d)
+        ⊎_elim (λ f. inl (eqb-true _ _ (and_parts (eqb (label h2 j) 0) _ f).0, e ∙ eqb-true _ _ (and_parts (eqb (label h2 j) 0) _ f).1))
+        (λ f. inr (backed_says s _ _ (rw e f))) (or_cases (eqb (label h2 j) 0 && eqb (from h2 j) (to h2 j)) _ d)
 
     says_matched : ((label h2 j ≡ 0) × (mapped m s ≡ to h2 j)) ⊎ MatchedBack (HopOf h1) (mapped m) s (label h2 j) (to h2 j) →
         matched sh1 h1 h2 m j s ≡ true
     unfolding matched
-    says_matched (inl (a, b)) = or_left _ (and_yes (eq-eqb _ _ a) (eq-eqb _ _ (sym e ∙ b)))
-    says_matched (inr b) = or_right (eqb (label h2 j) 0 && eqb (from h2 j) (to h2 j)) (rw e at (says_matched_from s _ _ b))
+    says_matched (inl (a, b)) = or_left _ _ (and_from _ _ (eq-eqb _ _ a) (eq-eqb _ _ (sym e ∙ b)))
+    says_matched (inr b) = or_right (eqb (label h2 j) 0 && eqb (from h2 j) (to h2 j)) _ (rw e at (says_matched_from s _ _ b))
 
   -- a pair is no fault exactly when it is matched, where it is a pair at all
   unmade_matched : (j s : ℕ) → mapped m s ≡ from h2 j → unmatched sh1 h1 h2 m j s ≡ false → matched sh1 h1 h2 m j s ≡ true
@@ -108,11 +107,11 @@ module _ (sh1 sh2 : Shape) (h1 h2 m : List ℕ) (ranged : InRange sh1 h1) where
 
   matched_unmade : (j s : ℕ) → (mapped m s ≡ from h2 j → matched sh1 h1 h2 m j s ≡ true) → unmatched sh1 h1 h2 m j s ≡ false
   unfolding unmatched
-  matched_unmade j s f = go (decided (eqb (mapped m s) (from h2 j))) where
+  matched_unmade j s f = go (cases_Bool (eqb (mapped m s) (from h2 j))) where
     go : (eqb (mapped m s) (from h2 j) ≡ true) ⊎ (eqb (mapped m s) (from h2 j) ≡ false) →
         (eqb (mapped m s) (from h2 j) && not (matched sh1 h1 h2 m j s)) ≡ false
-    go (inl e) = and_no_right (eqb (mapped m s) (from h2 j)) (not_yes (f (eqb-true _ _ e)))
-    go (inr e) = and_no_left _ e
+    go (inl e) = and_right (eqb (mapped m s) (from h2 j)) _ (not_from_true _ (f (eqb-true _ _ e)))
+    go (inr e) = and_left _ _ e
 
   pub zero_faults_reduces : faults_of sh1 sh2 h1 h2 m ≡ 0 → Faultless sh1 sh2 h1 h2 m
   unfolding faults_of initial_fault lost_faults unmatched_faults
@@ -154,7 +153,7 @@ module _ (sh1 sh2 : Shape) (h1 h2 m : List ℕ) (ranged : InRange sh1 h1) where
         total_zero (λ (j : ℕ). tally sh1.states (unmatched sh1 h1 h2 m j)) (count h2) (λ j l. tally_zero (unmatched sh1 h1 h2 m j) sh1.states (λ s k. third j s l k)),
       ) where
         second : (i : ℕ) → i < count h1 → not (preserved h1 h2 m i) ≡ false
-        second i l = not_yes (says_kept h1 h2 m i (f.keeps.fore (from h1 i) (label h1 i) (to h1 i) (has_at h1 l)))
+        second i l = not_from_true _ (says_kept h1 h2 m i (f.keeps.fore (from h1 i) (label h1 i) (to h1 i) (has_at h1 l)))
 
         third : (j s : ℕ) → j < count h2 → s < sh1.states → unmatched sh1 h1 h2 m j s ≡ false
         third j s l k = matched_unmade j s (λ e. says_matched j s e (f.keeps.back s (label h2 j) (to h2 j) k (rw e (has_at h2 l))))

@@ -1,6 +1,6 @@
 -- The first fault of a map m from graph 1 to graph 2 (document 02, wish 3), over the tests that the
 -- three sums count. Assumes nothing: these are definitions.
-use Rattle.std.specs.Prelude.{ℕ, ◌<◌, ◌≡◌, Bool, true, false, cond, not, ◌&&◌, ◌||◌, List, ◌⊎◌, ◌↔◌, eqb, ltb}
+use Rattle.std.specs.Prelude.{ℕ, ◌<◌, ◌≡◌, Bool, true, false, cond, not, ◌&&◌, ◌||◌, List, ◌⊎◌, ◌↔◌, eqb, ltb, Option, Some, None}
 use Rattle.base_bounded.specs.Quantifiers.{any, least}
 use Rattle.graph.specs.Hops.{count}
 use Rattle.graph.specs.Map.{mapped}
@@ -16,6 +16,10 @@ fault k p s = record { kind = k; place = p; state = s }
 -- "figures a kind lacks are 0, and all three with no fault"
 abbrev pub no_fault : Fault
 no_fault = fault 0 0 0
+
+-- the fault, where it is one
+abbrev pub named : Fault → Option Fault
+named f = cond (eqb f.kind 0) None (Some f)
 
 -- kind 1, the initial states
 unfoldable pub first_initial : Shape → Shape → List ℕ → Fault

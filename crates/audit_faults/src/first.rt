@@ -1,6 +1,6 @@
-// Faults by name: none, and which of two is named.
+// The figures of a fault where there is none.
 ghost use Rattle.std.specs.Prelude.{◌≡◌};
-ghost use Rattle.audit_faults.specs.First.{no_fault, or_else};
+ghost use Rattle.audit_faults.specs.First.{no_fault};
 
 use super::Fault;
 
@@ -12,14 +12,4 @@ pub fn no_fault() -> Fault
         place: 0,
         state: 0,
     }
-}
-
-// The one, if it is a fault, else the other.
-pub fn or_else(f: Fault, g: Fault) -> Fault
-    ensures { result ≡ or_else f g }
-{
-    if f.kind == 0 {
-        return g;
-    }
-    f
 }

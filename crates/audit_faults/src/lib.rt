@@ -4,12 +4,13 @@
 // sums. Each hop (transition) of graph 1 is mapped and looked up in graph 2 once, by binary search;
 // the table of the places found says which hops are lost (here) and which are matched
 // (`audit_matched` and `audit_unmatched`).
-// Uses `graph_successors` for the search among a state's hops, `walk_silent` for "s leads by zero
-// or more silent hops".
+// Uses `graph_index` for the search among a state's hops, `walk_silent` for "s leads by zero or
+// more silent hops".
 #![tactic(auto)]
 
+pub mod mapped; // mapped.rt: two graphs and a map between them, as one value
 pub mod images; // images.rt: where the hops of graph 1 stand in graph 2
-pub mod first; // first.rt: which of two faults is named
+pub mod first; // first.rt: the figures of a fault where there is none
 pub mod lost; // lost.rt: the first two sums, by the hops of graph 1
 
 // A fault: its kind, 1, 2 or 3 in document 01's order; the place of its hop, in graph 1 for kind 2
@@ -26,5 +27,5 @@ pub struct Fault {
 #[derive(Clone, Copy)]
 pub struct Share {
     pub faults: u32,
-    pub first: Fault,
+    pub first: Option<Fault>,
 }

@@ -4,141 +4,101 @@ ghost use Rattle.std.specs.Prelude.{◌≡◌, ◌<◌, ◌≤◌, length};
 ghost use Rattle.graph.specs.Hops.{count};
 ghost use Rattle.graph.specs.Answers.{most_states};
 ghost use Rattle.audit_faults.specs.Faults.{initial_fault, preserved, lost_faults};
-ghost use Rattle.audit_faults.specs.First.{first_initial, lost_place, first_lost};
-ghost use Rattle.audit_faults.specs.Internal.Images.{Auditable, Imaged};
+ghost use Rattle.audit_faults.specs.First.{first_initial, lost_place, first_lost, named};
+ghost use Rattle.graph_check.specs.Internal.Places.{place_below};
 
-use super::first::no_fault;
-use super::images::NO_PLACE;
+use super::images::{Located, NO_PLACE};
 use super::{Fault, Share};
 use graph::hops::{from_at, hop_count, label_at, to_at};
 use graph::map::map_at;
-use graph::tables::wide;
-use graph::{MOST_HOPS, OldState, Shape};
+use graph::{OldState, Shape};
 
 // 1 if the map of initial state 1 is not initial state 2.
+#[tactic(auto, unfolding(crate::specs::Faults::initial_fault, crate::specs::First::first_initial))]
 pub fn initial_fault(shape1: Shape, shape2: Shape, map: &[u16]) -> Share
     requires initial { shape1.initial < length map.now }
     requires few { length map.now ≤ most_states }
     ensures counts { result.faults ≡ initial_fault shape1 shape2 map.now }
-    ensures names { result.first ≡ first_initial shape1 shape2 map.now }
+    ensures names { result.first ≡ named (first_initial shape1 shape2 map.now) }
 {
     let r = map_at(map, OldState(shape1.initial as u16));
-    if r.0 as u32 == shape2.initial {
+    if u32::from(r.0) == shape2.initial {
         return Share {
             faults: 0,
-            first: no_fault(),
+            first: None,
         };
     }
     Share {
         faults: 1,
-        first: Fault {
+        first: Some(Fault {
             kind: 1,
             place: 0,
             state: 0,
-        },
+        }),
     }
 }
 
 // Whether the hop at a place of graph 1 is in graph 2, which the table says, or is silent inside a
 // class.
-fn is_preserved(
-    shape1: Shape,
-    hops1: &[u16],
-    hops2: &[u16],
-    map: &[u16],
-    images: &[u16; MOST_HOPS],
-    i: usize,
-) -> bool
-    requires auditable { Auditable shape1 hops1.now hops2.now map.now }
-    requires imaged { Imaged hops1.now hops2.now map.now images.now }
-    requires place { i < count hops1.now }
-    ensures { result ≡ preserved hops1.now hops2.now map.now i }
+fn is_preserved(located: Located<'_>, i: usize) -> bool
+    requires { i < count located.mapped.hops1.now }
+    ensures { result ≡ preserved located.entry.mapped.hops1.now located.entry.mapped.hops2.now
+        located.entry.mapped.map.now i }
 {
-    if wide(images[i]) != NO_PLACE {
+    if usize::from(located.images[i]) != NO_PLACE {
         return true;
     }
-    let r = map_at(map, from_at(hops1, i));
-    let q = map_at(map, to_at(hops1, i));
-    (label_at(hops1, i).0 == 0) & (r.0 == q.0)
+    let hops1 = located.mapped.hops1;
+    let a = label_at(hops1, i);
+    let r = located.mapped.image(from_at(hops1, i));
+    let q = located.mapped.image(to_at(hops1, i));
+    (a.0 == 0) & (r == q)
 }
 
-// The place of the first hop of graph 1 that is not preserved, or the hop count.
-fn first_lost(
-    shape1: Shape,
-    hops1: &[u16],
-    hops2: &[u16],
-    map: &[u16],
-    images: &[u16; MOST_HOPS],
-) -> usize
-    requires auditable { Auditable shape1 hops1.now hops2.now map.now }
-    requires imaged { Imaged hops1.now hops2.now map.now images.now }
-    ensures { result ≡ lost_place hops1.now hops2.now map.now }
+// The place of the first hop of graph 1 that is not preserved.
+fn first_lost(located: Located<'_>) -> Option<usize>
+    ensures { result ≡ place_below (count located.entry.mapped.hops1.now)
+        (lost_place located.entry.mapped.hops1.now located.entry.mapped.hops2.now located.entry.mapped.map.now) }
 {
-    let n = hop_count(hops1);
-    let mut i = 0;
-    while i < n {
-        if !is_preserved(shape1, hops1, hops2, map, images, i) {
-            return i;
-        }
-        i += 1;
-    }
-    i
+    (0..hop_count(located.mapped.hops1)).find(|i| !is_preserved(located, *i))
 }
 
 // 1 for each hop of graph 1 that is not preserved, counted from the first of them on.
-fn lost_from(
-    shape1: Shape,
-    hops1: &[u16],
-    hops2: &[u16],
-    map: &[u16],
-    images: &[u16; MOST_HOPS],
-    first: usize,
-) -> u32
-    requires auditable { Auditable shape1 hops1.now hops2.now map.now }
-    requires imaged { Imaged hops1.now hops2.now map.now images.now }
-    requires first { first ≡ lost_place hops1.now hops2.now map.now }
-    ensures { result ≡ lost_faults hops1.now hops2.now map.now }
+fn lost_from(located: Located<'_>, first: usize) -> u32
+    requires { first ≡ lost_place located.mapped.hops1.now located.mapped.hops2.now located.mapped.map.now }
+    ensures { result ≡ lost_faults located.entry.mapped.hops1.now located.entry.mapped.hops2.now
+        located.entry.mapped.map.now }
 {
-    let n = hop_count(hops1);
     let mut faults = 0;
-    let mut i = first;
-    while i < n {
-        if !is_preserved(shape1, hops1, hops2, map, images, i) {
+    for i in first..hop_count(located.mapped.hops1) {
+        if !is_preserved(located, i) {
             faults += 1;
         }
-        i += 1;
     }
     faults
 }
 
 // 1 for each hop of graph 1 that is not preserved, and the first of them. Hops before the first are
 // tested only by the search for it, and the count begins with the first.
-pub fn lost_faults(
-    shape1: Shape,
-    hops1: &[u16],
-    hops2: &[u16],
-    map: &[u16],
-    images: &[u16; MOST_HOPS],
-) -> Share
-    requires auditable { Auditable shape1 hops1.now hops2.now map.now }
-    requires imaged { Imaged hops1.now hops2.now map.now images.now }
-    ensures counts { result.faults ≡ lost_faults hops1.now hops2.now map.now }
-    ensures names { result.first ≡ first_lost hops1.now hops2.now map.now }
+#[tactic(auto, unfolding(crate::specs::First::first_lost))]
+pub fn lost_faults(located: Located<'_>) -> Share
+    ensures counts { result.faults ≡ lost_faults located.entry.mapped.hops1.now
+        located.entry.mapped.hops2.now located.entry.mapped.map.now }
+    ensures names { result.first ≡ named (first_lost located.entry.mapped.hops1.now
+        located.entry.mapped.hops2.now located.entry.mapped.map.now) }
 {
-    let place = first_lost(shape1, hops1, hops2, map, images);
-    let faults = lost_from(shape1, hops1, hops2, map, images, place);
-    if place < hop_count(hops1) {
-        return Share {
-            faults,
-            first: Fault {
+    match first_lost(located) {
+        Some(place) => Share {
+            faults: lost_from(located, place),
+            first: Some(Fault {
                 kind: 2,
                 place,
                 state: 0,
-            },
-        };
-    }
-    Share {
-        faults,
-        first: no_fault(),
+            }),
+        },
+        None => Share {
+            faults: 0,
+            first: None,
+        },
     }
 }

@@ -8,12 +8,12 @@ use native.Mathlib.Nat.{le_refl}
 use native.Mathlib.Omega.{arith}
 use lib.ListN.{length, get_or, set}
 use lib.Dec.{eqb}
+use Rattle.std.proofs.lemmas.Bool.{and_left}
 use Rattle.graph.specs.Hops.{count, from}
 use Rattle.graph.specs.Order.{Ascending}
 use Rattle.graph.specs.Search.{first_of, past_of}
 use Rattle.graph_check.specs.Check.{InRange}
 use Rattle.graph.specs.declared.Shape.{Shape}
-use Rattle.base_bounded.proofs.Bools.{and_no_left}
 use Rattle.base_bounded.proofs.Quantifiers.{any_rest}
 use Rattle.graph.proofs.Lookup.{first_within, range_only}
 use Rattle.graph_successors.proofs.Firsts.{first_is, first_next}
@@ -24,7 +24,7 @@ use Rattle.audit_faults.specs.Internal.Images.{Imaged}
 use Rattle.audit_matched.specs.Internal.Stamps.{seen_in_class, stamps_hop, StampedUpTo, StampedFrom}
 use Rattle.audit_matched.proofs.Stamping.{stamped_none, stamped_more}
 
-module _ (h1 h2 m seen : List ℕ) (r k : ℕ) where
+module _ (h1 h2 m : List ℕ) (seen : List Bool) (r k : ℕ) where
   -- the first place of all, and the last
   pub stamped_first : Ascending h1 → (stamps : List ℕ) → StampedUpTo h1 h2 m seen r k (first_of h1 0) stamps stamps
   stamped_first up stamps =
@@ -39,21 +39,21 @@ module _ (h1 h2 m seen : List ℕ) (r k : ℕ) where
 
   -- the hops of the state u
   module _ (up : Ascending h1) (u : ℕ) {v : ℕ} (ev : v ≡ mapped m u) where
-    state_seen : {i : ℕ} → first_of h1 u ≤ i → i < first_of h1 (u + 1) → seen_in_class h1 m seen r i ≡ (eqb (get_or seen u 0) 1 && eqb v r)
+    state_seen : {i : ℕ} → first_of h1 u ≤ i → i < first_of h1 (u + 1) → seen_in_class h1 m seen r i ≡ (get_or seen u false && eqb v r)
     unfolding past_of seen_in_class visited
     state_seen {i} lo hi =
         let q : from h1 i ≡ u = range_only h1 up u (omega (arith, first_within h1 up (u + 1))) lo hi in
         rw (q, ev)
 
-    pub state_skipped : (eqb (get_or seen u 0) 1 && eqb v r) ≡ false → (stamps : List ℕ) →
+    pub state_skipped : (get_or seen u false && eqb v r) ≡ false → (stamps : List ℕ) →
         StampedFrom h1 h2 m seen r k (first_of h1 u) (first_of h1 (u + 1)) stamps stamps
     unfolding StampedFrom StampedUpTo stamps_hop
     state_skipped e stamps first t j l =
         t j l ∙
         ap (λ (x : Bool). cond x k (get_or first j 0))
-        (sym (any_rest (stamps_hop h1 h2 m seen r j) (first_of h1 (u + 1)) (first_next h1 up u) (λ i lo hi. and_no_left _ (state_seen lo hi ∙ e))))
+        (sym (any_rest (stamps_hop h1 h2 m seen r j) (first_of h1 (u + 1)) (first_next h1 up u) (λ i lo hi. and_left _ _ (state_seen lo hi ∙ e))))
 
-    pub state_more : Indexable h2 → (images : List ℕ) → Imaged h1 h2 m images → (eqb (get_or seen u 0) 1 && eqb v r) ≡ true →
+    pub state_more : Indexable h2 → (images : List ℕ) → Imaged h1 h2 m images → (get_or seen u false && eqb v r) ≡ true →
         (before stamps : List ℕ) → count h2 ≤ length stamps → {i : ℕ} → first_of h1 u ≤ i → i < first_of h1 (u + 1) →
         {after : List ℕ} → after ≡ set stamps (get_or images i 0) k →
         StampedFrom h1 h2 m seen r k (first_of h1 u) i before stamps → StampedFrom h1 h2 m seen r k (first_of h1 u) (i + 1) before after

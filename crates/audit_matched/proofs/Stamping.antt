@@ -1,10 +1,12 @@
 -- Stamping: a stamp stands at a place of graph 2 exactly where some hop of graph 1 stamps it.
 -- Assumes nothing.
+use Rattle.std.proofs.lemmas.Bool.{and_parts, cases_eq, false_from_ne_true}
+use Rattle.std.proofs.Common.{Result, Ok, Err}
 use Prim.Native.Nat.{ℕ, ◌+◌, ◌<◌, ◌≤◌}
 use mathlib.Core.Path.{◌≡◌, refl, ap, ◌∙◌}
 use mathlib.Core.Bool.{Bool, true, false, cond, ◌||◌}
 use mathlib.Core.List.{List}
-use mathlib.Core.Logic.{◌⊎◌, ⊎_elim}
+use mathlib.Core.Logic.{⊎_elim}
 use native.Mathlib.Numerals.{add-one}
 use native.Mathlib.Omega.{arith}
 use borrow.Author.Tests.{eqb-true}
@@ -14,9 +16,6 @@ use Rattle.base_bounded.specs.Quantifiers.{any}
 use Rattle.graph.specs.Hops.{count, from, label, to, is, has}
 use Rattle.graph.specs.Internal.Search.{placed}
 use Rattle.graph.specs.declared.Hop.{Hop}
-use Rattle.graph.specs.declared.Found.{Found}
-use Rattle.graph.specs.declared.Found.TheVariants.{At, Gap}
-use Rattle.base_bounded.proofs.Bools.{eq_or_not, no_test, and_right}
 use Rattle.base_bounded.proofs.Quantifiers.{any_never}
 use Rattle.graph.proofs.Places.{is_alike}
 use Rattle.graph.proofs.Ordered.{alike_back, alike_then, ascending_place}
@@ -32,23 +31,23 @@ module _ (h2 : List ℕ) (ready : Indexable h2) (h : Hop) (k : ℕ) (stamps : Li
   abbrev is_h : ℕ → Bool
   is_h = is h2 h.from h.label h.to
 
-  stamp_found : (f : Found) → placed h2 h ≡ f → get_or (set stamps (place_of f) k) j 0 ≡ cond (is_h j) k (get_or stamps j 0)
+  stamp_found : (f : Result ℕ ℕ) → placed h2 h ≡ f → get_or (set stamps (place_of f) k) j 0 ≡ cond (is_h j) k (get_or stamps j 0)
   unfolding has
-  stamp_found (At p) e = let (w, d) = at_place h2 h e in ⊎_elim (here w d) (other w d) (eq_or_not j p) where
+  stamp_found (Ok p) e = let (w, d) = at_place h2 h e in ⊎_elim (here w d) (other w d) (cases_eq j p) where
     here : p < count h2 → is_h p ≡ true → j ≡ p → get_or (set stamps p k) j 0 ≡ cond (is_h j) k (get_or stamps j 0)
     here w d q = rw (q, d) (get_or-set_same stamps p k 0 (omega arith))
 
     other : p < count h2 → is_h p ≡ true → (j ≡ p → ⊥) → get_or (set stamps p k) j 0 ≡ cond (is_h j) k (get_or stamps j 0)
     other w d q =
-        rw (no_test (is_h j) (λ f. q (ascending_place h2 ready.ascending l w (alike_then (is_alike h2 h j f) (alike_back (is_alike h2 h p d))))))
+        rw (false_from_ne_true (is_h j) (λ f. q (ascending_place h2 ready.ascending l w (alike_then (is_alike h2 h j f) (alike_back (is_alike h2 h p d))))))
         (get_or-set_other stamps p j k 0 q)
-  stamp_found (Gap p) e =
+  stamp_found (Err p) e =
       rw (any_never is_h (count h2) (gap_has h2 h ready.ascending e) l) (get_or-set_other stamps no_place j k 0 (λ q. omega (arith, ready.hops_most)))
 
   pub stamp_at : get_or (set stamps (place_of (placed h2 h)) k) j 0 ≡ cond (is_h j) k (get_or stamps j 0)
   stamp_at = stamp_found (placed h2 h) refl
 
-module _ (h1 h2 m seen : List ℕ) (r k : ℕ) where
+module _ (h1 h2 m : List ℕ) (seen : List Bool) (r k : ℕ) where
   -- before the first hop nothing is stamped
   pub stamped_none : (stamps : List ℕ) → StampedUpTo h1 h2 m seen r k 0 stamps stamps
   unfolding StampedUpTo any
@@ -56,7 +55,7 @@ module _ (h1 h2 m seen : List ℕ) (r k : ℕ) where
 
   seen_map : (i : ℕ) → seen_in_class h1 m seen r i ≡ true → mapped m (from h1 i) ≡ r
   unfolding seen_in_class
-  seen_map i e = eqb-true _ _ (and_right (visited seen (from h1 i)) _ e)
+  seen_map i e = eqb-true _ _ (and_parts (visited seen (from h1 i)) _ e).1
 
   -- what the stamp of a hop that leaves r is seen as
   image_stamp : Indexable h2 → (stamps : List ℕ) → count h2 ≤ length stamps → (i : ℕ) → mapped m (from h1 i) ≡ r → (j : ℕ) → j < count h2 →

@@ -3,20 +3,21 @@
 // The hops of the states with that image that a search has reached put a stamp on hops of graph 2,
 // at the places that a table has for them. Each state has a stamp of its own, so that no stamp is
 // ever cleared. `audit_unmatched` counts the hops without it.
-// Uses `audit_faults` for where each mapped hop stands in graph 2, `graph_successors` for the hops
-// of a state.
+// Uses `audit_faults` for where each mapped hop stands in graph 2, `graph_index` for the hops of a
+// state.
 #![tactic(auto)]
 
 ghost use Rattle.std.specs.Prelude.{◌≡◌, ◌+◌, ◌<◌, ◌≤◌, length, get_or, set};
 ghost use Rattle.graph.specs.Hops.{count};
 ghost use Rattle.graph.specs.Search.{first_of};
 ghost use Rattle.graph.specs.Answers.{most_hops};
-ghost use Rattle.audit_matched.specs.Internal.Stamps.{StampInput, StampedUpTo, StampedFrom};
+ghost use Rattle.graph_successors.specs.Internal.SuccessorIndex.{SuccessorIndex};
+ghost use Rattle.audit_matched.specs.Internal.Stamps.{StampedUpTo, StampedFrom};
 
-use graph::map::map_at;
-use graph::tables::wide;
-use graph::{MOST_HOPS, NewState, OldState, Shape};
-use graph_successors::{STARTS, start_of};
+use audit_faults::images::Located;
+use graph::{MOST_HOPS, NewState, OldState};
+use graph_index::Index;
+use graph_successors::STARTS;
 
 // Stamps the hop of graph 2 that is the image of the hop at place i of graph 1. Where graph 2 has
 // no such hop, its place is past the stamps, and nothing is stamped.
@@ -24,7 +25,7 @@ fn stamp_hop(images: &[u16; MOST_HOPS], stamps: &mut [u16], k: u16, i: usize)
     requires { i < most_hops }
     ensures { stamps.new ≡ set stamps.old (get_or images.now i 0) k }
 {
-    let p = wide(images[i]);
+    let p = usize::from(images[i]);
     if p < stamps.len() {
         stamps[p] = k;
     }
@@ -32,75 +33,53 @@ fn stamp_hop(images: &[u16; MOST_HOPS], stamps: &mut [u16], k: u16, i: usize)
 
 // Stamps the images of the hops of the state u of graph 1, if u is visited and its map is r.
 fn stamp_state(
-    shape1: Shape,
-    hops1: &[u16],
+    located: Located<'_>,
     starts1: &[u16; STARTS],
-    hops2: &[u16],
-    map: &[u16],
-    images: &[u16; MOST_HOPS],
-    seen: &[u8],
+    seen: &[bool],
     stamps: &mut [u16],
     r: NewState,
     k: u16,
     u: OldState,
 )
-    requires stamping { StampInput shape1 hops1.now starts1.now hops2.now map.now images.now }
-    requires seen { shape1.states ≤ length seen.now }
-    requires stamps { count hops2.now ≤ length stamps.old }
-    requires state { u.0 < shape1.states }
-    ensures { StampedFrom hops1.now hops2.now map.now seen.now r.0 k
-        (first_of hops1.now u.0) (first_of hops1.now (u.0 + 1)) stamps.old stamps.new }
+    requires table { SuccessorIndex located.mapped.hops1.now starts1.now }
+    requires seen { located.mapped.shape1.states ≤ length seen.now }
+    requires stamps { count located.mapped.hops2.now ≤ length stamps.old }
+    requires state { u.0 < located.mapped.shape1.states }
+    ensures { StampedFrom located.entry.mapped.hops1.now located.entry.mapped.hops2.now
+        located.entry.mapped.map.now seen.now r.0 k (first_of located.entry.mapped.hops1.now u.0)
+        (first_of located.entry.mapped.hops1.now (u.0 + 1)) stamps.old stamps.new }
 {
-    let v = map_at(map, u);
-    let at = wide(u.0);
-    if (seen[at] == 1) & (v.0 == r.0) {
-        let past = start_of(starts1, at + 1);
-        let mut i = start_of(starts1, at);
-        while i < past {
-            stamp_hop(images, stamps, k, i);
-            i += 1;
+    let index1 = Index {
+        hops: located.mapped.hops1,
+        starts: starts1,
+    };
+    let v = located.mapped.image(u);
+    if seen[usize::from(u.0)] & (v == r) {
+        for i in index1.first(u.0)..index1.past(u.0) {
+            stamp_hop(located.images, stamps, k, i);
         }
     }
 }
 
-// Stamps the images of the hops of every such state of graph 1. Most states are not visited, so
-// that is asked before anything else.
+// Stamps the images of the hops of every such state of graph 1, by its table of first places. Most
+// states are not visited, so that is asked before anything else.
 pub fn stamp_all(
-    shape1: Shape,
-    hops1: &[u16],
+    located: Located<'_>,
     starts1: &[u16; STARTS],
-    hops2: &[u16],
-    map: &[u16],
-    images: &[u16; MOST_HOPS],
-    seen: &[u8],
+    seen: &[bool],
     stamps: &mut [u16],
     r: NewState,
     k: u16,
 )
-    requires stamping { StampInput shape1 hops1.now starts1.now hops2.now map.now images.now }
-    requires seen { shape1.states ≤ length seen.now }
-    requires stamps { count hops2.now ≤ length stamps.old }
-    ensures { StampedUpTo hops1.now hops2.now map.now seen.now r.0 k
-        (count hops1.now) stamps.old stamps.new }
+    requires table { SuccessorIndex located.mapped.hops1.now starts1.now }
+    requires seen { located.mapped.shape1.states ≤ length seen.now }
+    requires stamps { count located.mapped.hops2.now ≤ length stamps.old }
+    ensures { StampedUpTo located.entry.mapped.hops1.now located.entry.mapped.hops2.now
+        located.entry.mapped.map.now seen.now r.0 k (count located.entry.mapped.hops1.now) stamps.old stamps.new }
 {
-    let n = shape1.states as usize;
-    let mut u = 0;
-    while u < n {
-        if seen[u] == 1 {
-            stamp_state(
-                shape1,
-                hops1,
-                starts1,
-                hops2,
-                map,
-                images,
-                seen,
-                stamps,
-                r,
-                k,
-                OldState(u as u16),
-            );
+    for u in 0..located.mapped.shape1.states as u16 {
+        if seen[usize::from(u)] {
+            stamp_state(located, starts1, seen, stamps, r, k, OldState(u));
         }
-        u += 1;
     }
 }

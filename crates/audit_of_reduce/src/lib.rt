@@ -2,20 +2,21 @@
 // fault, whatever the outputs held before (demand 3).
 // The contract of one function that reduces and audits says so, in words that the audit alone
 // defines. It is there for its contract; nobody need call it.
-// Uses `reduce_entry` and `audit_entry`.
+// Uses `reduce_entry`, `audit_entry`, and `reduce_by_marks` for what a reduction returns.
 #![tactic(auto)]
 
 ghost use Rattle.std.specs.Prelude.{◌≡◌, ◌≤◌, length};
 ghost use Rattle.graph.specs.Hops.{count};
-ghost use Rattle.reduce_entry.specs.Reduce.{reduce_of, map_output, short_output};
+ghost use Rattle.reduce_entry.specs.Reduce.{made_reduction, reduce_of, map_output, short_output};
 ghost use Rattle.audit_entry.specs.Audit.{faultless};
 ghost use Rattle.audit_of_reduce.specs.AuditOfReduce.{audit_of_reduce};
 
 use audit_entry::Audit;
 use audit_entry::auditing::audit;
 use audit_faults::first::no_fault;
-use graph::Shape;
 use graph::hops::part;
+use graph::{Answer, Shape};
+use reduce_by_marks::ShortGraph;
 use reduce_entry::Reduction;
 use reduce_entry::entry::reduce;
 
@@ -31,19 +32,17 @@ pub struct AuditedReduction {
 fn audit_reduction(
     shape: Shape,
     hops: &[u16],
-    reduction: Reduction,
+    made: ShortGraph,
     map: &[u16],
     short: &[u16],
 ) -> Audit
-    requires accepted { reduction.answer.number ≡ 0 }
     requires map_there { shape.states ≤ length map.now }
-    requires short_there { reduction.hops ≤ count short.now }
-    ensures { result ≡ audit_of_reduce shape hops.now reduction map.now short.now }
+    requires short_there { made.hops ≤ count short.now }
+    ensures { result ≡ audit_of_reduce shape hops.now (made_reduction made) map.now short.now }
 {
     let states = shape.states as usize;
-    let short_shape = reduction.shape;
-    let n = reduction.hops;
-    audit(shape, hops, short_shape, part(short, 0, n), &map[0..states])
+    let short_hops = part(short, 0, made.hops);
+    Audit::from(audit(shape, hops, made.shape, short_hops, &map[..states]))
 }
 
 // Reduces, and audits what that left, whatever the outputs held before.
@@ -60,16 +59,17 @@ pub fn reduce_and_audit(
     ensures mapped { map.new ≡ map_output shape hops.now sense map.old short.old }
     ensures shortened { short.new ≡ short_output shape hops.now sense map.old short.old }
 {
-    let reduction = reduce(shape, hops, sense, map, short);
-    let answer = reduction.answer;
-    if answer.number != 0 {
-        let audit = Audit {
-            answer,
+    let outcome = reduce(shape, hops, sense, map, short);
+    let audit = match outcome {
+        Ok(made) => audit_reduction(shape, hops, made, map, short),
+        Err(refusal) => Audit {
+            answer: Answer::from(refusal),
             faults: 0,
             first: no_fault(),
-        };
-        return AuditedReduction { reduction, audit };
+        },
+    };
+    AuditedReduction {
+        reduction: Reduction::from(outcome),
+        audit,
     }
-    let audit = audit_reduction(shape, hops, reduction, map, short);
-    AuditedReduction { reduction, audit }
 }

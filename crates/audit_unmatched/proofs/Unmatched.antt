@@ -8,31 +8,33 @@ use mathlib.Core.List.{List, ◌++◌}
 use mathlib.Core.Logic.{◌⊎◌, inl, inr}
 use native.Mathlib.Nat.{mul-le-mul}
 use native.Mathlib.Omega.{arith}
-use borrow.Author.Tests.{eq-eqb, ne_eqb, eqb-true}
+use borrow.Author.Tests.{eq-eqb, eqb-true}
 use lib.ListN.{get_or, replicate, get_or-replicate}
 use lib.Dec.{eqb}
+use Rattle.std.proofs.lemmas.Bool.Decides.{nat_tests}
+use Rattle.std.proofs.lemmas.Bool.{and_from, and_parts, cases_Bool}
 use Rattle.base_bounded.specs.Quantifiers.{any, least, tally, total}
 use Rattle.graph.specs.Hops.{count, from, label, to}
 use Rattle.graph.specs.Answers.{most_states, most_hops}
 use Rattle.graph_check.specs.Check.{InRange}
 use Rattle.graph.specs.declared.Shape.{Shape}
-use Rattle.base_bounded.proofs.Bools.{decided, same_test, and_yes, and_left, and_right}
+use Rattle.base_bounded.proofs.Bools.{same_test}
 use Rattle.base_bounded.proofs.Quantifiers.{any_found, any_at, tally_same, tally_within, total_most, total_exchange}
 use Rattle.base_bounded.proofs.Least.{least_same}
 use Rattle.graph.proofs.Places.{is_yes, is_label, is_to}
 use Rattle.walk_silent.specs.Silent.{silent_at, leads}
 use Rattle.walk_silent.proofs.Leads.{visited_leads}
 use Rattle.walk_reach.specs.Internal.Reach.{chosen_in, Chooses}
-use Rattle.walk_reach.specs.Internal.Frontier.{visited, reached_bytes}
+use Rattle.walk_reach.specs.Internal.Frontier.{visited, reached_flags}
 use Rattle.graph.specs.Map.{mapped}
 use Rattle.audit_faults.specs.Faults.{match_at, matched_from, matched, unmatched, unmatched_faults}
 use Rattle.audit_matched.specs.Internal.Stamps.{seen_in_class, stamps_hop, StampedUpTo}
 use Rattle.audit_unmatched.specs.Internal.States.{unstamped, Fresh, unmatched_of, unmatched_place_of}
 
-module _ (sh1 : Shape) (h1 h2 m : List ℕ) (ranged : InRange sh1 h1) (bytes : List ℕ) (silent : Chooses h1 (silent_at h1) bytes) (s : ℕ) (rest : List ℕ) (j : ℕ)
+module _ (sh1 : Shape) (h1 h2 m : List ℕ) (ranged : InRange sh1 h1) (flags : List Bool) (silent : Chooses h1 (silent_at h1) flags) (s : ℕ) (rest : List Bool) (j : ℕ)
     (leaving : mapped m s ≡ from h2 j) where
-  abbrev seen_from : List ℕ
-  seen_from = reached_bytes h1 (chosen_in bytes) sh1.states s ++ rest
+  abbrev seen_from : List Bool
+  seen_from = reached_flags h1 (chosen_in flags) sh1.states s ++ rest
 
   abbrev offer : ℕ → ℕ → Bool
   offer u i = eqb (from h1 i) u && (eqb (label h1 i) (label h2 j) && eqb (mapped m (to h1 i)) (to h2 j))
@@ -45,48 +47,35 @@ module _ (sh1 : Shape) (h1 h2 m : List ℕ) (ranged : InRange sh1 h1) (bytes : L
         there : any (count h1) (stamps_hop h1 h2 m seen_from (mapped m s) j) ≡ true → matched_from sh1 h1 m s (from h2 j) (label h2 j) (to h2 j) ≡ true
         there e =
             let (i, l, t) = any_at (stamps_hop h1 h2 m seen_from (mapped m s) j) (count h1) e in
-            let v = and_left (seen_in_class h1 m seen_from (mapped m s) i) _ t in
-            let w = and_right (seen_in_class h1 m seen_from (mapped m s) i) _ t in
+            let v = (and_parts (seen_in_class h1 m seen_from (mapped m s) i) _ t).0 in
+            let w = (and_parts (seen_in_class h1 m seen_from (mapped m s) i) _ t).1 in
             let below = ranged.from_in i l in
             any_found (λ (u : ℕ). leads h1 sh1.states s u && match_at h1 m (from h2 j) (label h2 j) (to h2 j) u) sh1.states below
-            (and_yes (sym (visited_leads h1 bytes silent sh1.states s rest below) ∙ and_left (visited seen_from (from h1 i)) _ v)
-            (and_yes (eq-eqb _ _ (eqb-true _ _ (and_right (visited seen_from (from h1 i)) _ v) ∙ leaving))
-            (any_found (offer (from h1 i)) (count h1) l
-            (and_yes (eq-eqb (from h1 i) (from h1 i) refl) (and_yes (eq-eqb _ _ (sym (is_label h2 (mapped m s) (label h1 i) (mapped m (to h1 i)) j w)))
-            (eq-eqb _ _ (sym (is_to h2 (mapped m s) (label h1 i) (mapped m (to h1 i)) j w))))))))
+            (and_from _ _ (sym (visited_leads h1 flags silent sh1.states s rest below) ∙ (and_parts (visited seen_from (from h1 i)) _ v).0) (and_from _ _ (eq-eqb _ _ (eqb-true _ _ (and_parts (visited seen_from (from h1 i)) _ v).1 ∙ leaving)) (any_found (offer (from h1 i)) (count h1) l
+            (and_from _ _ (eq-eqb (from h1 i) (from h1 i) refl) (and_from _ _ (eq-eqb _ _ (sym (is_label h2 (mapped m s) (label h1 i) (mapped m (to h1 i)) j w))) (eq-eqb _ _ (sym (is_to h2 (mapped m s) (label h1 i) (mapped m (to h1 i)) j w))))))))
 
         back : matched_from sh1 h1 m s (from h2 j) (label h2 j) (to h2 j) ≡ true → any (count h1) (stamps_hop h1 h2 m seen_from (mapped m s) j) ≡ true
         back e =
             let (u, b, d) = any_at (λ (u : ℕ). leads h1 sh1.states s u && match_at h1 m (from h2 j) (label h2 j) (to h2 j) u) sh1.states e in
-            let o = and_right (leads h1 sh1.states s u) _ d in
-            let (i, l, f) = any_at (offer u) (count h1) (and_right (eqb (mapped m u) (from h2 j)) _ o) in
-            let g = and_right (eqb (from h1 i) u) _ f in
-            let q : from h1 i ≡ u = eqb-true _ _ (and_left (eqb (from h1 i) u) _ f) in
+            let o = (and_parts (leads h1 sh1.states s u) _ d).1 in
+            let (i, l, f) = any_at (offer u) (count h1) (and_parts (eqb (mapped m u) (from h2 j)) _ o).1 in
+            let g = (and_parts (eqb (from h1 i) u) _ f).1 in
+            let q : from h1 i ≡ u = eqb-true _ _ (and_parts (eqb (from h1 i) u) _ f).0 in
             any_found (stamps_hop h1 h2 m seen_from (mapped m s) j) (count h1) l
-            (and_yes
-            (and_yes (ap (visited seen_from) q ∙ visited_leads h1 bytes silent sh1.states s rest b ∙ and_left (leads h1 sh1.states s u) _ d)
-            (eq-eqb _ _ (ap (mapped m) q ∙ eqb-true _ _ (and_left (eqb (mapped m u) (from h2 j)) _ o) ∙ sym leaving)))
-            (is_yes h2 (mapped m s) (label h1 i) (mapped m (to h1 i)) j (sym leaving) (sym (eqb-true _ _ (and_left (eqb (label h1 i) (label h2 j)) _ g)))
-            (sym (eqb-true _ _ (and_right (eqb (label h1 i) (label h2 j)) _ g)))))
-
--- the test of a hop that was read
-pub unstamped_hop : (h2 stamps : List ℕ) (r k j : ℕ) {f a q : ℕ} → f ≡ from h2 j → a ≡ label h2 j → q ≡ to h2 j →
-    (eqb r f && not ((eqb a 0 && eqb f q) || eqb (get_or stamps j 0) k)) ≡ unstamped h2 stamps r k j
-unfolding unstamped
-unstamped_hop h2 stamps r k j d e f = rw (d, e, f)
+            (and_from _ _ (and_from _ _ (ap (visited seen_from) q ∙ visited_leads h1 flags silent sh1.states s rest b ∙ (and_parts (leads h1 sh1.states s u) _ d).0) (eq-eqb _ _ (ap (mapped m) q ∙ eqb-true _ _ (and_parts (eqb (mapped m u) (from h2 j)) _ o).0 ∙ sym leaving))) (is_yes h2 (mapped m s) (label h1 i) (mapped m (to h1 i)) j (sym leaving) (sym (eqb-true _ _ (and_parts (eqb (label h1 i) (label h2 j)) _ g).0))
+            (sym (eqb-true _ _ (and_parts (eqb (label h1 i) (label h2 j)) _ g).1))))
 
 -- a fresh stamp stands where it was set, and nowhere else
 stamp_result : (x : Bool) (k b : ℕ) → b < k → eqb (cond x k b) k ≡ x
-stamp_result true k b l = eq-eqb k k refl
-stamp_result false k b l = ne_eqb b k (λ e. omega arith)
+stamp_result x k b l = grind (arith, nat_tests)
 
 -- r is the map of s, and `seen` what the search from s left: then the count of the unstamped hops
 -- is the count of the faults of s
-module _ (sh1 : Shape) (h1 h2 m : List ℕ) (ranged : InRange sh1 h1) (bytes : List ℕ) (silent : Chooses h1 (silent_at h1) bytes) (s : ℕ) (rest : List ℕ) {r : ℕ}
-    (er : r ≡ mapped m s) {seen : List ℕ} (es : seen ≡ reached_bytes h1 (chosen_in bytes) sh1.states s ++ rest) (before after : List ℕ) (ticked : StampedUpTo h1 h2 m seen r (s + 1) (count h1) before after)
+module _ (sh1 : Shape) (h1 h2 m : List ℕ) (ranged : InRange sh1 h1) (flags : List Bool) (silent : Chooses h1 (silent_at h1) flags) (s : ℕ) (rest : List Bool) {r : ℕ}
+    (er : r ≡ mapped m s) {seen : List Bool} (es : seen ≡ reached_flags h1 (chosen_in flags) sh1.states s ++ rest) (before after : List ℕ) (ticked : StampedUpTo h1 h2 m seen r (s + 1) (count h1) before after)
     (fresh : Fresh h2 before (s + 1)) where
   abbrev hits : ℕ → Bool
-  hits j = any (count h1) (stamps_hop h1 h2 m (reached_bytes h1 (chosen_in bytes) sh1.states s ++ rest) (mapped m s) j)
+  hits j = any (count h1) (stamps_hop h1 h2 m (reached_flags h1 (chosen_in flags) sh1.states s ++ rest) (mapped m s) j)
 
   abbrev loop : ℕ → Bool
   loop j = eqb (label h2 j) 0 && eqb (from h2 j) (to h2 j)
@@ -97,14 +86,14 @@ module _ (sh1 : Shape) (h1 h2 m : List ℕ) (ranged : InRange sh1 h1) (bytes : L
 
   unstamped_unmatched : (j : ℕ) → j < count h2 → unstamped h2 after r (s + 1) j ≡ unmatched sh1 h1 h2 m j s
   unfolding unstamped unmatched matched Fresh
-  unstamped_unmatched j l = rw er (go (decided (eqb (mapped m s) (from h2 j)))) where
+  unstamped_unmatched j l = rw er (go (cases_Bool (eqb (mapped m s) (from h2 j)))) where
     go : (eqb (mapped m s) (from h2 j) ≡ true) ⊎ (eqb (mapped m s) (from h2 j) ≡ false) →
         (eqb (mapped m s) (from h2 j) && not (loop j || eqb (get_or after j 0) (s + 1))) ≡
         (eqb (mapped m s) (from h2 j) && not (loop j || matched_from sh1 h1 m s (from h2 j) (label h2 j) (to h2 j)))
     go (inl e) =
         ap (λ (x : Bool). eqb (mapped m s) (from h2 j) && not (loop j || x))
         (ap (λ (b : ℕ). eqb b (s + 1)) (stamped j l) ∙ stamp_result (hits j) (s + 1) (get_or before j 0) (fresh j l) ∙
-        stamped_matched sh1 h1 h2 m ranged bytes silent s rest j (eqb-true _ _ e))
+        stamped_matched sh1 h1 h2 m ranged flags silent s rest j (eqb-true _ _ e))
     go (inr e) = rw e
 
   pub counted_unmatched : {x : ℕ} → x ≡ tally (count h2) (unstamped h2 after r (s + 1)) → x ≡ unmatched_of sh1 h1 h2 m s

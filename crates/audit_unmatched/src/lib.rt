@@ -5,247 +5,230 @@
 // image are faults, silent ones to itself aside. The smallest place is kept, with the first state
 // that has it.
 // Uses `audit_faults` for what the sum and the first fault are, `audit_matched` for the stamps,
-// `graph_successors` for the hops of a state, and `walk_reach` along the silent hops of
-// `walk_silent`.
+// `graph_index` for the hops of a state, and `walk_reach` along the silent hops of `walk_silent`.
 #![tactic(auto)]
 
-ghost use Rattle.std.specs.Prelude.{◌≡◌, cond, ◌+◌, ◌<◌, ◌≤◌, length, ltb};
+ghost use Rattle.std.specs.Prelude.{◌≡◌, ◌+◌, ◌<◌, ◌≤◌, length};
 ghost use Rattle.base_bounded.specs.Quantifiers.{least, tally};
 ghost use Rattle.graph.specs.Hops.{count};
 ghost use Rattle.graph.specs.Answers.{most_states};
-ghost use Rattle.graph_successors.specs.Internal.SuccessorIndex.{SuccessorIndex, Indexable};
+ghost use Rattle.graph_successors.specs.Internal.SuccessorIndex.{SuccessorIndex};
+ghost use Rattle.graph_successors.specs.Internal.Facts.{successor_index_prop};
+ghost use Rattle.walk_reach.specs.Internal.Reach.{Chooses};
+ghost use Rattle.walk_silent.specs.Silent.{silent_at};
 ghost use Rattle.audit_faults.specs.Faults.{unmatched_faults};
-ghost use Rattle.audit_faults.specs.First.{fault, no_fault, first_unmatched};
-ghost use Rattle.audit_faults.specs.Internal.Images.{Auditable, Imaged};
-ghost use Rattle.audit_unmatched.specs.Internal.States.{CountInput, Workspace, unstamped, Fresh, unmatched_of, unmatched_place_of};
+ghost use Rattle.audit_faults.specs.First.{first_unmatched, named};
+ghost use Rattle.graph_check.specs.Internal.Places.{place_below};
+ghost use Rattle.audit_unmatched.specs.Internal.Facts.{chooses_prop};
+ghost use Rattle.audit_unmatched.specs.Internal.States.{unstamped, Fresh, unmatched_of, unmatched_place_of, kept_with};
 
-use audit_faults::first::no_fault;
+use audit_faults::images::Located;
 use audit_faults::{Fault, Share};
 use audit_matched::stamp_all;
-use graph::hops::{hop_count, label_at, new_from_at, new_to_at};
-use graph::map::map_at;
-use graph::tables::wide;
-use graph::{MOST_HOPS, MOST_STATES, NewState, OldState, Shape};
-use graph_successors::{STARTS, start_of, starts_of};
+use graph::hops::{label_at, new_from_at, new_to_at};
+use graph::{MOST_HOPS, MOST_STATES, NewState, OldState};
+use graph_index::{Index, Indexed};
+use graph_successors::{STARTS, put_starts};
 use walk_reach::reach;
-use walk_silent::chosen::silent_bytes;
+use walk_silent::chosen::silent_flags;
 
-// What is unmatched for one state: how many hops of graph 2, and the place of the first, or the hop
-// count.
+// The working space, made once for all states: for the search, and a stamp for each hop of graph 2.
+#[derive(Drop)]
+struct Workspace {
+    seen: [bool; MOST_STATES],
+    queue: [u16; MOST_STATES],
+    stamps: [u16; MOST_HOPS],
+}
+
+// What is unmatched for one state: how many hops of graph 2, and the place of the first.
 #[derive(Clone, Copy)]
 pub struct OfState {
     pub faults: u32,
-    pub place: usize,
+    pub place: Option<usize>,
 }
 
-// Whether the hop at place j of graph 2 leaves r, is no silent hop to r itself, and does not have
-// the stamp k.
-fn is_unstamped(hops2: &[u16], stamps: &[u16], r: NewState, k: u16, j: usize) -> bool
-    requires place { j < count hops2.now }
-    requires stamps { count hops2.now ≤ length stamps.now }
-    ensures { result ≡ unstamped hops2.now stamps.now r.0 k j }
-{
-    let from = new_from_at(hops2, j);
-    let a = label_at(hops2, j);
-    let q = new_to_at(hops2, j);
-    (r.0 == from.0) & !(((a.0 == 0) & (from.0 == q.0)) | (stamps[j] == k))
-}
-
-// The place of the first such hop of graph 2, or its hop count. Only the hops of r are looked at:
-// no other hop can be one.
-fn first_unstamped(
-    hops2: &[u16],
-    starts2: &[u16; STARTS],
-    stamps: &[u16],
+// Graph 2 once the hops that a state matches have the stamp k, where r is the state's image.
+#[derive(Clone, Copy)]
+struct Stamped<'a, 's> {
+    index2: Index<'a>,
+    stamps: &'s [u16],
     r: NewState,
     k: u16,
-) -> usize
-    requires ready { Indexable hops2.now }
-    requires table { SuccessorIndex hops2.now starts2.now }
-    requires stamps { count hops2.now ≤ length stamps.now }
-    requires state { r.0 < most_states }
-    ensures { result ≡ least (count hops2.now) (unstamped hops2.now stamps.now r.0 k) }
-{
-    let at = wide(r.0);
-    let past = start_of(starts2, at + 1);
-    let mut j = start_of(starts2, at);
-    while j < past {
-        if is_unstamped(hops2, stamps, r, k, j) {
-            return j;
-        }
-        j += 1;
+    ghost capacity: { count index2.hops.now ≤ length stamps.now },
+    ghost few: { r.0 < most_states },
+}
+
+impl<'a, 's> Stamped<'a, 's> {
+    // Whether the hop at place j of graph 2 leaves r, is no silent hop to r itself, and does not
+    // have the stamp k.
+    #[tactic(auto, unfolding(crate::specs::Internal::States::unstamped))]
+    fn is_unstamped(self, j: usize) -> bool
+        requires { j < count self.index2.hops.now }
+        ensures { result ≡ unstamped self.entry.index2.hops.now self.entry.stamps.now self.entry.r.0 self.entry.k j }
+    {
+        let from = new_from_at(self.index2.hops, j);
+        let a = label_at(self.index2.hops, j);
+        let q = new_to_at(self.index2.hops, j);
+        (self.r == from) & !(((a.0 == 0) & (from == q)) | (self.stamps[j] == self.k))
     }
-    hop_count(hops2)
-}
 
-// How many such hops graph 2 has, counted from the first of them on.
-fn unstamped_from(
-    hops2: &[u16],
-    starts2: &[u16; STARTS],
-    stamps: &[u16],
-    r: NewState,
-    k: u16,
-    first: usize,
-) -> u32
-    requires ready { Indexable hops2.now }
-    requires table { SuccessorIndex hops2.now starts2.now }
-    requires stamps { count hops2.now ≤ length stamps.now }
-    requires state { r.0 < most_states }
-    requires first { first ≡ least (count hops2.now) (unstamped hops2.now stamps.now r.0 k) }
-    ensures { result ≡ tally (count hops2.now) (unstamped hops2.now stamps.now r.0 k) }
-{
-    let past = start_of(starts2, wide(r.0) + 1);
-    let mut faults = 0;
-    let mut j = first;
-    while j < past {
-        if is_unstamped(hops2, stamps, r, k, j) {
-            faults += 1;
-        }
-        j += 1;
+    // The place of the first such hop of graph 2. Only the hops of r are looked at: no other hop
+    // can be one.
+    fn first_unstamped(self) -> Option<usize>
+        ensures { result ≡ place_below (count self.entry.index2.hops.now)
+            (least (count self.entry.index2.hops.now)
+            (unstamped self.entry.index2.hops.now self.entry.stamps.now self.entry.r.0 self.entry.k)) }
+    {
+        (self.index2.first(self.r.0)..self.index2.past(self.r.0)).find(|j| self.is_unstamped(*j))
     }
-    faults
+
+    // How many such hops graph 2 has, counted from the first of them on.
+    fn unstamped_from(self, first: usize) -> u32
+        requires { first ≡ least (count self.index2.hops.now) (unstamped self.index2.hops.now self.stamps.now self.r.0 self.k) }
+        ensures { result ≡ tally (count self.entry.index2.hops.now)
+            (unstamped self.entry.index2.hops.now self.entry.stamps.now self.entry.r.0 self.entry.k) }
+    {
+        let mut faults = 0;
+        for j in first..self.index2.past(self.r.0) {
+            if self.is_unstamped(j) {
+                faults += 1;
+            }
+        }
+        faults
+    }
+
+    // How many such hops graph 2 has, and the place of the first.
+    fn unstamped(self) -> OfState
+        ensures counts { result.faults ≡ tally (count self.entry.index2.hops.now)
+            (unstamped self.entry.index2.hops.now self.entry.stamps.now self.entry.r.0 self.entry.k) }
+        ensures names { result.place ≡ place_below (count self.entry.index2.hops.now)
+            (least (count self.entry.index2.hops.now)
+            (unstamped self.entry.index2.hops.now self.entry.stamps.now self.entry.r.0 self.entry.k)) }
+    {
+        let place = self.first_unstamped();
+        let faults = match place {
+            Some(first) => self.unstamped_from(first),
+            None => 0,
+        };
+        OfState { faults, place }
+    }
 }
 
-// The faults of the pairs of a hop of graph 2 and the state s, and the first place of such a hop.
-fn unmatched_of(
-    shape1: Shape,
-    hops1: &[u16],
-    starts1: &[u16; STARTS],
-    silent: &[u8],
-    hops2: &[u16],
-    starts2: &[u16; STARTS],
-    map: &[u16],
-    images: &[u16; MOST_HOPS],
-    s: OldState,
-    seen: &mut [u8],
-    queue: &mut [u16],
-    stamps: &mut [u16],
-) -> OfState
-    requires countable { CountInput shape1 hops1.now starts1.now silent.now hops2.now starts2.now map.now images.now }
-    requires state { s.0 < shape1.states }
-    requires capacities { Workspace shape1.states hops2.now seen.old queue.old stamps.old }
-    requires fresh { Fresh hops2.now stamps.old (s.0 + 1) }
-    ensures counts { result.faults ≡ unmatched_of shape1 hops1.now hops2.now map.now s.0 }
-    ensures names { result.place ≡ unmatched_place_of shape1 hops1.now hops2.now map.now s.0 }
-    ensures fresh { Fresh hops2.now stamps.new (s.0 + 1 + 1) }
+// The first fault of kind 3 so far, once the state s is passed, with the first place of a hop that
+// is unmatched for it. The states are passed in order, but the first fault goes by hops: so the
+// smallest place is kept, with the first state that has it.
+fn keep(kept: Option<Fault>, place: Option<usize>, s: u16) -> Option<Fault>
+    ensures { result ≡ kept_with kept place s }
 {
-    let r = map_at(map, s);
-    let k = s.0 + 1;
-    reach(shape1, hops1, starts1, silent, s, seen, queue);
-    stamp_all(
-        shape1, hops1, starts1, hops2, map, images, seen, stamps, r, k,
-    );
-    let place = first_unstamped(hops2, starts2, stamps, r, k);
-    let faults = unstamped_from(hops2, starts2, stamps, r, k, place);
-    OfState { faults, place }
+    match place {
+        Some(place) if kept.is_none_or(|f| place < f.place) => Some(Fault {
+            kind: 3,
+            place,
+            state: s,
+        }),
+        _ => kept,
+    }
 }
 
-// A share of kind 3: its first fault by place and state, unless the place is `none`.
-fn share_of(faults: u32, place: usize, state: u16, none: usize) -> Share
-    ensures counts { result.faults ≡ faults }
-    ensures names { result.first ≡ cond (ltb place none) (fault 3 place state) no_fault }
-{
-    if place < none {
-        return Share {
-            faults,
-            first: Fault {
-                kind: 3,
-                place,
-                state,
+// The graphs and the map with both tables of first places, and which hops of graph 1 are silent.
+#[derive(Clone, Copy)]
+struct Tabled<'a> {
+    located: Located<'a>,
+    starts1: &'a [u16; STARTS],
+    starts2: &'a [u16; STARTS],
+    silent: &'a [bool; MOST_HOPS],
+    ghost table1: { SuccessorIndex located.mapped.hops1.now starts1.now } by { successor_index_prop _ _ },
+    ghost table2: { SuccessorIndex located.mapped.hops2.now starts2.now } by { successor_index_prop _ _ },
+    ghost chosen: { Chooses located.mapped.hops1.now (silent_at located.mapped.hops1.now) silent.now } by { chooses_prop _ _ _ },
+}
+
+impl<'a> Tabled<'a> {
+    // The faults of the pairs of a hop of graph 2 and the state s, and the first place of such a
+    // hop.
+    fn unmatched_of(self, s: OldState, work: &mut Workspace) -> OfState
+        requires state { s.0 < self.located.mapped.shape1.states }
+        requires fresh { Fresh self.located.mapped.hops2.now work.old.stamps (s.0 + 1) }
+        ensures counts { result.faults ≡ unmatched_of self.entry.located.mapped.shape1 self.entry.located.mapped.hops1.now
+            self.entry.located.mapped.hops2.now self.entry.located.mapped.map.now s.0 }
+        ensures names { result.place ≡ place_below (count self.entry.located.mapped.hops2.now)
+            (unmatched_place_of self.entry.located.mapped.shape1 self.entry.located.mapped.hops1.now
+            self.entry.located.mapped.hops2.now self.entry.located.mapped.map.now s.0) }
+        ensures fresh { Fresh self.entry.located.mapped.hops2.now work.new.stamps (s.0 + 1 + 1) }
+    {
+        let mapped = self.located.mapped;
+        let silent = self.silent;
+        let r = mapped.image(s);
+        let k = s.0 + 1;
+        let graph1 = Indexed {
+            shape: mapped.shape1,
+            index: Index {
+                hops: mapped.hops1,
+                starts: self.starts1,
             },
         };
-    }
-    Share {
-        faults,
-        first: no_fault(),
-    }
-}
-
-// The third sum, by the tables of places, with working space for the search and for the stamps,
-// which begin at 0. The states are passed in order, but the first fault goes by hops: so the
-// smallest place is kept, with the first state that has it.
-fn unmatched_faults(
-    shape1: Shape,
-    hops1: &[u16],
-    starts1: &[u16; STARTS],
-    silent: &[u8],
-    hops2: &[u16],
-    starts2: &[u16; STARTS],
-    map: &[u16],
-    images: &[u16; MOST_HOPS],
-    seen: &mut [u8],
-    queue: &mut [u16],
-    stamps: &mut [u16],
-) -> Share
-    requires countable { CountInput shape1 hops1.now starts1.now silent.now hops2.now starts2.now map.now images.now }
-    requires capacities { Workspace shape1.states hops2.now seen.old queue.old stamps.old }
-    requires fresh { Fresh hops2.now stamps.old 1 }
-    ensures counts { result.faults ≡ unmatched_faults shape1 hops1.now hops2.now map.now }
-    ensures names { result.first ≡ first_unmatched shape1 hops1.now hops2.now map.now }
-{
-    let n = shape1.states as usize;
-    let none = hop_count(hops2);
-    let mut faults = 0;
-    let mut place = none;
-    let mut state = 0;
-    let mut s = 0;
-    while s < n {
-        let of = unmatched_of(
-            shape1,
-            hops1,
-            starts1,
-            silent,
-            hops2,
-            starts2,
-            map,
-            images,
-            OldState(s as u16),
-            seen,
-            queue,
-            stamps,
+        reach(graph1, silent, s, &mut work.seen, &mut work.queue);
+        stamp_all(
+            self.located,
+            self.starts1,
+            &work.seen,
+            &mut work.stamps,
+            r,
+            k,
         );
-        faults += of.faults;
-        if of.place < place {
-            place = of.place;
-            state = s as u16;
-        }
-        s += 1;
+        let index2 = Index {
+            hops: mapped.hops2,
+            starts: self.starts2,
+        };
+        let stamped = Stamped {
+            index2,
+            stamps: &work.stamps,
+            r,
+            k,
+        };
+        stamped.unstamped()
     }
-    share_of(faults, place, state, none)
+
+    // The third sum, with stamps that begin at 0.
+    fn unmatched_faults(self, work: &mut Workspace) -> Share
+        requires { Fresh self.located.mapped.hops2.now work.old.stamps 1 }
+        ensures counts { result.faults ≡ unmatched_faults self.entry.located.mapped.shape1
+            self.entry.located.mapped.hops1.now self.entry.located.mapped.hops2.now self.entry.located.mapped.map.now }
+        ensures names { result.first ≡ named (first_unmatched self.entry.located.mapped.shape1
+            self.entry.located.mapped.hops1.now self.entry.located.mapped.hops2.now self.entry.located.mapped.map.now) }
+    {
+        let mut faults = 0;
+        let mut first = None;
+        for s in 0..self.located.mapped.shape1.states as u16 {
+            let of = self.unmatched_of(OldState(s), work);
+            faults += of.faults;
+            first = keep(first, of.place, s);
+        }
+        Share { faults, first }
+    }
 }
 
 // The third sum: 1 for each pair of a hop of graph 2 and a state of graph 1 that is a fault, and
 // the first of them.
-pub fn all_unmatched(
-    shape1: Shape,
-    hops1: &[u16],
-    hops2: &[u16],
-    starts2: &[u16; STARTS],
-    map: &[u16],
-    images: &[u16; MOST_HOPS],
-) -> Share
-    requires auditable { Auditable shape1 hops1.now hops2.now map.now }
-    requires table { SuccessorIndex hops2.now starts2.now }
-    requires imaged { Imaged hops1.now hops2.now map.now images.now }
-    ensures counts { result.faults ≡ unmatched_faults shape1 hops1.now hops2.now map.now }
-    ensures names { result.first ≡ first_unmatched shape1 hops1.now hops2.now map.now }
+pub fn all_unmatched(located: Located<'_>, starts2: &[u16; STARTS]) -> Share
+    requires { SuccessorIndex located.mapped.hops2.now starts2.now }
+    ensures counts { result.faults ≡ unmatched_faults located.entry.mapped.shape1
+        located.entry.mapped.hops1.now located.entry.mapped.hops2.now located.entry.mapped.map.now }
+    ensures names { result.first ≡ named (first_unmatched located.entry.mapped.shape1
+        located.entry.mapped.hops1.now located.entry.mapped.hops2.now located.entry.mapped.map.now) }
 {
-    let starts1 = starts_of(hops1);
-    let silent = silent_bytes(hops1);
-    let mut seen = [0u8; MOST_STATES];
-    let mut queue = [0u16; MOST_STATES];
-    let mut stamps = [0u16; MOST_HOPS];
-    unmatched_faults(
-        shape1,
-        hops1,
-        &starts1,
-        &silent,
-        hops2,
+    let mut starts1 = [0u16; STARTS];
+    put_starts(located.mapped.hops1, &mut starts1);
+    let silent = silent_flags(located.mapped.hops1);
+    let mut work = Workspace {
+        seen: [false; MOST_STATES],
+        queue: [0; MOST_STATES],
+        stamps: [0; MOST_HOPS],
+    };
+    let tabled = Tabled {
+        located,
+        starts1: &starts1,
         starts2,
-        map,
-        images,
-        &mut seen,
-        &mut queue,
-        &mut stamps,
-    )
+        silent: &silent,
+    };
+    tabled.unmatched_faults(&mut work)
 }

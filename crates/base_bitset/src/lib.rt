@@ -3,9 +3,9 @@
 // Uses `base_bounded` for statements over the bits of a word.
 #![tactic(auto)]
 
-ghost use Rattle.std.specs.Prelude.{◌≡◌, not, ◌||◌, ◌<◌, ◌^◌, length};
+ghost use Rattle.std.specs.Prelude.{◌≡◌, not, ◌||◌, ◌<◌, ◌^◌};
 ghost use Rattle.base_bounded.specs.Quantifiers.{all};
-ghost use Rattle.base_bitset.specs.Internal.Bits.{bit_at, word_bits, table_words};
+ghost use Rattle.base_bitset.specs.Internal.Bits.{bit_at, word_bits};
 
 // How many bits a word has.
 pub const WORD_BITS: usize = 64;
@@ -23,15 +23,4 @@ pub fn holds(word: u64, other: u64) -> bool
     ensures { result ≡ all word_bits (λ b. not (bit_at other b) || bit_at word b) }
 {
     word & other == other
-}
-
-// How many words a table has: one for each state, or for each label, that can be.
-pub const TABLE: usize = 1024;
-
-// Does nothing but say in its contract that a table behind a reference has all its words: a proof
-// knows the length of an array once the array is seen as a slice.
-pub fn sized(words: &[u64; TABLE])
-    ensures { length words.now ≡ table_words }
-{
-    let all: &[u64] = words;
 }

@@ -1,18 +1,16 @@
--- Laws of Bool tests: what a joined test says of its parts, and the other way round; and the choice
--- by a test. Assumes nothing.
+-- Laws of Bool tests: what a joined test says of its parts, and the other way round. Assumes
+-- nothing.
 use Prim.Native.Nat.{ℕ, ◌<◌, ◌≤◌}
 use mathlib.Core.Path.{◌≡◌, refl, sym, ◌∙◌}
-use mathlib.Core.Bool.{Bool, true, false, cond, not, ◌&&◌, ◌||◌}
+use mathlib.Core.Bool.{Bool, true, false, not, ◌&&◌, ◌||◌}
 use mathlib.Core.Logic.{◌⊎◌, inl, inr}
-use native.Mathlib.Omega.{arith}
 use borrow.Author.Tests.{ltb-true, ltb-false, eqb-true, eqb-false}
 use lib.Dec.{ltb, eqb}
+use Rattle.std.proofs.lemmas.Bool.{true≢false}
 
 -- a test cannot pass and fail
 pub clash {ℓ} : {A : Type ℓ} {b : Bool} → b ≡ true → b ≡ false → A
-clash p q = absurd (no_clash (sym p ∙ q)) where
-  no_clash : true ≡ false → ⊥
-  no_clash e = let z : ◌≡◌ {A = ℕ} 0 1 = cc in omega arith
+clash p q = absurd (true≢false (sym p ∙ q))
 
 -- one of the two
 pub decided : (b : Bool) → (b ≡ true) ⊎ (b ≡ false)
@@ -79,11 +77,3 @@ same_test false false f g = refl
 pub no_test : (a : Bool) → (a ≡ true → ⊥) → a ≡ false
 no_test true f = absurd (f refl)
 no_test false f = refl
-
--- a choice by a test that the code made: the value of either way out is the chosen one
-module _ {A : Type 0} {f t : Bool} (e : f ≡ t) {r : A} where
-  pub chosen : f ≡ true → (x y : A) → r ≡ x → r ≡ cond t x y
-  chosen d x y h = rw (sym e ∙ d) h
-
-  pub other : f ≡ false → (x y : A) → r ≡ y → r ≡ cond t x y
-  other d x y h = rw (sym e ∙ d) h

@@ -7,8 +7,9 @@ use mathlib.Core.Path.{◌≡◌, refl, sym, ◌∙◌}
 use mathlib.Core.Bool.{Bool, true, false}
 use mathlib.Core.Logic.{◌⊎◌, inl, inr}
 use native.Mathlib.Omega.{arith}
+use Rattle.std.proofs.lemmas.Bool.{cases_Bool}
 use Rattle.base_bounded.specs.Quantifiers.{all, tally}
-use Rattle.base_bounded.proofs.Bools.{clash, decided}
+use Rattle.base_bounded.proofs.Bools.{clash}
 use Rattle.base_bounded.proofs.Quantifiers.{tally_less, tally_within, all_at, all_counter}
 
 -- at each number below n, a test of `chain (suc k)` is one of `chain k`
@@ -22,7 +23,7 @@ Still n chain k = (j : ℕ) → j < n → chain k j ≡ chain (suc k) j
 module _ (n : ℕ) (chain : ℕ → ℕ → Bool) (falls : Falling n chain) (rests : (k : ℕ) → Still n chain k → Still n chain (suc k)) where
   -- step k changes nothing, or removes a number
   step : (k : ℕ) → Still n chain k ⊎ (tally n (chain (suc k)) < tally n (chain k))
-  step k = go (decided (all n kept)) where
+  step k = go (cases_Bool (all n kept)) where
     open_or : Bool → Bool → Bool
     open_or true b = b
     open_or false b = true

@@ -5,13 +5,13 @@ use Prim.Native.Nat.{ℕ, ◌+◌, ◌<◌, ◌≤◌}
 use mathlib.Core.Path.{◌≡◌, refl, sym, ap, ◌∙◌}
 use mathlib.Core.Bool.{Bool, true, false, cond, ◌||◌}
 use mathlib.Core.Logic.{⊎_elim}
-use native.Mathlib.Nat.{le_refl}
 use native.Mathlib.Numerals.{add-one}
 use native.Mathlib.Omega.{arith}
-use borrow.Author.Tests.{ltb-true, lt-ltb, le-ltb}
+use borrow.Author.Tests.{ltb-true, lt-ltb}
 use lib.Dec.{ltb}
+use Rattle.std.proofs.lemmas.Bool.{cases_lt, or_right}
 use Rattle.base_bounded.specs.Quantifiers.{any, least, tally}
-use Rattle.base_bounded.proofs.Bools.{clash, lt_or_le, or_right}
+use Rattle.base_bounded.proofs.Bools.{clash}
 use Rattle.base_bounded.proofs.Quantifiers.{any_at, any_never, least_within, least_passes, least_before, least_no, least_is, tally_zero}
 
 module _ (p : ℕ → Bool) (n : ℕ) where
@@ -23,7 +23,7 @@ module _ (p : ℕ → Bool) (n : ℕ) where
   pub least_some : any n p ≡ true → least n p < n
   least_some e =
       let (i, l, d) = any_at p n e in
-      ⊎_elim (λ h. h) (λ h. clash d (least_before p n (omega arith))) (lt_or_le (least n p) n)
+      ⊎_elim (λ h. h) (λ h. clash d (least_before p n (omega arith))) (cases_lt (least n p) n)
 
   pub least_all : n ≤ least n p → {j : ℕ} → j < n → p j ≡ false
   least_all h l = least_before p n (omega arith)
@@ -58,9 +58,6 @@ module _ (b : ℕ) (p : ℕ → ℕ → Bool) where
   unfolding any
   first_none = least_no (λ (j : ℕ). any 0 (p j)) b (λ j l. refl)
 
-  pub second_none : least_second 0 ≡ 0
-  second_none = rw (first_none, le-ltb b b (le_refl b))
-
   -- one second number more, for which f is the least first number
   module _ (n : ℕ) {f : ℕ} (e : f ≡ least b (λ (j : ℕ). p j n)) where
     none_here : {j : ℕ} → j < f → p j n ≡ false
@@ -94,7 +91,7 @@ module _ (b : ℕ) (p : ℕ → ℕ → Bool) where
       first_later =
           sym (least_is (λ (j : ℕ). any (n + 1) (p j)) b (least_first n) (least_within (λ (j : ℕ). any n (p j)) b)
           (λ j l. any_next n j (none_here (omega arith)) (any_none_yet n l))
-          (λ l. any_next n (least_first n) refl (still l) ∙ or_right (p (least_first n) n) refl))
+          (λ l. any_next n (least_first n) refl (still l) ∙ or_right (p (least_first n) n) _ refl))
 
       second_same : (i : ℕ) → any n (p i) ≡ true → least n (p i) ≡ least (n + 1) (p i)
       second_same i d =

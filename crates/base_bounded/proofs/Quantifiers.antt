@@ -1,10 +1,10 @@
--- Laws of the tests over the numbers below a bound. Four serve each kind of loop: `-none` where it
--- begins, `-more` for one step, `-fails` or `-found` for an early return, `-done` where the count
--- has reached the bound. Assumes nothing.
+-- Laws of the tests over the numbers below a bound. Some serve a loop: `_none` where it begins,
+-- `_more` for one step, `_fails` or `_found` for an early return, `_done` where the count has
+-- reached the bound. Assumes nothing.
 use Prim.Native.Nat.{ℕ, zero, suc, ◌+◌, ◌*◌, ◌<◌, ◌≤◌}
 use mathlib.Core.Path.{◌≡◌, refl, sym, ap, ◌∙◌}
 use mathlib.Core.Bool.{Bool, true, false, cond, ◌&&◌, ◌||◌}
-use mathlib.Core.List.{List, [], ◌∷◌}
+use mathlib.Core.List.{[], ◌∷◌}
 use mathlib.Core.Logic.{◌⊎◌, inl, inr, ⊎_elim}
 use native.Mathlib.Nat.{eq-or-lt_of_le, le_of_suc-le-suc, not-suc-le-zero, le_refl, suc-mul}
 use native.Mathlib.Numerals.{add-one}
@@ -13,34 +13,24 @@ use borrow.Author.Tests.{ltb-true, ltb-false, lt-ltb, le-ltb}
 use lib.Dec.{ltb}
 use lib.ListN.{length, get_or, length-append, get_or-append}
 use lib.Seq.{get_or_at}
+use Rattle.std.proofs.lemmas.Bool.{and_parts, and_right, cases_lt, or_cases, or_right}
 use Rattle.base_bounded.specs.Quantifiers.{all, any, least, tally, tabulate, total}
-use Rattle.base_bounded.proofs.Bools.{clash, lt_or_le, and_left, and_right, and_no_right, or_right, or_yes, same_test}
+use Rattle.base_bounded.proofs.Bools.{clash, same_test}
 
 module _ (p : ℕ → Bool) where
-  pub all_none : all 0 p ≡ true
-  unfolding all
-  all_none = refl
-
-  pub all_more : (i : ℕ) → all i p ≡ true → p i ≡ true → all (i + 1) p ≡ true
-  unfolding all
-  all_more i h e = rw (add-one, e) h
-
   pub all_fails : (n : ℕ) {i : ℕ} → i < n → p i ≡ false → all n p ≡ false
   unfolding all
   all_fails zero l e = absurd (not-suc-le-zero l)
   all_fails (suc n) l e =
       ⊎_elim (λ q. ap (λ (j : ℕ). p j && all n p) (sym q) ∙ ap (λ (b : Bool). b && all n p) e)
-      (λ m. and_no_right (p n) (all_fails n m e)) (eq-or-lt_of_le (le_of_suc-le-suc l))
-
-  pub all_done : {i n : ℕ} → i ≤ n → n ≤ i → all i p ≡ true → all n p ≡ true
-  all_done {i} {n} h l e = let q : n ≡ i = omega arith in rw q e
+      (λ m. and_right (p n) _ (all_fails n m e)) (eq-or-lt_of_le (le_of_suc-le-suc l))
 
   -- each number below the bound passes
   pub all_at : (n : ℕ) {i : ℕ} → all n p ≡ true → i < n → p i ≡ true
   unfolding all
   all_at zero e l = absurd (not-suc-le-zero l)
   all_at (suc n) e l =
-      ⊎_elim (λ q. ap p q ∙ and_left (p n) (all n p) e) (λ m. all_at n (and_right (p n) (all n p) e) m)
+      ⊎_elim (λ q. ap p q ∙ (and_parts (p n) (all n p) e).0) (λ m. all_at n (and_parts (p n) (all n p) e).1 m)
       (eq-or-lt_of_le (le_of_suc-le-suc l))
 
   pub all_yes : (n : ℕ) → ((j : ℕ) → j < n → p j ≡ true) → all n p ≡ true
@@ -71,16 +61,13 @@ module _ (p : ℕ → Bool) where
   any_found zero l e = absurd (not-suc-le-zero l)
   any_found (suc n) l e =
       ⊎_elim (λ q. ap (λ (j : ℕ). p j || any n p) (sym q) ∙ ap (λ (b : Bool). b || any n p) e)
-      (λ m. or_right (p n) (any_found n m e)) (eq-or-lt_of_le (le_of_suc-le-suc l))
-
-  pub any_done : {i n : ℕ} → i ≤ n → n ≤ i → any i p ≡ false → any n p ≡ false
-  any_done {i} {n} h l e = let q : n ≡ i = omega arith in rw q e
+      (λ m. or_right (p n) _ (any_found n m e)) (eq-or-lt_of_le (le_of_suc-le-suc l))
 
   -- a number below the bound that passes
   pub any_at : (n : ℕ) → any n p ≡ true → (i : ℕ) × (i < n) × (p i ≡ true)
   unfolding any
   any_at zero e = clash e refl
-  any_at (suc n) e = go (or_yes (p n) (any n p) e) (λ d. any_at n d) where
+  any_at (suc n) e = go (or_cases (p n) (any n p) e) (λ d. any_at n d) where
     go : (p n ≡ true) ⊎ (any n p ≡ true) → (any n p ≡ true → (i : ℕ) × (i < n) × (p i ≡ true)) → (i : ℕ) × (i < suc n) × (p i ≡ true)
     go (inl d) ih = (n, le_refl (suc n), d)
     go (inr d) ih = let (i, l, h) = ih d in (i, omega arith, h)
@@ -100,7 +87,7 @@ module _ (p : ℕ → Bool) where
   pub any_rest : (n : ℕ) {lo : ℕ} → lo ≤ n → ((j : ℕ) → lo ≤ j → j < n → p j ≡ false) → any n p ≡ any lo p
   any_rest n {lo} l f = same_test (any n p) (any lo p) there (λ e. let (i, k, d) = any_at lo e in any_found n (omega arith) d) where
     there : any n p ≡ true → any lo p ≡ true
-    there e = let (i, k, d) = any_at n e in ⊎_elim (λ h. any_found lo h d) (λ h. clash d (f i h k)) (lt_or_le i lo)
+    there e = let (i, k, d) = any_at n e in ⊎_elim (λ h. any_found lo h d) (λ h. clash d (f i h k)) (cases_lt i lo)
 
   pub least_none : least 0 p ≡ 0
   unfolding least

@@ -8,8 +8,9 @@ use native.Mathlib.Nat.{eq-or-lt_of_le, le_of_suc-le-suc, not-suc-le-zero, le_re
 use native.Mathlib.Omega.{arith}
 use borrow.Author.Tests.{lt-ltb, le-ltb, eq-eqb, ne_eqb}
 use lib.Dec.{ltb, eqb}
+use Rattle.std.proofs.lemmas.Bool.{cases_eq, cases_lt}
 use Rattle.base_bounded.specs.Quantifiers.{tally}
-use Rattle.base_bounded.proofs.Bools.{clash, lt_or_le, eq_or_not}
+use Rattle.base_bounded.proofs.Bools.{clash}
 use Rattle.base_bounded.proofs.Quantifiers.{tally_more, tally_same}
 
 module _ (p : ℕ → Bool) where
@@ -50,7 +51,7 @@ module _ (p : ℕ → Bool) where
 
     go : (x : Bool) → p n ≡ x → (m < tally n p → (j : ℕ) × (j < n) × (p j ≡ true) × (tally j p ≡ m)) → m < cond x 1 0 + tally n p →
         (j : ℕ) × (j < suc n) × (p j ≡ true) × (tally j p ≡ m)
-    go true d ih l = ⊎_elim (λ h. deeper (ih h)) (λ h. (n, le_refl (suc n), d, omega arith)) (lt_or_le m (tally n p))
+    go true d ih l = ⊎_elim (λ h. deeper (ih h)) (λ h. (n, le_refl (suc n), d, omega arith)) (cases_lt m (tally n p))
     go false d ih l = deeper (ih (omega arith))
 
 -- of the numbers below n, m come before m
@@ -63,7 +64,7 @@ pub tally_upto : (f : ℕ → ℕ) (s n : ℕ) →
     tally n (λ (j : ℕ). ltb (f j) (s + 1)) ≡ tally n (λ (j : ℕ). ltb (f j) s) + tally n (λ (j : ℕ). eqb (f j) s)
 unfolding tally
 tally_upto f s zero = refl
-tally_upto f s (suc n) = go (tally_upto f s n) (lt_or_le (f n) s) (eq_or_not (f n) s) where
+tally_upto f s (suc n) = go (tally_upto f s n) (cases_lt (f n) s) (cases_eq (f n) s) where
   go : tally n (λ (j : ℕ). ltb (f j) (s + 1)) ≡ tally n (λ (j : ℕ). ltb (f j) s) + tally n (λ (j : ℕ). eqb (f j) s) →
       (f n < s) ⊎ (s ≤ f n) → (f n ≡ s) ⊎ (f n ≡ s → ⊥) →
       cond (ltb (f n) (s + 1)) 1 0 + tally n (λ (j : ℕ). ltb (f j) (s + 1)) ≡
@@ -73,7 +74,7 @@ tally_upto f s (suc n) = go (tally_upto f s n) (lt_or_le (f n) s) (eq_or_not (f 
   go h (inr l) (inr e) =
       ⊎_elim (λ m. absurd (e (omega arith)))
       (λ m. rw (le-ltb (f n) (s + 1) m, le-ltb (f n) s l, ne_eqb (f n) s e) (omega arith))
-      (lt_or_le (f n) (s + 1))
+      (cases_lt (f n) (s + 1))
 
 -- one more passes q than p
 pub tally_one : (p q : ℕ → Bool) (n : ℕ) {i : ℕ} → i < n → p i ≡ false → q i ≡ true → ((j : ℕ) → (j ≡ i → ⊥) → q j ≡ p j) → tally n p + 1 ≡ tally n q

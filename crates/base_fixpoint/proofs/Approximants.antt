@@ -6,7 +6,8 @@ use Prim.Native.Nat.{ℕ, zero, suc, ◌+◌, ◌<◌}
 use mathlib.Core.Path.{◌≡◌, refl, sym, ◌∙◌}
 use mathlib.Core.Bool.{Bool, true, ◌&&◌}
 use native.Mathlib.Omega.{arith}
-use Rattle.base_bounded.proofs.Bools.{and_yes, and_left, and_right, same_test}
+use Rattle.std.proofs.lemmas.Bool.{and_from, and_parts}
+use Rattle.base_bounded.proofs.Bools.{same_test}
 use Rattle.base_bounded.proofs.Chains.{Still, same_from}
 use Rattle.base_fixpoint.specs.Pairs.{Pairs, In, Subset}
 use Rattle.base_fixpoint.specs.Internal.Pairs.{AtMostPairs}
@@ -26,13 +27,13 @@ module _ (F : Operator) (b : Pairs) where
   -- what is left was there
   pub approximant_within : (k : ℕ) → Subset (In (approximant F b k)) (In b)
   approximant_within zero s t e = sym (approximant_none s t) ∙ e
-  approximant_within (suc k) s t e = and_left (b s t) (F (approximant F b k) s t) (sym (approximant_more k s t) ∙ e)
+  approximant_within (suc k) s t e = (and_parts (b s t) (F (approximant F b k) s t) (sym (approximant_more k s t) ∙ e)).0
 
   pub approximant_meets : (k : ℕ) → Subset (In (approximant F b (suc k))) (In (F (approximant F b k)))
-  approximant_meets k s t e = and_right (b s t) (F (approximant F b k) s t) (sym (approximant_more k s t) ∙ e)
+  approximant_meets k s t e = (and_parts (b s t) (F (approximant F b k) s t) (sym (approximant_more k s t) ∙ e)).1
 
   pub approximant_yes : (k s t : ℕ) → b s t ≡ true → F (approximant F b k) s t ≡ true → approximant F b (suc k) s t ≡ true
-  approximant_yes k s t h c = approximant_more k s t ∙ and_yes h c
+  approximant_yes k s t h c = approximant_more k s t ∙ and_from _ _ h c
 
   -- a set within b that F keeps is left after every number of rounds
   pub post_fixed_approximant : {U : ℕ → ℕ → Type 0} → Subset U (In b) → PostFixed F U → (k : ℕ) → Subset U (In (approximant F b k))
@@ -83,7 +84,7 @@ module _ (F : Operator) (b : Pairs) where
       -- each pair left meets the condition with any set that holds them all
       pub approximant_post_fixed : PostFixed F (In (approximant F b n))
       approximant_post_fixed v f s t e =
-          mono (approximant F b n) v f s t (and_right (b s t) (F (approximant F b n) s t) (sym (approximant_fixed s t) ∙ e))
+          mono (approximant F b n) v f s t (and_parts (b s t) (F (approximant F b n) s t) (sym (approximant_fixed s t) ∙ e)).1
 
       -- and what is left is the greatest set within b of which that can be said
       pub approximant_greatest : {U : ℕ → ℕ → Type 0} → Subset U (In b) → PostFixed F U → Subset U (In (approximant F b n))

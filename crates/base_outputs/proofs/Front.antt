@@ -6,9 +6,9 @@ use mathlib.Core.List.{List, [], ◌∷◌, ◌++◌, append_assoc, append-nil}
 use native.Mathlib.Numerals.{add-one}
 use native.Mathlib.Omega.{arith}
 use lib.ListN.{length, take, drop, set, get_or, length-append, take-append-drop}
-use lib.Seq.{length-take-le, take-suc, take_all, set_at, drop-cons, take_at, take-append_seam, drop-append-add, drop-drop, ext_get_or, get_or-append-add, get_or-drop, drop-length}
+use lib.Seq.{length-take-le, set_at, drop-cons, take_at, take-append_seam, drop-append-add, drop-drop, get_or-append-add, get_or-drop, drop-length}
 use Rattle.base_bounded.specs.Quantifiers.{tabulate}
-use Rattle.base_bounded.proofs.Quantifiers.{length_tabulate, get_d_tabulate}
+use Rattle.base_bounded.proofs.Quantifiers.{length_tabulate}
 use Rattle.base_outputs.specs.Output.{on_front}
 use Rattle.base_outputs.specs.Internal.Output.{over_at}
 
@@ -80,37 +80,3 @@ module _ (f : ℕ → ℕ) (old : List ℕ) where
 
   pub tabulate_done : {out : List ℕ} {i n : ℕ} → out ≡ on_front (tabulate i f) old → i ≤ n → n ≤ i → out ≡ on_front (tabulate n f) old
   tabulate_done {i = i} {n = n} e l m = let q : n ≡ i = omega arith in rw q e
-
--- a list is its own numbers, one after the other
-pub tabulate_self : (xs : List ℕ) → tabulate (length xs) (λ (i : ℕ). get_or xs i 0) ≡ xs
-tabulate_self xs =
-    ext_get_or 0 _ xs (length_tabulate (λ (i : ℕ). get_or xs i 0) (length xs))
-    (λ i l. get_d_tabulate (λ (j : ℕ). get_or xs j 0) (length xs) (rw (length_tabulate (λ (j : ℕ). get_or xs j 0) (length xs)) at l))
-
--- the elements of a list put at a place, one after the other
-module _ (at : ℕ) (old hs : List ℕ) where
-  pub bytes_none : old ≡ over_at at (take 0 hs) old
-  bytes_none = over_none at old
-
-  pub bytes_more : {out : List ℕ} {i : ℕ} → out ≡ over_at at (take i hs) old → i < length hs → at + length hs ≤ length old →
-      set out (at + i) (get_or hs i 0) ≡ over_at at (take (i + 1) hs) old
-  bytes_more {i = i} e l f =
-      rw (e, add-one, take-suc hs i 0 l) (ap (λ (n : ℕ). set (over_at at (take i hs) old) (at + n) (get_or hs i 0)) (sym sized) ∙ over_more at (take i hs) old (get_or hs i 0) (omega (arith, sized))) where
-        sized : length (take i hs) ≡ i
-        sized = length-take-le i hs (omega arith)
-
-  pub bytes_done : {out : List ℕ} {i : ℕ} → out ≡ over_at at (take i hs) old → i ≤ length hs → length hs ≤ i → out ≡ over_at at hs old
-  bytes_done {i = i} e l m = rw (take_all i hs m) at e
-
--- the elements of a list put at the front, one after the other
-module _ (old vs : List ℕ) where
-  pub numbers_more : {out : List ℕ} {i : ℕ} → out ≡ on_front (take i vs) old → i < length vs → length vs ≤ length old →
-      set out i (get_or vs i 0) ≡ on_front (take (i + 1) vs) old
-  numbers_more {i = i} e l f =
-      rw (e, add-one, take-suc vs i 0 l)
-      (ap (λ (n : ℕ). set (on_front (take i vs) old) n (get_or vs i 0)) (sym sized) ∙ front_more (take i vs) old (get_or vs i 0) (omega (arith, sized))) where
-        sized : length (take i vs) ≡ i
-        sized = length-take-le i vs (omega arith)
-
-  pub numbers_done : {out : List ℕ} {i : ℕ} → out ≡ on_front (take i vs) old → length vs ≤ i → out ≡ on_front vs old
-  numbers_done {i = i} e m = rw (take_all i vs m) at e

@@ -4,7 +4,7 @@
 use Rattle.std.specs.Prelude.{ℕ, cond, List, ◌++◌, length, drop, eqb}
 
 -- the list new at the front, and past it what was there
-abbrev pub on_front : List ℕ → List ℕ → List ℕ
+abbrev pub on_front : {A : Type 0} → List A → List A → List A
 on_front new old = new ++ drop (length new) old
 
 -- an entry's output, where n is the number that it answers: "A refusal leaves all lent elements

@@ -3,7 +3,7 @@
 // The entries that write marks, a map, hops, a file or text state it by the definitions of
 // specs/Output: the new elements at the front or at a place, the old ones around them, and after a
 // refusal all the old ones. The laws (proofs/Front) extend such an output element by element. Two
-// functions copy bytes and 16-bit numbers into an output.
+// functions copy elements into an output.
 // Uses `base_bounded` for lists of values below a bound.
 #![tactic(auto)]
 
@@ -11,26 +11,18 @@ ghost use Rattle.std.specs.Prelude.{◌≡◌, ◌+◌, ◌≤◌, length};
 ghost use Rattle.base_outputs.specs.Output.{on_front};
 ghost use Rattle.base_outputs.specs.Internal.Output.{over_at};
 
-// Bytes at a place of the output.
-pub fn put_bytes(out: &mut [u8], at: usize, bytes: &[u8])
-    requires { at + length bytes.now ≤ length out.old }
-    ensures { out.new ≡ over_at at bytes.now out.old }
+// The elements at a place of the output.
+pub fn put_at<T: Copy>(out: &mut [T], at: usize, items: &[T])
+    requires { at + length items.now ≤ length out.old }
+    ensures { out.new ≡ over_at at items.now out.old }
 {
-    let mut i: usize = 0;
-    while i < bytes.len() {
-        out[at + i] = bytes[i];
-        i += 1;
-    }
+    out[at..at + items.len()].copy_from_slice(items);
 }
 
-// Numbers at the front of the output.
-pub fn put_numbers(out: &mut [u16], numbers: &[u16])
-    requires { length numbers.now ≤ length out.old }
-    ensures { out.new ≡ on_front numbers.now out.old }
+// The elements at the front of the output.
+pub fn put_front<T: Copy>(out: &mut [T], items: &[T])
+    requires { length items.now ≤ length out.old }
+    ensures { out.new ≡ on_front items.now out.old }
 {
-    let mut i: usize = 0;
-    while i < numbers.len() {
-        out[i] = numbers[i];
-        i += 1;
-    }
+    out[..items.len()].copy_from_slice(items);
 }

@@ -1,7 +1,7 @@
 -- The numbers that an entry of the C ABI writes and returns: "answer: number, table, place, then
 -- the entry's figures; the return value is the number. An answer too short: 6, and nothing is
 -- written." This 6 comes last, as row 6 does. Assumes nothing: these are definitions.
-use Rattle.std.specs.Prelude.{ℕ, cond, List, [], ◌∷◌, ◌++◌, length, drop, eqb, leb}
+use Rattle.std.specs.Prelude.{ℕ, cond, List, ◌∷◌, ◌++◌, length, drop, eqb, leb}
 use Rattle.graph.specs.declared.Shape.{Shape}
 use Rattle.graph.specs.declared.Answer.{Answer}
 

@@ -23,10 +23,10 @@ fn put_audit(out: &mut [u64], audited: Audit) -> u32
 {
     let first = audited.first;
     let figures = [
-        audited.faults as u64,
-        first.kind as u64,
+        u64::from(audited.faults),
+        u64::from(first.kind),
         first.place as u64,
-        first.state as u64,
+        u64::from(first.state),
     ];
     put_answer(out, audited.answer, &figures)
 }
@@ -64,6 +64,6 @@ pub fn audit_into(
         labels: labels2,
         initial: initial2,
     };
-    let audited = audit(shape1, hops1, shape2, hops2, map);
+    let audited = Audit::from(audit(shape1, hops1, shape2, hops2, map));
     put_audit(answer, audited)
 }

@@ -14,9 +14,11 @@ ghost use Rattle.c_file.specs.Numbers.{contents_numbers, written_numbers};
 
 use c_answer::{put_answer, put_figure_answer, short_number};
 use file_read::Contents;
-use file_read::reading::{read, read_answer};
-use file_write::writing::{write, write_answer};
+use file_read::reading::{check_read, read};
+use file_write::Written;
+use file_write::writing::{check_write, write};
 use graph::Shape;
+use graph::answers::answer_of;
 
 // An answer, the graph's counts and initial state, and where its name block stands.
 fn put_contents(out: &mut [u64], contents: Contents) -> u32
@@ -25,9 +27,9 @@ fn put_contents(out: &mut [u64], contents: Contents) -> u32
 {
     let shape = contents.shape;
     let figures = [
-        shape.states as u64,
-        shape.labels as u64,
-        shape.initial as u64,
+        u64::from(shape.states),
+        u64::from(shape.labels),
+        u64::from(shape.initial),
         contents.hops as u64,
         contents.names_place as u64,
         contents.names_len as u64,
@@ -36,6 +38,7 @@ fn put_contents(out: &mut [u64], contents: Contents) -> u32
 }
 
 // Where the answer slice is too short, only the answer is found, and no hops are written.
+#[tactic(auto, using(c_answer::proofs::AnswerAfter::outputs, crate::proofs::Results::found_answer))]
 pub fn read_into(file: &[u8], hops: &mut [u16], answer: &mut [u64]) -> u32
     ensures returns { result ≡ returned (read_answer file.now (length hops.old)) 9 (length answer.old) }
     ensures hops { hops.new ≡
@@ -44,14 +47,15 @@ pub fn read_into(file: &[u8], hops: &mut [u16], answer: &mut [u64]) -> u32
         answer_after 9 (contents_numbers (read_of file.now (length hops.old))) answer.old }
 {
     if answer.len() < 9 {
-        let unwritten = read_answer(file, hops.len());
-        return short_number(unwritten, answer.len(), 9);
+        let checked = check_read(file, hops.len());
+        return short_number(answer_of(&checked), answer.len(), 9);
     }
-    let contents = read(file, hops);
+    let contents = Contents::from(read(file, hops));
     put_contents(answer, contents)
 }
 
 // Where the answer slice is too short, only the answer is found, and no bytes are written.
+#[tactic(auto, using(c_answer::proofs::AnswerAfter::outputs, crate::proofs::Results::written_answer))]
 pub fn write_into(
     states: u32,
     labels: u32,
@@ -82,9 +86,9 @@ pub fn write_into(
         initial,
     };
     if answer.len() < 4 {
-        let unwritten = write_answer(shape, hops, names, out.len());
-        return short_number(unwritten, answer.len(), 4);
+        let checked = check_write(shape, hops, names, out.len());
+        return short_number(answer_of(&checked), answer.len(), 4);
     }
-    let written = write(shape, hops, names, out);
+    let written = Written::from(write(shape, hops, names, out));
     put_figure_answer(answer, written.answer, written.length as u64)
 }

@@ -19,7 +19,7 @@ fn put_finding(out: &mut [u64], finding: Finding) -> u32
     ensures returns { result ≡ returned finding.answer 5 (length out.old) }
     ensures figures { out.new ≡ answer_after 5 (finding_numbers finding) out.old }
 {
-    let figures = [finding.found as u64, finding.place as u64];
+    let figures = [u64::from(finding.found), finding.place as u64];
     put_answer(out, finding.answer, &figures)
 }
 
@@ -42,6 +42,6 @@ pub fn find_into(
         labels,
         initial,
     };
-    let finding = find(shape, hops, from, label, to);
+    let finding = Finding::from(find(shape, hops, from, label, to));
     put_finding(answer, finding)
 }

@@ -1,7 +1,8 @@
 // The outgoing hops (transitions) of a state for the C ABI: start and length of a part of the hop
 // list that the caller has.
 // `capi` exports the function unchanged.
-// Uses `graph_hops_of` for where the part stands and `c_answer` for what is written and returned.
+// Uses `graph_hops_of` for where the part stands, `c_answer` for what is written and returned, and
+// `base_outputs` to write it.
 #![tactic(auto)]
 
 ghost use Rattle.std.specs.Prelude.{◌≡◌, length};
@@ -10,10 +11,11 @@ ghost use Rattle.graph_hops_of.specs.HopsOf.{chosen, span_of};
 ghost use Rattle.c_answer.specs.Numbers.{shape_of, returned, answer_after};
 ghost use Rattle.c_hops_of.specs.Numbers.{span_numbers};
 
-use c_answer::put_figures;
+use base_outputs::put_front;
 use graph::Shape;
 use graph_hops_of::span_of;
 
+#[tactic(auto, using(c_answer::proofs::Answers::returns_number, c_answer::proofs::AnswerAfter::outputs))]
 pub fn hops_of_into(
     side: u32,
     state: u32,
@@ -53,6 +55,6 @@ pub fn hops_of_into(
     }
     let span = span_of(side, state, shape1, hops1, shape2, hops2);
     let figures = [span.start as u64, span.length as u64];
-    put_figures(answer, 0, &figures);
+    put_front(answer, &figures);
     0
 }

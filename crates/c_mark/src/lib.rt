@@ -17,9 +17,11 @@ ghost use Rattle.c_mark.specs.Numbers.{round_numbers, counted_numbers};
 
 use c_answer::{put_figure_answer, put_plain_answer, short_number};
 use graph::Shape;
+use graph::answers::answer_of;
 use graph_check::check;
-use mark_entry::mark::{mark, mark_answer};
-use mark_entry_fast::mark_fast;
+use mark_entry::mark::{check_mark, mark};
+use mark_entry_fast::{Counted, mark_fast};
+use mark_entry_round::RoundAnswer;
 use mark_entry_round::question::round_question;
 
 pub fn check_into(states: u32, labels: u32, initial: u32, hops: &[u16], answer: &mut [u64]) -> u32
@@ -32,8 +34,8 @@ pub fn check_into(states: u32, labels: u32, initial: u32, hops: &[u16], answer: 
         labels,
         initial,
     };
-    let a = check(shape, hops);
-    put_plain_answer(answer, a)
+    let checked = check(shape, hops);
+    put_plain_answer(answer, answer_of(&checked))
 }
 
 // Where the answer slice is too short, only the answer is found, and nothing is marked.
@@ -62,11 +64,11 @@ pub fn mark_into(
         initial,
     };
     if answer.len() < 3 {
-        let unwritten = mark_answer(shape, hops, sense, marks);
-        return short_number(unwritten, answer.len(), 3);
+        let unwritten = check_mark(shape, hops, sense, marks);
+        return short_number(answer_of(&unwritten), answer.len(), 3);
     }
-    let a = mark(shape, hops, sense, marks);
-    put_plain_answer(answer, a)
+    let marked = mark(shape, hops, sense, marks);
+    put_plain_answer(answer, answer_of(&marked))
 }
 
 // The same in sense 1, with the number of tests.
@@ -94,10 +96,10 @@ pub fn mark_fast_into(
         initial,
     };
     if answer.len() < 4 {
-        let unwritten = mark_answer(shape, hops, 1, marks);
-        return short_number(unwritten, answer.len(), 4);
+        let unwritten = check_mark(shape, hops, 1, marks);
+        return short_number(answer_of(&unwritten), answer.len(), 4);
     }
-    let counted = mark_fast(shape, hops, marks);
+    let counted = Counted::from(mark_fast(shape, hops, marks));
     put_figure_answer(answer, counted.answer, counted.tests as u64)
 }
 
@@ -120,6 +122,6 @@ pub fn round_into(
         labels,
         initial,
     };
-    let question = round_question(shape, hops, place as usize, rounds);
-    put_figure_answer(answer, question.answer, question.survives as u64)
+    let question = RoundAnswer::from(round_question(shape, hops, place as usize, rounds));
+    put_figure_answer(answer, question.answer, u64::from(question.survives))
 }

@@ -12,8 +12,9 @@ ghost use Rattle.c_reduce.specs.Numbers.{reduction_numbers};
 
 use c_answer::{put_answer, short_number};
 use graph::Shape;
+use graph::answers::answer_of;
 use reduce_entry::Reduction;
-use reduce_entry::entry::{reduce, reduce_answer};
+use reduce_entry::entry::{check_reduce, reduce};
 
 // An answer, and the short graph's counts and initial state.
 fn put_reduction(out: &mut [u64], reduction: Reduction) -> u32
@@ -67,9 +68,9 @@ pub fn reduce_into(
         initial,
     };
     if answer.len() < 7 {
-        let unwritten = reduce_answer(shape, hops, sense, map.len(), short.len());
-        return short_number(unwritten, answer.len(), 7);
+        let checked = check_reduce(shape, hops, sense, map.len(), short.len());
+        return short_number(answer_of(&checked), answer.len(), 7);
     }
-    let reduction = reduce(shape, hops, sense, map, short);
-    put_reduction(answer, reduction)
+    let outcome = reduce(shape, hops, sense, map, short);
+    put_reduction(answer, Reduction::from(outcome))
 }

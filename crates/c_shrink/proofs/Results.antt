@@ -9,7 +9,7 @@ use Rattle.shrink_entry.specs.declared.Shrinking.{Shrinking}
 use Rattle.shrink_entry.specs.Shrink.{shrink_of}
 use Rattle.c_answer.proofs.Answers.{either_answer}
 
-pub shrunk_answer : (sh : Shape) (hs : List ℕ) (k map-capacity short_capacity : ℕ) →
-    (shrink_of sh hs k map-capacity short_capacity).answer ≡ reduce_answer sh hs k map-capacity short_capacity
+pub shrunk_answer : (sh : Shape) (hs : List ℕ) (k map_capacity short_capacity : ℕ) →
+    (shrink_of sh hs k map_capacity short_capacity).answer ≡ reduce_answer sh hs k map_capacity short_capacity
 unfolding shrink_of
 shrunk_answer sh hs k m s = either_answer (λ (r : Shrinking). r.answer) (eqb (reduce_answer sh hs k m s).number 0) _ _ (λ _. refl) refl

@@ -14,7 +14,8 @@ ghost use Rattle.c_shrink.specs.Numbers.{shrinking_numbers};
 
 use c_answer::{put_answer, short_number};
 use graph::Shape;
-use reduce_entry::entry::reduce_answer;
+use graph::answers::answer_of;
+use reduce_entry::entry::check_reduce;
 use shrink_entry::{Shrinking, shrink};
 
 // An answer, the last graph's counts and initial state, and the number of reductions.
@@ -70,9 +71,9 @@ pub fn shrink_into(
         initial,
     };
     if answer.len() < 8 {
-        let unwritten = reduce_answer(shape, hops, sense, map.len(), short.len());
-        return short_number(unwritten, answer.len(), 8);
+        let checked = check_reduce(shape, hops, sense, map.len(), short.len());
+        return short_number(answer_of(&checked), answer.len(), 8);
     }
-    let shrinking = shrink(shape, hops, sense, map, short);
-    put_shrinking(answer, shrinking)
+    let outcome = shrink(shape, hops, sense, map, short);
+    put_shrinking(answer, Shrinking::from(outcome))
 }

@@ -1,14 +1,14 @@
 -- Laws of the parts of a written file. Assumes nothing.
 use Prim.Native.Nat.{ℕ, ◌+◌, ◌<◌, ◌≤◌}
 use mathlib.Core.Path.{◌≡◌, refl, sym, ap, ◌∙◌}
-use mathlib.Core.Bool.{Bool, true, false, cond, not}
+use mathlib.Core.Bool.{true, false}
 use mathlib.Core.List.{List, [], ◌∷◌, ◌++◌, append_assoc}
 use mathlib.Core.Logic.{⊎_elim}
 use native.Mathlib.Omega.{arith}
 use borrow.Author.Tests.{eq-eqb, ne_eqb, lt-ltb, le-ltb}
 use lib.ListN.{length, set, length-append}
 use lib.Seq.{set_split}
-use lib.Dec.{eqb, ltb}
+use lib.Dec.{ltb}
 use Rattle.graph.specs.Hops.{count}
 use Rattle.graph.specs.declared.Shape.{Shape}
 use Rattle.base_bounded.proofs.Bools.{decided, eq_or_not}
@@ -22,7 +22,7 @@ use Rattle.file_hops.specs.Field.{field_length, field_bytes}
 use Rattle.file_hops.proofs.Field.{length_field}
 use Rattle.file_fields.specs.Format.{states_place, labels_place, initial_place}
 use Rattle.file_encode.specs.Encode.{initial_bytes, hops_bytes, lines_bytes, head_bytes, bits_of, encode}
-use Rattle.base_outputs.proofs.Front.{over_none, front_then, front_next}
+use Rattle.base_outputs.proofs.Front.{front_then, front_next}
 
 module _ (sh : Shape) where
   pub initial_none : sh.initial ≡ 0 → initial_bytes sh ≡ []
@@ -76,27 +76,7 @@ module _ (hs : List ℕ) where
       ⊎_elim (λ t. lt-ltb k (k + length (lines_bytes hs)) (omega (arith, length_lines_some t, some_hop t)) ∙ sym t)
       (λ f. le-ltb k (k + length (lines_bytes hs)) (omega (arith, ap length (lines_none f))) ∙ sym f) (decided (any_line hs))
 
--- the parts of a file as they are put into an output
-module _ (at : ℕ) (old : List ℕ) where
-  pub initial_put_none : (sh : Shape) → sh.initial ≡ 0 → old ≡ over_at at (initial_bytes sh) old
-  initial_put_none sh e = rw (initial_none sh e) (over_none at old)
-
-  pub initial_put : (sh : Shape) {out : List ℕ} → (sh.initial ≡ 0 → ⊥) → out ≡ over_at at (number sh.initial) old → out ≡ over_at at (initial_bytes sh) old
-  initial_put sh n e = rw (initial_some sh n) e
-
-  module _ (hs : List ℕ) where
-    pub hops_put_none : {n : ℕ} → n ≡ count hs → n ≡ 0 → old ≡ over_at at (hops_bytes hs) old
-    hops_put_none e z = rw (hops_none hs (sym e ∙ z)) (over_none at old)
-
-    pub hops_put : {n : ℕ} {out : List ℕ} → n ≡ count hs → (n ≡ 0 → ⊥) → out ≡ over_at at (field_bytes hs) old → out ≡ over_at at (hops_bytes hs) old
-    hops_put e z d = rw (hops_some hs (λ y. z (e ∙ y))) d
-
-    pub lines_put_none : {t : Bool} → t ≡ any_line hs → t ≡ false → old ≡ over_at at (lines_bytes hs) old
-    lines_put_none e z = rw (lines_none hs (sym e ∙ z)) (over_none at old)
-
-    pub lines_put : {t : Bool} {out : List ℕ} → t ≡ any_line hs → t ≡ true → out ≡ over_at at (line_list hs) old → out ≡ over_at at (lines_bytes hs) old
-    lines_put e z d = rw (lines_some hs (sym e ∙ z)) d
-
+-- the first five bytes as they are put into an output
 pub head_put : (sh : Shape) (bits : ℕ) (old : List ℕ) {one two three : List ℕ} → initial_place ≤ length old → one ≡ set old 0 bits → two ≡ over_at states_place (number sh.states) one →
     three ≡ over_at labels_place (number sh.labels) two → three ≡ on_front (head_bytes sh bits) old
 unfolding head_bytes
@@ -106,16 +86,7 @@ head_put sh bits old l p q r =
       first : set old 0 bits ≡ on_front (bits ∷ []) old
       first = set_split old 0 bits (omega arith)
 
-turned : (t : Bool) → ◌≡◌ {A = ℕ} (cond (not t) 0 8) (cond t 8 0)
-turned true = refl
-turned false = refl
-
 module _ (sh : Shape) (hs ns : List ℕ) where
-  pub bits_sum : {n i h m l : ℕ} {t : Bool} → n ≡ count hs → i ≡ cond (eqb sh.initial 0) 0 1 → h ≡ cond (eqb n 0) 0 2 → m ≡ cond (eqb (length ns) 0) 0 4 →
-      l ≡ cond (not t) 0 8 → t ≡ any_line hs → i + h + m + l ≡ bits_of sh hs ns
-  unfolding bits_of
-  bits_sum {t = t} e p q r s d = rw (p, q, r, s, turned t, e, d)
-
   pub length_head : length (head_bytes sh (bits_of sh hs ns)) ≡ initial_place
   unfolding head_bytes
   length_head = refl

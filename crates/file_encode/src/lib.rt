@@ -3,7 +3,8 @@
 // A bit is set, and a field written, only over what absence does not mean. `file_write` calls it
 // once the graph and its names have passed every check.
 // Uses `file_numbers` for numbers, `file_hops` and `file_lines` for the hop field and the lines,
-// and `file_fields` for the places of the fields.
+// and `file_fields` for the places and the bits of the fields.
+// What `as u16` narrows here is a count or a state, and the check proves that it fits.
 #![tactic(auto)]
 
 ghost use Rattle.std.specs.Prelude.{◌≡◌, ◌+◌, ◌≤◌, cond, length};
@@ -13,12 +14,12 @@ ghost use Rattle.base_outputs.specs.Output.{on_front};
 ghost use Rattle.base_outputs.specs.Internal.Output.{over_at};
 ghost use Rattle.file_numbers.specs.Internal.Numbers.{most_number};
 ghost use Rattle.file_fields.specs.Format.{initial_place};
+ghost use Rattle.file_fields.specs.Internal.Field.{bit_of};
 ghost use Rattle.file_lines.specs.LineField.{any_line};
 ghost use Rattle.file_encode.specs.Encode.{bits_of, initial_bytes, hops_bytes, lines_bytes, head_bytes, encode};
 ghost use Rattle.file_encode.specs.Internal.Encode.{Writable};
 
-use base_outputs::put_bytes;
-use file_fields::{INITIAL_PLACE, LABELS_PLACE, STATES_PLACE};
+use file_fields::{Field, INITIAL_PLACE, LABELS_PLACE, STATES_PLACE};
 use file_hops::hops::{field_length, put_field};
 use file_lines::{has_line, lines_length, put_lines};
 use file_numbers::put_number;
@@ -26,60 +27,57 @@ use graph::Shape;
 use graph::hops::hop_count;
 
 // How many bytes the initial state takes.
+#[tactic(auto, unfolding(crate::specs::Encode::initial_bytes))]
 fn initial_length(shape: Shape) -> usize
     ensures { result ≡ length (initial_bytes shape) }
 {
-    if shape.initial == 0 {
-        return 0;
-    }
-    2
+    if shape.initial == 0 { 0 } else { 2 }
 }
 
 // How many bytes the hops take.
+#[tactic(auto, using(crate::proofs::Encoded::length_hops_some), unfolding(crate::specs::Encode::hops_bytes))]
 fn hops_length(hops: &[u16]) -> usize
     requires { count hops.now ≤ most_hops }
     ensures { result ≡ length (hops_bytes hops.now) }
 {
-    let n = hop_count(hops);
-    if n == 0 {
-        return 0;
+    match hop_count(hops) {
+        0 => 0,
+        n => field_length(n as u16),
     }
-    field_length(n as u16)
 }
 
 // How many bytes the lines take.
+#[tactic(auto, using(crate::proofs::Encoded::length_lines_some), unfolding(crate::specs::Encode::lines_bytes))]
 fn lines_bytes(hops: &[u16]) -> usize
     requires { count hops.now ≤ most_hops }
     ensures { result ≡ length (lines_bytes hops.now) }
 {
     if has_line(hops) {
-        return lines_length(hop_count(hops) as u16);
+        lines_length(hop_count(hops) as u16)
+    } else {
+        0
     }
-    0
 }
 
-// A bit over a field that is there.
-fn bit_of(absent: bool, value: u8) -> u8
-    ensures { (result ≡ cond absent 0 value) × (result ≤ value) }
+// The bit of a field, where it is there.
+fn bit_of(field: Field, there: bool) -> u8
+    ensures { result ≡ cond there (bit_of field) 0 }
 {
-    if absent {
-        return 0;
-    }
-    value
+    if there { field.bit() } else { 0 }
 }
 
+#[tactic(auto, unfolding(crate::specs::Encode::bits_of))]
 fn bits_of(shape: Shape, hops: &[u16], names: &[u8], lined: bool) -> u8
     requires { lined ≡ any_line hops.now }
     ensures { result ≡ bits_of shape hops.now names.now }
 {
-    let count = hop_count(hops);
-    let initial_bit = bit_of(shape.initial == 0, 1);
-    let hops_bit = bit_of(count == 0, 2);
-    let names_bit = bit_of(names.len() == 0, 4);
-    let lines_bit = bit_of(!lined, 8);
-    initial_bit + hops_bit + names_bit + lines_bit
+    bit_of(Field::Initial, shape.initial != 0)
+        + bit_of(Field::Hops, hop_count(hops) != 0)
+        + bit_of(Field::Names, !names.is_empty())
+        + bit_of(Field::Lines, lined)
 }
 
+#[tactic(auto, using(base_outputs::proofs::Front::over_none), unfolding(crate::specs::Encode::initial_bytes))]
 fn put_initial(out: &mut [u8], at: usize, shape: Shape)
     requires fits { shape.initial ≤ most_number }
     requires capacity { at + length (initial_bytes shape) ≤ length out.old }
@@ -90,6 +88,7 @@ fn put_initial(out: &mut [u8], at: usize, shape: Shape)
     }
 }
 
+#[tactic(auto, using(crate::proofs::Encoded::length_hops_some, base_outputs::proofs::Front::over_none), unfolding(crate::specs::Encode::hops_bytes))]
 fn put_hops(out: &mut [u8], at: usize, hops: &[u16])
     requires few { count hops.now ≤ most_hops }
     requires capacity { at + length (hops_bytes hops.now) ≤ length out.old }
@@ -100,6 +99,7 @@ fn put_hops(out: &mut [u8], at: usize, hops: &[u16])
     }
 }
 
+#[tactic(auto, using(crate::proofs::Encoded::length_lines_some, base_outputs::proofs::Front::over_none), unfolding(crate::specs::Encode::lines_bytes))]
 fn put_lines_of(out: &mut [u8], at: usize, hops: &[u16], lined: bool)
     requires lined { lined ≡ any_line hops.now }
     requires capacity { at + length (lines_bytes hops.now) ≤ length out.old }
@@ -107,6 +107,17 @@ fn put_lines_of(out: &mut [u8], at: usize, hops: &[u16], lined: bool)
 {
     if lined {
         put_lines(out, at, hops);
+    }
+}
+
+// The names, byte by byte: as one copy they would need `memmove`, which the archive for C does not
+// ask for.
+fn put_names(out: &mut [u8], at: usize, names: &[u8])
+    requires { at + length names.now ≤ length out.old }
+    ensures { out.new ≡ over_at at names.now out.old }
+{
+    for i in 0..names.len() {
+        out[at + i] = names[i];
     }
 }
 
@@ -133,6 +144,7 @@ pub fn encoded_length(shape: Shape, hops: &[u16], names: &[u8]) -> usize
 
 // The whole file, to the front of the output. Its length says whether there are lines, so that they
 // are not searched for again.
+#[tactic(auto, using(crate::proofs::Encoded::length_encode))]
 pub fn put_file(shape: Shape, hops: &[u16], names: &[u8], size: usize, out: &mut [u8])
     requires writable { Writable shape hops.now names.now (length out.old) }
     requires size { size ≡ length (encode shape hops.now names.now) }
@@ -146,6 +158,6 @@ pub fn put_file(shape: Shape, hops: &[u16], names: &[u8], size: usize, out: &mut
     put_head(shape, bits, out);
     put_initial(out, INITIAL_PLACE, shape);
     put_hops(out, hops_at, hops);
-    put_bytes(out, names_at, names);
+    put_names(out, names_at, names);
     put_lines_of(out, lines_at, hops, lined);
 }

@@ -11,7 +11,9 @@ use Rattle.file_numbers.specs.Internal.Numbers.{most_number}
 use Rattle.file_numbers.specs.Numbers.{number_at, Bytes}
 use Rattle.file_lines.specs.LineField.{lines_length}
 use Rattle.file_lines.specs.Internal.LineField.{LinesLie}
-use Rattle.file_lines.specs.declared.Lines.{Lines}
+use Rattle.std.specs.Prelude.{Option}
+use mathlib.Core.Logic.{⊎_elim}
+use Rattle.base_bounded.proofs.Bools.{decided}
 use Rattle.file_hops.specs.Field.{field_length}
 use Rattle.file_hops.proofs.Field.{length_in_field, count_in_field}
 use Rattle.graph.specs.Hops.{number_place, count}
@@ -83,9 +85,9 @@ module _ (b : List ℕ) where
     go false = omega arith
 
   -- where there is a list of lines, it lies before the file's end
-  pub lines_lie : needed_length b ≡ length b → {ls : Lines} {n : ℕ} → ls ≡ lines_in b → n ≡ hops_in b → LinesLie b ls n
+  pub lines_lie : needed_length b ≡ length b → {ls : Option ℕ} {n : ℕ} → ls ≡ lines_in b → n ≡ hops_in b → LinesLie b ls n
   unfolding needed_length lines_in
-  lines_lie l {ls} {n} e d = rw (e, d) (λ t. omega (arith, lines_on t))
+  lines_lie l {ls} {n} e d = rw (e, d) (⊎_elim (λ t. rw t (omega (arith, lines_on t))) (λ f. rw f tt) (decided (has_lines b)))
 
   -- the hop list is as long as the hop count says
   pub length_hop_list : length (hop_list_in b) ≡ number_place (hops_in b)
@@ -107,15 +109,6 @@ module _ (b : List ℕ) where
   pub hops_before_names : hops_place b ≤ names_place b
   unfolding names_place
   hops_before_names = omega arith
-
-  module _ {p : ℕ} (e : p ≡ hops_place b) {f : Bool} (d : f ≡ has_hops b) where
-    pub place_with_hops : f ≡ true → {n : ℕ} → n ≡ hops_in b → {l : ℕ} → l ≡ field_length n → p + l ≡ names_place b
-    unfolding names_place
-    place_with_hops t h k = rw (← d, t, ← e, ← h, ← k)
-
-    pub place_without : f ≡ false → p ≡ names_place b
-    unfolding names_place
-    place_without t = rw (← d, t, ← e) (omega arith)
 
 -- the part of the file that the code lends
 pub rest_part : (b : List ℕ) {p : ℕ} → p ≡ names_place b → take (length b - p) (drop p b) ≡ rest_of b

@@ -1,11 +1,10 @@
 -- The file of documents 01 and 02, as it is read (decoded): "All numbers are 16-bit, low byte
 -- first". Where a field ends is said as if the file went on, a missing byte reading 0; row 11 is
 -- that the file is shorter than this. Assumes nothing: these are definitions.
-use Rattle.std.specs.Prelude.{ℕ, ◌+◌, ◌-◌, ◌/◌, ◌%◌, Bool, cond, ◌&&◌, ◌||◌, List, get_or, take, drop, eqb, leb}
+use Rattle.std.specs.Prelude.{ℕ, ◌+◌, ◌-◌, ◌/◌, ◌%◌, Bool, cond, ◌&&◌, ◌||◌, List, Option, Some, None, get_or, take, drop, eqb, leb}
 use Rattle.graph.specs.declared.Shape.{Shape}
 use Rattle.file_numbers.specs.Numbers.{number_at}
 use Rattle.file_lines.specs.LineField.{lines_length, zero_lines}
-use Rattle.file_lines.specs.declared.Lines.{Lines}
 use Rattle.file_hops.specs.Field.{field_length, hops_in_field}
 use Rattle.file_names.specs.Block.{name_at}
 
@@ -71,8 +70,9 @@ lines_place b = names_place b + name_at (rest_of b) (names_in b)
 unfoldable pub line_bytes_in : List ℕ → ℕ
 line_bytes_in b = cond (has_lines b) (lines_length (hops_in b)) 0
 
-unfoldable pub lines_in : List ℕ → Lines
-lines_in b = record { stand = has_lines b; at = lines_place b }
+-- where the lines begin, and none where there are none
+unfoldable pub lines_in : List ℕ → Option ℕ
+lines_in b = cond (has_lines b) (Some (lines_place b)) None
 
 -- the length that the file's own numbers ask
 unfoldable pub needed_length : List ℕ → ℕ

@@ -2,14 +2,14 @@
 -- ask, no bit stands over what absence means, and no name is bad. Assumes nothing.
 use Prim.Native.Nat.{ℕ, ◌<◌, ◌≤◌}
 use mathlib.Core.Path.{◌≡◌, refl}
-use mathlib.Core.Bool.{Bool, true, false, cond, ◌&&◌, ◌||◌}
+use mathlib.Core.Bool.{Bool, true, false, cond, ◌&&◌}
 use mathlib.Core.List.{List}
 use native.Mathlib.Omega.{arith}
 use borrow.Author.Tests.{ltb-false, leb-false, eqb-false}
 use lib.ListN.{length}
 use lib.Dec.{eqb, leb, ltb}
 use Rattle.graph.specs.declared.Answer.{Answer}
-use Rattle.base_bounded.proofs.Bools.{clash}
+use Rattle.std.proofs.lemmas.Bool.{or_parts}
 use Rattle.file_names.specs.Block.{first_bad}
 use Rattle.file_lines.specs.LineField.{zero_lines}
 use Rattle.file_fields.specs.Format.{bit_map, has_initial, has_hops, has_names, has_lines, labels_in, initial_in, hops_in, names_place, names_in, rest_of, lines_place, needed_length, redundant_bit}
@@ -52,30 +52,24 @@ module _ (b : List ℕ) where
 
   -- each bit stands over something
   module _ (s : redundant_bit b ≡ false) where
-    apart : (x y z w : Bool) → (x || (y || (z || w))) ≡ false → (x ≡ false) × (y ≡ false) × (z ≡ false) × (w ≡ false)
-    apart true y z w e = clash refl e
-    apart false true z w e = clash refl e
-    apart false false true w e = clash refl e
-    apart false false false w e = (refl, refl, refl, e)
-
-    left_on : {x y : Bool} → x ≡ true → (x && y) ≡ false → y ≡ false
-    left_on {x = true} d e = e
-    left_on {x = false} d e = clash d refl
-
     bits :
         ((has_initial b && eqb (initial_in b) 0) ≡ false) × ((has_hops b && eqb (hops_in b) 0) ≡ false) × ((has_names b && leb (labels_in b) 1) ≡ false) ×
         ((has_lines b && zero_lines b (lines_place b) (hops_in b)) ≡ false)
     unfolding redundant_bit
-    bits = apart (has_initial b && eqb (initial_in b) 0) (has_hops b && eqb (hops_in b) 0) (has_names b && leb (labels_in b) 1) (has_lines b && zero_lines b (lines_place b) (hops_in b)) s
+    bits =
+        let (initial, others) = or_parts _ _ s in
+        let (hops, last) = or_parts _ _ others in
+        let (names, lines) = or_parts _ _ last in
+        (initial, hops, names, lines)
 
     pub initial_there : has_initial b ≡ true → initial_in b ≡ 0 → ⊥
-    initial_there h = eqb-false _ _ (left_on h bits.0)
+    initial_there h = eqb-false _ _ (rw h at bits.0)
 
     pub hops_there : has_hops b ≡ true → hops_in b ≡ 0 → ⊥
-    hops_there h = eqb-false _ _ (left_on h bits.1)
+    hops_there h = eqb-false _ _ (rw h at bits.1)
 
     pub names_there : has_names b ≡ true → 1 < labels_in b
-    names_there h = leb-false _ _ (left_on h bits.2)
+    names_there h = leb-false _ _ (rw h at bits.2)
 
     pub lines_there : has_lines b ≡ true → zero_lines b (lines_place b) (hops_in b) ≡ false
-    lines_there h = left_on h bits.3
+    lines_there h = rw h at bits.3

@@ -5,17 +5,17 @@
 // Uses `file_fields` for the layout and `file_names` for the search for a bad name.
 #![tactic(auto)]
 
-ghost use Rattle.std.specs.Prelude.{◌≡◌};
+ghost use Rattle.std.specs.Prelude.{◌≡◌, IfOk};
+ghost use Rattle.graph.specs.Answers.{answer_of};
 ghost use Rattle.file_format.specs.Internal.Rows.{RestAt};
 ghost use Rattle.file_format.specs.Rows.{format_answer};
 
-use file_fields::{INITIAL_PLACE, line_bytes_in, names_in, names_place, redundant_bit};
+use file_fields::{ExactFile, INITIAL_PLACE, line_bytes_in, names_in, names_place};
 use file_hops::hops::MOST_FIELD_BYTES;
 use file_lines::MOST_LINE_BYTES;
 use file_names::{LEAST_NAME_BYTES, MOST_NAME_BYTES, MOST_PLACE, end_of, first_bad};
 use file_numbers::byte_at;
-use graph::answers::{accept, refuse};
-use graph::{Answer, MOST_LABELS};
+use graph::{MOST_LABELS, Refusal};
 
 // The longest legal file, 66,536 bytes: the head with an initial state, 4,096 hops, 1,023 names of
 // 32 bytes, and 4,096 lines.
@@ -30,43 +30,47 @@ const MOST_BYTES: usize = INITIAL_PLACE
 const PLACES: usize = (MOST_PLACE + 1) / LEAST_NAME_BYTES;
 
 // From row 11 on, where the rest of the file begins at `place`.
-fn rest_answer(file: &[u8], rest: &[u8], place: usize) -> Answer
+fn check_rest<'a>(file: &'a [u8], rest: &[u8], place: usize) -> Result<ExactFile<'a>, Refusal>
     requires { RestAt file.now rest.now place }
-    ensures { result ≡ format_answer file.now }
+    ensures answers { answer_of result ≡ format_answer file.now }
+    ensures same { IfOk result (λ exact. exact.bytes.now ≡ file.now) }
 {
-    let n = names_in(file) as usize;
+    let n = usize::from(names_in(file));
     let names_end = end_of(rest, n);
     let end = names_end + line_bytes_in(file);
     if rest.len() < end {
-        return refuse(11, file.len());
+        return Err(Refusal::FileTooShort(file.len()));
     }
     if end < rest.len() {
-        return refuse(13, place + end);
+        return Err(Refusal::FileTooLong(place + end));
     }
-    if redundant_bit(file) {
-        return refuse(12, 0);
+    let exact = ExactFile { bytes: file };
+    if exact.redundant_bit() {
+        return Err(Refusal::FileBits);
     }
     let mut places = [0u16; PLACES];
     let bad = first_bad(rest, n, &mut places);
     if bad < names_end {
-        return refuse(14, place + bad);
+        return Err(Refusal::BadName(place + bad));
     }
-    accept()
+    Ok(exact)
 }
 
-// Over-length, high bits, 11, left over, the rest of 12, 14.
-pub fn format_answer(file: &[u8]) -> Answer
-    ensures { result ≡ format_answer file.now }
+// Over-length, high bits, 11, left over, the rest of 12, 14. A file that passes has the length that
+// its own numbers ask, and is returned as such.
+pub fn check_format(file: &[u8]) -> Result<ExactFile<'_>, Refusal>
+    ensures answers { answer_of result ≡ format_answer file.now }
+    ensures same { IfOk result (λ exact. exact.bytes.now ≡ file.now) }
 {
     if MOST_BYTES < file.len() {
-        return refuse(13, MOST_BYTES);
+        return Err(Refusal::FileTooLong(MOST_BYTES));
     }
     if 16 <= byte_at(file, 0) {
-        return refuse(12, 0);
+        return Err(Refusal::FileBits);
     }
     let place = names_place(file);
     if file.len() < place {
-        return refuse(11, file.len());
+        return Err(Refusal::FileTooShort(file.len()));
     }
-    rest_answer(file, &file[place..], place)
+    check_rest(file, &file[place..], place)
 }

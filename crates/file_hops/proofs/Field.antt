@@ -2,7 +2,7 @@
 -- list, and that a field that was read is written with the same bytes. Assumes nothing.
 use Prim.Native.Nat.{ℕ, suc, ◌+◌, ◌*◌, ◌%◌, ◌<◌, ◌≤◌}
 use mathlib.Core.Path.{◌≡◌, refl, sym, ap, ◌∙◌}
-use mathlib.Core.Bool.{true, false}
+use mathlib.Core.Bool.{false}
 use mathlib.Core.List.{List, ◌++◌}
 use native.Mathlib.Omega.{arith}
 use lib.ListN.{length, drop}
@@ -13,7 +13,7 @@ use Rattle.base_outputs.specs.Internal.Output.{over_at}
 use Rattle.base_outputs.proofs.Front.{over_then}
 use Rattle.file_numbers.specs.Numbers.{number_at, number, Bytes}
 use Rattle.file_lines.specs.LineField.{line_in, any_line}
-use Rattle.file_lines.specs.declared.Lines.{Lines}
+use Rattle.std.specs.Prelude.{Option, Some, None}
 use Rattle.file_hops.specs.Field.{bytes_a_hop, field_length, hop_place, hop_from, hop_in, hops_in_field, hop_bytes, each_hop, field_bytes}
 use Rattle.file_numbers.proofs.TwoBytes.{number_whole, number_drop, number_again}
 use Rattle.file_numbers.proofs.Parts.{concat_again, length_concat, concat_at, concat_none, concat_more, concat_done}
@@ -22,7 +22,7 @@ use Rattle.file_hops.proofs.Lists.{length_flat_by, count_flat_by, flat_by_at, fl
 use Rattle.base_outputs.specs.Concat.{concat}
 
 -- the hops of a field, and their lines
-module _ (b : List ℕ) (at : ℕ) (ls : Lines) (n : ℕ) where
+module _ (b : List ℕ) (at : ℕ) (ls : Option ℕ) (n : ℕ) where
   pub length_in_field : length (hops_in_field b at ls n) ≡ number_place n
   unfolding hops_in_field
   length_in_field = length_flat_by (hop_in b at ls) n
@@ -35,12 +35,12 @@ module _ (b : List ℕ) (at : ℕ) (ls : Lines) (n : ℕ) where
   unfolding hops_in_field
   hop_in_field l = flat_by_at (hop_in b at ls) n (omega (arith, count_in_field))
 
-  pub lines_in_field : ls.stand ≡ true → LinesStand b ls.at (hops_in_field b at ls n)
+  pub lines_in_field : (place : ℕ) → ls ≡ Some place → LinesStand b place (hops_in_field b at ls n)
   unfolding line_in hop_from
-  lines_in_field e i l = sym (ap (λ (h : Hop). h.line) (hop_in_field l) ∙ rw e)
+  lines_in_field place e i l = sym (ap (λ (h : Hop). h.line) (hop_in_field l) ∙ rw e)
 
   -- without a list of lines no hop has one
-  pub no_lines_in_field : ls.stand ≡ false → any_line (hops_in_field b at ls n) ≡ false
+  pub no_lines_in_field : ls ≡ None → any_line (hops_in_field b at ls n) ≡ false
   unfolding line_in hop_from
   no_lines_in_field e = none_lined (hops_in_field b at ls n) (λ i l. ap (λ (h : Hop). h.line) (hop_in_field l) ∙ rw e)
 
@@ -110,7 +110,7 @@ module _ (b hs rest : List ℕ) (at : ℕ) (e : drop at b ≡ field_bytes hs ++ 
   unfolding field_bytes
   hops_from = sym (drop-drop 2 at b) ∙ rw e
 
-  module _ (ls : Lines) (lines : (i : ℕ) → i < count hs → line_in b ls i ≡ line_at hs i) where
+  module _ (ls : Option ℕ) (lines : (i : ℕ) → i < count hs → line_in b ls i ≡ line_at hs i) where
     hop_back : (i : ℕ) → i < count hs → hop_in b at ls i ≡ hop_at hs i
     hop_back i l =
         let (t, d) = concat_at (hop_bytes_at hs) bytes_a_hop (wide hs) (count hs) rest l in
@@ -135,7 +135,7 @@ module _ (b : List ℕ) (small : Bytes b) where
         six : p + 4 + 2 ≡ p + bytes_a_hop
         six = omega arith
 
-  pub field_again : (at : ℕ) (ls : Lines) {n : ℕ} → n ≡ number_at b at → at + field_length n ≤ length b → drop at b ≡ field_bytes (hops_in_field b at ls n) ++ drop (at + field_length n) b
+  pub field_again : (at : ℕ) (ls : Option ℕ) {n : ℕ} → n ≡ number_at b at → at + field_length n ≤ length b → drop at b ≡ field_bytes (hops_in_field b at ls n) ++ drop (at + field_length n) b
   unfolding field_bytes
   field_again at ls {n} e l =
       number_again b small at (omega arith) ∙ ap (λ (k : ℕ). number k ++ drop (at + 2) b) (sym e ∙ sym counted) ∙

@@ -8,7 +8,7 @@ ghost use Rattle.file_lines.specs.Internal.LineField.{LinesLie};
 ghost use Rattle.file_hops.specs.Field.{bytes_a_hop, hop_place, field_length, hop_in, hops_in_field, hop_bytes, each_hop, field_bytes};
 ghost use Rattle.file_hops.specs.Internal.Field.{HopsLie};
 
-use file_lines::{Lines, line_in};
+use file_lines::line_in;
 use file_numbers::{number_in, put_number};
 use graph::hops::{hop_at, hop_count, lined_hop, put_hop};
 use graph::{Hop, MOST_HOPS};
@@ -26,11 +26,11 @@ pub const MOST_FIELD_BYTES: usize = COUNT_BYTES + BYTES_A_HOP * MOST_HOPS;
 pub fn field_length(n: u16) -> usize
     ensures { result ≡ field_length n }
 {
-    COUNT_BYTES + BYTES_A_HOP * (n as usize)
+    COUNT_BYTES + BYTES_A_HOP * usize::from(n)
 }
 
 // The hop at place i of the field that begins at `at`, with its line.
-fn hop_in(file: &[u8], at: usize, lines: Lines, i: usize) -> Hop
+fn hop_in(file: &[u8], at: usize, lines: Option<usize>, i: usize) -> Hop
     requires lies { hop_place at (i + 1) ≤ length file.now }
     requires lined { LinesLie file.now lines (i + 1) }
     ensures { result ≡ hop_in file.now at lines i }
@@ -43,16 +43,14 @@ fn hop_in(file: &[u8], at: usize, lines: Lines, i: usize) -> Hop
 }
 
 // The first n hops of the field with their lines, to the front of a hop list.
-pub fn take_hops(file: &[u8], at: usize, lines: Lines, n: usize, hops: &mut [u16])
+pub fn take_hops(file: &[u8], at: usize, lines: Option<usize>, n: usize, hops: &mut [u16])
     requires lie { HopsLie file.now at n }
     requires lined { LinesLie file.now lines n }
     requires capacity { n ≤ count hops.old }
     ensures { hops.new ≡ on_front (hops_in_field file.now at lines n) hops.old }
 {
-    let mut i: usize = 0;
-    while i < n {
+    for i in 0..n {
         put_hop(hops, i, hop_in(file, at, lines, i));
-        i += 1;
     }
 }
 
@@ -71,11 +69,8 @@ fn put_each_hop(out: &mut [u8], at: usize, hops: &[u16])
     requires { at + bytes_a_hop * count hops.now ≤ length out.old }
     ensures { out.new ≡ over_at at (each_hop hops.now) out.old }
 {
-    let n = hop_count(hops);
-    let mut i: usize = 0;
-    while i < n {
+    for i in 0..hop_count(hops) {
         put_hop_bytes(out, at + BYTES_A_HOP * i, hop_at(hops, i));
-        i += 1;
     }
 }
 

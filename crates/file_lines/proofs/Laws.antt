@@ -19,7 +19,8 @@ use Rattle.file_numbers.specs.Numbers.{number_at, number, Bytes}
 use Rattle.file_numbers.proofs.TwoBytes.{number_whole, number_drop, number_again}
 use Rattle.file_numbers.proofs.Parts.{concat_again, length_concat, concat_at, concat_none, concat_more, concat_done}
 use Rattle.file_lines.specs.LineField.{bytes_a_line, lines_length, line_place, line_in, zero_lines, any_line, line_list}
-use Rattle.file_lines.specs.declared.Lines.{Lines}
+use Rattle.file_lines.specs.Internal.LineField.{LinesLie}
+use Rattle.std.specs.Prelude.{Option, Some, None, cond}
 use Rattle.base_outputs.specs.Concat.{concat}
 
 -- the bytes of the line of a hop
@@ -99,10 +100,13 @@ zero_lines_lem b hs at s = go (count hs) s where
   go zero s = refl
   go (suc n) s = rw (s n (omega arith), go n (λ i l. s i (omega arith))) (turn (eqb (line_at hs n) 0) (any n (lined hs)))
 
--- the line of a hop, where the list stands exactly if some hop has a line
-pub line_back : (b hs : List ℕ) (ls : Lines) → ls.stand ≡ any_line hs → (ls.stand ≡ true → LinesStand b ls.at hs) → (i : ℕ) → i < count hs → line_in b ls i ≡ line_at hs i
+-- the line of a hop, where there is a list exactly if some hop has a line
+pub line_back : (b hs : List ℕ) (stand : Bool) (at : ℕ) → stand ≡ any_line hs → (stand ≡ true → LinesStand b at hs) → (i : ℕ) → i < count hs → line_in b (cond stand (Some at) None) i ≡ line_at hs i
 unfolding line_in
-line_back b hs ls e s i l = go ls.stand refl where
-  go : (t : Bool) → ls.stand ≡ t → line_in b ls i ≡ line_at hs i
-  go true d = rw d (s d i l)
-  go false d = rw d (sym (no_line hs (sym e ∙ d) l))
+line_back b hs true at e s i l = s refl i l
+line_back b hs false at e s i l = sym (no_line hs (sym e) l)
+
+-- the lines of fewer hops
+pub lines_lie_fewer : (b : List ℕ) (ls : Option ℕ) {m n : ℕ} → m ≤ n → LinesLie b ls n → LinesLie b ls m
+lines_lie_fewer b None l h = h
+lines_lie_fewer b (Some at) l h = omega arith

@@ -1,11 +1,10 @@
 -- The list of lines of document 02: "In the file, bit 3 stands for a list of lines, one number a
 -- hop, after the names." The list begins at a place `at` of the bytes, in the order of the hops,
 -- and has no count of its own. Assumes nothing: these are definitions.
-use Rattle.std.specs.Prelude.{ℕ, ◌+◌, ◌*◌, Bool, not, cond, List, eqb}
+use Rattle.std.specs.Prelude.{ℕ, ◌+◌, ◌*◌, Bool, not, List, Option, Some, None, eqb}
 use Rattle.base_bounded.specs.Quantifiers.{all, any}
 use Rattle.graph.specs.Hops.{count, line_at}
 use Rattle.file_numbers.specs.Numbers.{number_at, number}
-use Rattle.file_lines.specs.declared.Lines.{Lines}
 use Rattle.base_outputs.specs.Concat.{concat}
 
 -- "one number a hop"
@@ -20,9 +19,11 @@ lines_length n = bytes_a_line * n
 abbrev pub line_place : ℕ → ℕ → ℕ
 line_place at i = at + bytes_a_line * i
 
--- the line of the hop at a place: "0 for none", and none where there is no list
-unfoldable pub line_in : List ℕ → Lines → ℕ → ℕ
-line_in b ls i = cond ls.stand (number_at b (line_place ls.at i)) 0
+-- the line of the hop at a place, of a list that begins at `at`: "0 for none", and none where there
+-- is no list
+unfoldable pub line_in : List ℕ → Option ℕ → ℕ → ℕ
+line_in b None i = 0
+line_in b (Some at) i = number_at b (line_place at i)
 
 -- the n lines from a place on are "lines all 0"; no lines are all 0
 unfoldable pub zero_lines : List ℕ → ℕ → ℕ → Bool

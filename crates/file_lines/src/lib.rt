@@ -19,29 +19,23 @@ const BYTES_A_LINE: usize = 2;
 // How many bytes the lines of all hops that can be take.
 pub const MOST_LINE_BYTES: usize = BYTES_A_LINE * graph::MOST_HOPS;
 
-// Whether a file has a list of lines, and where it begins, or would begin.
-#[derive(Clone, Copy)]
-pub struct Lines {
-    pub stand: bool,
-    pub at: usize,
-}
-
 // How many bytes the lines of n hops take.
 pub fn lines_length(n: u16) -> usize
     ensures { result ≡ lines_length n }
 {
-    BYTES_A_LINE * (n as usize)
+    BYTES_A_LINE * usize::from(n)
 }
 
-// The line of the hop at place i: 0 where there is no list.
-pub fn line_in(file: &[u8], lines: Lines, i: usize) -> u16
+// The line of the hop at place i, where `lines` is the place at which the list begins: 0 where
+// there is no list.
+pub fn line_in(file: &[u8], lines: Option<usize>, i: usize) -> u16
     requires { LinesLie file.now lines (i + 1) }
     ensures { result ≡ line_in file.now lines i }
 {
-    if lines.stand {
-        return number_in(file, lines.at + BYTES_A_LINE * i);
+    match lines {
+        Some(at) => number_in(file, at + BYTES_A_LINE * i),
+        None => 0,
     }
-    0
 }
 
 // Whether the n lines from a place on are all 0.
@@ -49,29 +43,14 @@ pub fn are_zero(file: &[u8], at: usize, n: usize) -> bool
     requires { line_place at n ≤ length file.now }
     ensures { result ≡ zero_lines file.now at n }
 {
-    let mut i: usize = 0;
-    while i < n {
-        if number_in(file, at + BYTES_A_LINE * i) != 0 {
-            return false;
-        }
-        i += 1;
-    }
-    true
+    (0..n).all(|i| number_in(file, at + BYTES_A_LINE * i) == 0)
 }
 
 // Whether some hop has a line.
 pub fn has_line(hops: &[u16]) -> bool
     ensures { result ≡ any_line hops.now }
 {
-    let n = hop_count(hops);
-    let mut i: usize = 0;
-    while i < n {
-        if line_at(hops, i) != 0 {
-            return true;
-        }
-        i += 1;
-    }
-    false
+    (0..hop_count(hops)).any(|i| line_at(hops, i) != 0)
 }
 
 // The lines of all hops of a list, from a place of the output on.
@@ -79,10 +58,7 @@ pub fn put_lines(out: &mut [u8], at: usize, hops: &[u16])
     requires { line_place at (count hops.now) ≤ length out.old }
     ensures { out.new ≡ over_at at (line_list hops.now) out.old }
 {
-    let n = hop_count(hops);
-    let mut i: usize = 0;
-    while i < n {
+    for i in 0..hop_count(hops) {
         put_number(out, at + BYTES_A_LINE * i, line_at(hops, i));
-        i += 1;
     }
 }

@@ -1,13 +1,11 @@
 -- Laws of 16-bit numbers among bytes. Assumes nothing.
 use Prim.Native.Nat.{ℕ, suc, ◌+◌, ◌*◌, ◌/◌, ◌%◌, ◌≤◌}
 use mathlib.Core.Path.{◌≡◌, ap, ◌∙◌}
-use mathlib.Core.List.{List, [], ◌∷◌, ◌++◌}
+use mathlib.Core.List.{List, ◌∷◌, ◌++◌}
 use native.Mathlib.Numerals.{add-one}
 use native.Mathlib.Omega.{arith}
-use lib.ListN.{length, get_or, drop, set}
-use lib.Seq.{drop-cons, get_or-drop, set_split}
-use Rattle.base_outputs.specs.Internal.Output.{over_at}
-use Rattle.base_outputs.proofs.Front.{over_more}
+use lib.ListN.{length, get_or, drop}
+use lib.Seq.{drop-cons, get_or-drop}
 use Rattle.file_numbers.specs.Numbers.{number_at, number, Bytes}
 
 -- a number is read from the two bytes that it was written as
@@ -35,9 +33,3 @@ number_again b small i l =
 
       again : get_or b i 0 ∷ get_or b (suc i) 0 ∷ drop (suc (suc i)) b ≡ number_at b i % 256 ∷ number_at b i / 256 ∷ drop (i + 2) b
       again = ap (◌∷ (get_or b (suc i) 0 ∷ drop (suc (suc i)) b)) low_byte ∙ ap (λ (x : ℕ). number_at b i % 256 ∷ x ∷ drop (suc (suc i)) b) high_byte ∙ ap (λ (n : ℕ). number_at b i % 256 ∷ number_at b i / 256 ∷ drop n b) past
-
--- two bytes put one after the other
-pub number_put : (at : ℕ) (old : List ℕ) (x y : ℕ) → at + 2 ≤ length old → set (set old at x) (at + 1) y ≡ over_at at (x ∷ y ∷ []) old
-number_put at old x y l = rw first (over_more at (x ∷ []) old y (omega arith)) where
-  first : set old at x ≡ over_at at (x ∷ []) old
-  first = set_split old at x (omega arith) ∙ rw add-one

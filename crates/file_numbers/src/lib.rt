@@ -5,7 +5,7 @@
 // Uses `base_outputs` for what is written.
 #![tactic(auto)]
 
-ghost use Rattle.std.specs.Prelude.{◌≡◌, ◌+◌, ◌*◌, ◌≤◌, length, get_or};
+ghost use Rattle.std.specs.Prelude.{◌≡◌, ◌+◌, ◌≤◌, length, get_or};
 ghost use Rattle.base_outputs.specs.Internal.Output.{over_at};
 ghost use Rattle.file_numbers.specs.Internal.Numbers.{most_number};
 ghost use Rattle.file_numbers.specs.Numbers.{number_at, number};
@@ -14,16 +14,7 @@ ghost use Rattle.file_numbers.specs.Numbers.{number_at, number};
 pub fn byte_at(bytes: &[u8], i: usize) -> u8
     ensures { result ≡ get_or bytes.now i 0 }
 {
-    if i < bytes.len() {
-        return bytes[i];
-    }
-    0
-}
-
-fn from_bytes(low: u8, high: u8) -> u16
-    ensures { result ≡ low + 256 * high }
-{
-    (low as u16) + 256 * (high as u16)
+    bytes.get(i).copied().unwrap_or(0)
 }
 
 // The number at a place, of which bytes may be missing.
@@ -31,9 +22,7 @@ pub fn number_at(bytes: &[u8], i: usize) -> u16
     requires { i ≤ most_number }
     ensures { result ≡ number_at bytes.now i }
 {
-    let low = byte_at(bytes, i);
-    let high = byte_at(bytes, i + 1);
-    from_bytes(low, high)
+    u16::from_le_bytes([byte_at(bytes, i), byte_at(bytes, i + 1)])
 }
 
 // The number at a place, of which both bytes are there.
@@ -41,7 +30,7 @@ pub fn number_in(bytes: &[u8], i: usize) -> u16
     requires { i + 2 ≤ length bytes.now }
     ensures { result ≡ number_at bytes.now i }
 {
-    from_bytes(bytes[i], bytes[i + 1])
+    u16::from_le_bytes([bytes[i], bytes[i + 1]])
 }
 
 // A number at a place of the output.
@@ -49,6 +38,5 @@ pub fn put_number(out: &mut [u8], at: usize, n: u16)
     requires { at + 2 ≤ length out.old }
     ensures { out.new ≡ over_at at (number n) out.old }
 {
-    out[at] = (n % 256) as u8;
-    out[at + 1] = (n / 256) as u8;
+    out[at..at + 2].copy_from_slice(&n.to_le_bytes());
 }

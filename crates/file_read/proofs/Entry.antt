@@ -1,6 +1,6 @@
 -- The ways out of the entry `read`: the format is checked, then the graph, then the output's
 -- length; where none refuses, all that the file holds is returned. Assumes nothing.
-use Prim.Native.Nat.{ℕ, ◌-◌, ◌<◌, ◌≤◌}
+use Prim.Native.Nat.{ℕ, ◌<◌, ◌≤◌}
 use mathlib.Core.Path.{◌≡◌, refl, sym, ap, ◌∙◌}
 use mathlib.Core.Bool.{true, false, ◌&&◌}
 use mathlib.Core.List.{List}
@@ -15,10 +15,10 @@ use Rattle.graph.specs.Answers.{most_states, most_labels, most_hops, accepted, r
 use Rattle.graph_check.specs.Check.{counts_fit, check_of}
 use Rattle.graph.specs.declared.Shape.{Shape}
 use Rattle.graph.specs.declared.Answer.{Answer}
-use Rattle.base_bounded.proofs.Bools.{and_no_left, and_no_right, not_no, decided}
+use Rattle.base_bounded.proofs.Bools.{and_no_left, and_no_right, not_no, decided, eq_or_not}
 use Rattle.graph_check.proofs.Checked.{check_counts, check_admitted}
 use Rattle.graph.proofs.Accepts.{both_accept, second_accepts, capacity_accepts}
-use Rattle.file_lines.specs.declared.Lines.{Lines}
+use Rattle.std.specs.Prelude.{Option}
 use Rattle.file_hops.specs.Internal.Field.{HopsLie}
 use Rattle.file_hops.specs.Field.{hops_in_field}
 use Rattle.file_fields.specs.Format.{has_hops, hops_place, hops_in, names_place, lines_in, shape_in, hop_list_in}
@@ -36,10 +36,6 @@ unfit sh hs l =
     and_no_left (whole hs)
     (and_no_right (leb 1 sh.states && leb sh.states most_states && leb 1 sh.labels && leb sh.labels most_labels) (lt-leb _ _ l))
 
--- a row that speaks does not accept
-pub row_refuses : {a : Answer} {n p : ℕ} → a ≡ refused n p → 1 ≤ n → a.number ≡ 0 → ⊥
-row_refuses {a} {n} e l z = let d : a.number ≡ n = ap (λ (x : Answer). x.number) e in omega arith
-
 module _ (b : List ℕ) where
   -- the graph's answer, without and with a copy of the hops
   pub graph_many : {n : ℕ} → n ≡ hops_in b → most_hops < n → refused 1 0 ≡ check_of (shape_in b) (hop_list_in b)
@@ -49,8 +45,8 @@ module _ (b : List ℕ) where
   graph_few e z = rw (← count_hop_list b) (check_admitted (shape_in b) (hop_list_in b) (ap (λ (x : Answer). x.number) (sym e) ∙ z)).hops_most
 
   -- a list with the hops in front, and its part that has just them
-  pub hops_part : (copy old : List ℕ) {n : ℕ} → copy ≡ on_front (hop_list_in b) old → n ≡ number_place (hops_in b) → take (n - 0) (drop 0 copy) ≡ hop_list_in b
-  hops_part copy old {n} h d = rw h (take_at (hop_list_in b) (drop (length (hop_list_in b)) old) (n - 0) (omega (arith, length_hop_list b)))
+  pub hops_part : (copy old : List ℕ) {n : ℕ} → copy ≡ on_front (hop_list_in b) old → n ≡ number_place (hops_in b) → take n copy ≡ hop_list_in b
+  hops_part copy old {n} h d = rw h (take_at (hop_list_in b) (drop (length (hop_list_in b)) old) n (omega (arith, length_hop_list b)))
 
   -- where the names begin within the file, so do the hops lie
   pub hops_lie : names_place b ≤ length b → {p n : ℕ} → p ≡ hops_place b → n ≡ hops_in b → HopsLie b p n
@@ -62,12 +58,12 @@ module _ (b : List ℕ) where
     off t i m = absurd (omega (arith, (hops_off b t).0))
 
   -- the hops as they were taken from the field
-  module _ {p n : ℕ} {ls : Lines} (e : p ≡ hops_place b) (q : ls ≡ lines_in b) (d : n ≡ hops_in b) (copy old : List ℕ) (h : copy ≡ on_front (hops_in_field b p ls n) old) where
+  module _ {p n : ℕ} {ls : Option ℕ} (e : p ≡ hops_place b) (q : ls ≡ lines_in b) (d : n ≡ hops_in b) (copy old : List ℕ) (h : copy ≡ on_front (hops_in_field b p ls n) old) where
     pub hops_taken : copy ≡ on_front (hop_list_in b) old
     unfolding hop_list_in
     hops_taken = h ∙ rw (e, q, d)
 
-    pub graph_copied : {sh : Shape} {m : ℕ} → sh ≡ shape_in b → m ≡ number_place n → check_of sh (take (m - 0) (drop 0 copy)) ≡ check_of (shape_in b) (hop_list_in b)
+    pub graph_copied : {sh : Shape} {m : ℕ} → sh ≡ shape_in b → m ≡ number_place n → check_of sh (take m copy) ≡ check_of (shape_in b) (hop_list_in b)
     graph_copied s k = rw s (ap (check_of (shape_in b)) (hops_part copy old hops_taken (k ∙ ap number_place d)))
 
   module _ (capacity : ℕ) {a : Answer} (f : a ≡ format_answer b) where
@@ -112,6 +108,12 @@ module _ (b : List ℕ) where
   unfolding read_answer
   accepted_sound capacity z =
       format_sound b (both_accept (format_answer b) (and_then (check_of (shape_in b) (hop_list_in b)) (capacity_answer (number_place (hops_in b)) capacity)) z).0
+
+  pub gives_answer : (capacity : ℕ) → (read_of b capacity).answer ≡ read_answer b capacity
+  unfolding read_of
+  gives_answer capacity =
+      ⊎_elim (λ z. rw (eq-eqb (read_answer b capacity).number 0 z) (sym (read_accepts capacity z).0))
+      (λ n. rw (ne_eqb (read_answer b capacity).number 0 n)) (eq_or_not (read_answer b capacity).number 0)
 
   -- what is returned and written with a refusal and with acceptance
   module _ (old : List ℕ) where

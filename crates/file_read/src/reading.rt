@@ -1,96 +1,66 @@
 // The entry `read`: the answer of a file, what it holds, and its hops in the output.
-ghost use Rattle.std.specs.Prelude.{◌≡◌, length};
+ghost use Rattle.std.specs.Prelude.{◌≡◌, IfOk, length};
+ghost use Rattle.graph.specs.Answers.{answer_of};
 ghost use Rattle.graph_check.specs.Check.{check_of};
-ghost use Rattle.file_fields.specs.Format.{needed_length, shape_in, hop_list_in};
-ghost use Rattle.file_read.specs.Read.{read_answer, read_of, read_hops, refused_contents, contents_of};
+ghost use Rattle.file_fields.specs.Format.{shape_in, hop_list_in};
+ghost use Rattle.file_read.specs.Read.{read_answer, read_of, read_hops, contents_record};
 
-use super::Contents;
-use file_fields::{block_length, block_place, hops_in, hops_place, lines_in, shape_in};
-use file_format::format_answer;
+use super::Decoded;
+use file_fields::{ExactFile, block_place, hops_in, hops_place, shape_in};
+use file_format::check_format;
 use file_hops::hops::take_hops;
-use graph::answers::{accept, refuse};
 use graph::hops::number_place;
-use graph::{Answer, MOST_HOPS, MOST_NUMBERS, Shape};
+use graph::{MOST_HOPS, MOST_NUMBERS, Refusal};
 use graph_check::check;
 
 // 1 to 4, asked of a copy of the hops: a refusal must not have written any.
-fn hops_answer(file: &[u8]) -> Answer
-    requires { needed_length file.now ≡ length file.now }
-    ensures { result ≡ check_of (shape_in file.now) (hop_list_in file.now) }
+fn check_hops(exact: ExactFile<'_>) -> Result<(), Refusal>
+    ensures { answer_of result ≡ check_of (shape_in exact.entry.bytes.now) (hop_list_in exact.entry.bytes.now) }
 {
-    let count = hops_in(file) as usize;
+    let file = exact.bytes;
+    let count = usize::from(hops_in(file));
     if MOST_HOPS < count {
-        return refuse(1, 0);
+        return Err(Refusal::Counts);
     }
     let mut copy = [0u16; MOST_NUMBERS];
-    take_hops(file, hops_place(file), lines_in(file), count, &mut copy);
+    take_hops(file, hops_place(file), exact.lines_in(), count, &mut copy);
     let end = number_place(count);
-    check(shape_in(file), &copy[0..end])
+    check(shape_in(file), &copy[..end])
 }
 
-// The answer, before anything is written: the format, then 1 to 4, then 6.
-pub fn read_answer(file: &[u8], capacity: usize) -> Answer
-    ensures { result ≡ read_answer file.now capacity }
+// The checks, before anything is written: the format, then 1 to 4, then 6.
+fn check_file(file: &[u8], capacity: usize) -> Result<ExactFile<'_>, Refusal>
+    ensures answers { answer_of result ≡ read_answer file.now capacity }
+    ensures same { IfOk result (λ exact. exact.bytes.now ≡ file.now) }
 {
-    let format = format_answer(file);
-    if format.number != 0 {
-        return format;
+    let exact = check_format(file)?;
+    check_hops(exact)?;
+    if capacity < number_place(usize::from(hops_in(file))) {
+        return Err(Refusal::OutputTooShort);
     }
-    let graph = hops_answer(file);
-    if graph.number != 0 {
-        return graph;
-    }
-    if capacity < number_place(hops_in(file) as usize) {
-        return refuse(6, 0);
-    }
-    accept()
+    Ok(exact)
 }
 
-// With a refusal every other figure is 0.
-pub fn refusal(answer: Answer) -> Contents
-    ensures { result ≡ refused_contents answer }
+// The checks alone.
+pub fn check_read(file: &[u8], capacity: usize) -> Result<(), Refusal>
+    ensures { answer_of result ≡ read_answer file.now capacity }
 {
-    Contents {
-        answer,
-        shape: Shape {
-            states: 0,
-            labels: 0,
-            initial: 0,
-        },
-        hops: 0,
-        names_place: 0,
-        names_len: 0,
-    }
-}
-
-fn contents(file: &[u8]) -> Contents
-    requires { needed_length file.now ≡ length file.now }
-    ensures { result ≡ contents_of file.now }
-{
-    let answer = accept();
-    let shape = shape_in(file);
-    let hops = hops_in(file) as usize;
-    let names_place = block_place(file);
-    let names_len = block_length(file);
-    Contents {
-        answer,
-        shape,
-        hops,
-        names_place,
-        names_len,
-    }
+    check_file(file, capacity)?;
+    Ok(())
 }
 
 // The entry. Nothing is written before the last check, 6, has passed.
-pub fn read(file: &[u8], hops: &mut [u16]) -> Contents
-    ensures answers { result ≡ read_of file.now (length hops.old) }
+pub fn read(file: &[u8], hops: &mut [u16]) -> Result<Decoded, Refusal>
+    ensures answers { contents_record result ≡ read_of file.now (length hops.old) }
     ensures writes { hops.new ≡ read_hops file.now hops.old }
 {
-    let answer = read_answer(file, hops.len());
-    if answer.number != 0 {
-        return refusal(answer);
-    }
-    let count = hops_in(file) as usize;
-    take_hops(file, hops_place(file), lines_in(file), count, hops);
-    contents(file)
+    let exact = check_file(file, hops.len())?;
+    let count = usize::from(hops_in(file));
+    take_hops(file, hops_place(file), exact.lines_in(), count, hops);
+    Ok(Decoded {
+        shape: shape_in(file),
+        hops: count,
+        names_place: block_place(file),
+        names_len: exact.block_length(),
+    })
 }

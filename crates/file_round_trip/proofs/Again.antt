@@ -4,14 +4,14 @@ use Prim.Native.Nat.{ℕ, ◌+◌, ◌-◌, ◌*◌, ◌/◌, ◌%◌, ◌<◌, 
 use mathlib.Core.Path.{◌≡◌, sym, ap, ◌∙◌}
 use mathlib.Core.Bool.{true, false, cond}
 use mathlib.Core.List.{List, ◌∷◌, ◌++◌, append-nil}
-use mathlib.Core.Logic.{◌⊎◌, ⊎_elim}
+use mathlib.Core.Logic.{⊎_elim}
 use native.Mathlib.Omega.{arith}
-use borrow.Author.Tests.{eq-eqb, ne_eqb, eqb-true, eqb-false, not-false}
+use borrow.Author.Tests.{eq-eqb, ne_eqb, not-false}
 use lib.ListN.{length, take, drop, length-append, length-drop, take-append-drop}
 use lib.Seq.{drop-cons, drop-drop, drop-length}
 use lib.Dec.{eqb}
 use Rattle.graph.specs.Hops.{count}
-use Rattle.base_bounded.proofs.Bools.{decided}
+use Rattle.base_bounded.proofs.Bools.{decided, eq_or_not}
 use Rattle.file_names.specs.Block.{name_at}
 use Rattle.file_names.proofs.Blocks.{name_first, name_later}
 use Rattle.file_numbers.specs.Numbers.{number, Bytes}
@@ -28,8 +28,16 @@ use Rattle.file_fields.proofs.Laws.{names_place_least, hops_before_names, names_
 use Rattle.file_format.proofs.Sound.{Sound, names_within, initial_there, hops_there, names_there, lines_there}
 use Rattle.file_read.proofs.Entry.{accepted_sound}
 
+-- the bit over a field stands exactly where the field's number is not 0
+bit_over : (n bit k : ℕ) → bit < 2 → (bit ≡ 1 → n ≡ 0 → ⊥) → ((bit ≡ 1 → ⊥) → n ≡ 0) → cond (eqb n 0) 0 k ≡ k * bit
+bit_over n bit k l on off =
+    ⊎_elim (λ e. rw (ne_eqb n 0 (on e), e) (omega arith))
+    (λ e. rw (eq-eqb n 0 (off e), none e) (omega arith)) (eq_or_not bit 1) where
+      none : (bit ≡ 1 → ⊥) → bit ≡ 0
+      none e = omega arith
+
 -- a number below 16 is its four bits
-four_bits : (x : ℕ) → x < 16 → x % 2 + 2 * (x / 2 % 2) + 4 * (x / 4 % 2) + 8 * (x / 8 % 2) ≡ x
+four_bits : (x : ℕ) → x < 16 → 1 * (x % 2) + 2 * (x / 2 % 2) + 4 * (x / 4 % 2) + 8 * (x / 8 % 2) ≡ x
 four_bits x l =
     let p : x / 2 / 2 ≡ x / 4 = omega arith in
     let q : x / 4 / 2 ≡ x / 8 = omega arith in
@@ -48,41 +56,31 @@ module _ (b : List ℕ) (small : Bytes b) where
   module _ (s : Sound b) where
     initial_again : drop initial_place b ≡ initial_bytes (shape_in b) ++ drop (hops_place b) b
     unfolding shape_in
-    initial_again = ⊎_elim on off (decided (has_initial b)) where
-      on : has_initial b ≡ true → drop initial_place b ≡ initial_bytes (shape_in b) ++ drop (hops_place b) b
-      on e =
-          let (v, p) = initial_on b e in
-          rw (initial_some (shape_in b) (initial_there b s.busy e), v, p) (number_again b small initial_place (omega (arith, hops_before_names b, names_within b s)))
-
-      off : has_initial b ≡ false → drop initial_place b ≡ initial_bytes (shape_in b) ++ drop (hops_place b) b
-      off e = let (v, p) = initial_off b e in rw (initial_none (shape_in b) v, p)
+    initial_again =
+        ⊎_elim
+        (λ e. let (v, p) = initial_on b e in
+        rw (initial_some (shape_in b) (initial_there b s.busy e), v, p) (number_again b small initial_place (omega (arith, hops_before_names b, names_within b s))))
+        (λ e. let (v, p) = initial_off b e in rw (initial_none (shape_in b) v, p)) (decided (has_initial b))
 
     hops_again : drop (hops_place b) b ≡ hops_bytes (hop_list_in b) ++ drop (names_place b) b
     unfolding hop_list_in
-    hops_again = ⊎_elim on off (decided (has_hops b)) where
-      on : has_hops b ≡ true → drop (hops_place b) b ≡ hops_bytes (hop_list_in b) ++ drop (names_place b) b
-      on e =
-          let (v, p) = hops_on b e in
-          rw (hops_some (hop_list_in b) (λ z. hops_there b s.busy e (sym (count_hop_list b) ∙ z)))
-          (field_again b small (hops_place b) (lines_in b) v (omega (arith, p, names_within b s)) ∙ ap (λ (k : ℕ). field_bytes (hop_list_in b) ++ drop k b) (sym p))
-
-      off : has_hops b ≡ false → drop (hops_place b) b ≡ hops_bytes (hop_list_in b) ++ drop (names_place b) b
-      off e = let (v, p) = hops_off b e in rw (hops_none (hop_list_in b) (count_hop_list b ∙ v), p)
+    hops_again =
+        ⊎_elim
+        (λ e. let (v, p) = hops_on b e in
+        rw (hops_some (hop_list_in b) (λ z. hops_there b s.busy e (sym (count_hop_list b) ∙ z)))
+        (field_again b small (hops_place b) (lines_in b) v (omega (arith, p, names_within b s)) ∙ ap (λ (k : ℕ). field_bytes (hop_list_in b) ++ drop k b) (sym p)))
+        (λ e. let (v, p) = hops_off b e in rw (hops_none (hop_list_in b) (count_hop_list b ∙ v), p)) (decided (has_hops b))
 
     pub block_again : rest_of b ≡ block_in b ++ drop (lines_place b) b
     unfolding block_in rest_of
-    block_again = ⊎_elim on off (decided (has_names b)) where
-      on : has_names b ≡ true → drop (names_place b) b ≡ block_in b ++ drop (lines_place b) b
-      on e =
-          let (n, p, l) = names_on b e in
-          rw (p, l)
-          (sym (take-append-drop (lines_place b - names_place b) (drop (names_place b) b)) ∙ ap (take (lines_place b - names_place b) (drop (names_place b) b) ++◌)
-          (drop-drop (lines_place b - names_place b) (names_place b) b ∙ ap (λ (k : ℕ). drop k b) on_to)) where
-            on_to : names_place b + (lines_place b - names_place b) ≡ lines_place b
-            on_to = omega (arith, names_before_lines b)
-
-      off : has_names b ≡ false → drop (names_place b) b ≡ block_in b ++ drop (lines_place b) b
-      off e = let (n, p, l) = names_off b e in rw l (ap (λ (k : ℕ). drop k b) (sym (no_names b n)))
+    block_again =
+        ⊎_elim
+        (λ e. let (n, p, l) = names_on b e in
+        let on_to : names_place b + (lines_place b - names_place b) ≡ lines_place b = omega (arith, names_before_lines b) in
+        rw (p, l)
+        (sym (take-append-drop (lines_place b - names_place b) (drop (names_place b) b)) ∙ ap (take (lines_place b - names_place b) (drop (names_place b) b) ++◌)
+        (drop-drop (lines_place b - names_place b) (names_place b) b ∙ ap (λ (k : ℕ). drop k b) on_to)))
+        (λ e. let (n, p, l) = names_off b e in rw l (ap (λ (k : ℕ). drop k b) (sym (no_names b n)))) (decided (has_names b))
 
     -- the block ends where its names do
     pub block_ends : name_at (rest_of b) (names_in b) ≡ length (block_in b)
@@ -93,17 +91,14 @@ module _ (b : List ℕ) (small : Bytes b) where
     -- a line of some hop is there exactly if the list of lines is
     lines_stand : has_lines b ≡ true → LinesStand b (lines_place b) (hop_list_in b)
     unfolding hop_list_in lines_in
-    lines_stand e = lines_in_field b (hops_place b) (lines_in b) (hops_in b) e
+    lines_stand e = lines_in_field b (hops_place b) (lines_in b) (hops_in b) (lines_place b) (rw e)
 
     any_line_lem : any_line (hop_list_in b) ≡ has_lines b
     unfolding hop_list_in lines_in
-    any_line_lem = ⊎_elim on off (decided (has_lines b)) where
-      on : has_lines b ≡ true → any_line (hop_list_in b) ≡ has_lines b
-      on e =
-          not-false _ (sym (zero_lines_lem b (hop_list_in b) (lines_place b) (lines_stand e)) ∙ ap (zero_lines b (lines_place b)) (count_hop_list b) ∙ lines_there b s.busy e) ∙ sym e
-
-      off : has_lines b ≡ false → any_line (hop_list_in b) ≡ has_lines b
-      off e = no_lines_in_field b (hops_place b) (lines_in b) (hops_in b) e ∙ sym e
+    any_line_lem =
+        ⊎_elim
+        (λ e. not-false _ (sym (zero_lines_lem b (hop_list_in b) (lines_place b) (lines_stand e)) ∙ ap (zero_lines b (lines_place b)) (count_hop_list b) ∙ lines_there b s.busy e) ∙ sym e)
+        (λ e. no_lines_in_field b (hops_place b) (lines_in b) (hops_in b) (rw e) ∙ sym e) (decided (has_lines b))
 
     lines_at_end : drop (lines_place b) b ≡ lines_bytes (hop_list_in b)
     unfolding needed_length
@@ -121,25 +116,6 @@ module _ (b : List ℕ) (small : Bytes b) where
         end : lines_place b ≡ length b
         end = omega (arith, s.exact, lines_off b e)
 
-    -- byte 0 has a bit over each field that is there
-    initial_bit : cond (eqb (initial_in b) 0) 0 1 ≡ bit_map b % 2
-    unfolding has_initial
-    initial_bit = ⊎_elim on off (decided (has_initial b)) where
-      on : has_initial b ≡ true → cond (eqb (initial_in b) 0) 0 1 ≡ bit_map b % 2
-      on e = rw (ne_eqb _ _ (initial_there b s.busy e)) (sym (eqb-true _ _ e))
-
-      off : has_initial b ≡ false → cond (eqb (initial_in b) 0) 0 1 ≡ bit_map b % 2
-      off e = let n = eqb-false (bit_map b % 2) 1 e in rw (eq-eqb _ _ (initial_off b e).0) (omega arith)
-
-    hops_bit : cond (eqb (count (hop_list_in b)) 0) 0 2 ≡ 2 * (bit_map b / 2 % 2)
-    unfolding has_hops
-    hops_bit = ⊎_elim on off (decided (has_hops b)) where
-      on : has_hops b ≡ true → cond (eqb (count (hop_list_in b)) 0) 0 2 ≡ 2 * (bit_map b / 2 % 2)
-      on e = rw (ne_eqb _ _ (λ z. hops_there b s.busy e (sym (count_hop_list b) ∙ z))) (omega (arith, eqb-true (bit_map b / 2 % 2) 1 e))
-
-      off : has_hops b ≡ false → cond (eqb (count (hop_list_in b)) 0) 0 2 ≡ 2 * (bit_map b / 2 % 2)
-      off e = let n = eqb-false (bit_map b / 2 % 2) 1 e in rw (eq-eqb _ _ (count_hop_list b ∙ (hops_off b e).0)) (omega arith)
-
     pub block_some : has_names b ≡ true → 1 ≤ length (block_in b)
     block_some e = omega (arith, block_ends, (names_on b e).0, names_there b s.busy e, name_later (rest_of b) {j = 0} {k = names_in b} (omega arith))
 
@@ -147,23 +123,28 @@ module _ (b : List ℕ) (small : Bytes b) where
     unfolding block_in
     block_none e = let (n, p, l) = names_off b e in rw l
 
+    -- byte 0 has a bit over each field that is there
+    initial_bit : cond (eqb (initial_in b) 0) 0 1 ≡ 1 * (bit_map b % 2)
+    unfolding has_initial
+    initial_bit =
+        bit_over (initial_in b) (bit_map b % 2) 1 (omega arith) (λ e. initial_there b s.busy (eq-eqb _ 1 e)) (λ e. (initial_off b (ne_eqb _ 1 e)).0)
+
+    hops_bit : cond (eqb (count (hop_list_in b)) 0) 0 2 ≡ 2 * (bit_map b / 2 % 2)
+    unfolding has_hops
+    hops_bit =
+        bit_over (count (hop_list_in b)) (bit_map b / 2 % 2) 2 (omega arith) (λ e z. hops_there b s.busy (eq-eqb _ 1 e) (sym (count_hop_list b) ∙ z))
+        (λ e. count_hop_list b ∙ (hops_off b (ne_eqb _ 1 e)).0)
+
     names_bit : cond (eqb (length (block_in b)) 0) 0 4 ≡ 4 * (bit_map b / 4 % 2)
     unfolding has_names
-    names_bit = ⊎_elim on off (decided (has_names b)) where
-      on : has_names b ≡ true → cond (eqb (length (block_in b)) 0) 0 4 ≡ 4 * (bit_map b / 4 % 2)
-      on e = rw (ne_eqb (length (block_in b)) 0 (λ z. omega (arith, block_some e))) (omega (arith, eqb-true (bit_map b / 4 % 2) 1 e))
-
-      off : has_names b ≡ false → cond (eqb (length (block_in b)) 0) 0 4 ≡ 4 * (bit_map b / 4 % 2)
-      off e = let n = eqb-false (bit_map b / 4 % 2) 1 e in rw (eq-eqb _ _ (block_none e)) (omega arith)
+    names_bit =
+        bit_over (length (block_in b)) (bit_map b / 4 % 2) 4 (omega arith) (λ e z. omega (arith, block_some (eq-eqb _ 1 e))) (λ e. block_none (ne_eqb _ 1 e))
 
     lines_bit : cond (any_line (hop_list_in b)) 8 0 ≡ 8 * (bit_map b / 8 % 2)
     unfolding has_lines
-    lines_bit = ⊎_elim on off (decided (has_lines b)) where
-      on : has_lines b ≡ true → cond (any_line (hop_list_in b)) 8 0 ≡ 8 * (bit_map b / 8 % 2)
-      on e = rw (any_line_lem ∙ e) (omega (arith, eqb-true (bit_map b / 8 % 2) 1 e))
-
-      off : has_lines b ≡ false → cond (any_line (hop_list_in b)) 8 0 ≡ 8 * (bit_map b / 8 % 2)
-      off e = let n = eqb-false (bit_map b / 8 % 2) 1 e in rw (any_line_lem ∙ e) (omega arith)
+    lines_bit =
+        rw any_line_lem
+        (⊎_elim (λ e. rw e) (λ e. rw (ne_eqb (bit_map b / 8 % 2) 1 e) (omega arith)) (eq_or_not (bit_map b / 8 % 2) 1))
 
     bits_again : bits_of (shape_in b) (hop_list_in b) (block_in b) ≡ bit_map b
     unfolding bits_of shape_in

@@ -4,13 +4,14 @@
 use Prim.Native.Nat.{ℕ, ◌+◌, ◌-◌, ◌*◌, ◌/◌, ◌%◌, ◌<◌, ◌≤◌}
 use mathlib.Core.Path.{◌≡◌, refl, sym, ap, ◌∙◌}
 use mathlib.Core.Bool.{Bool, true, false, cond, not, ◌&&◌}
-use mathlib.Core.List.{List, [], ◌∷◌, ◌++◌, append_assoc, append-nil}
-use mathlib.Core.Logic.{◌⊎◌, ⊎_elim}
+use mathlib.Core.List.{List, [], ◌++◌, append_assoc, append-nil}
+use mathlib.Core.Logic.{⊎_elim}
 use native.Mathlib.Omega.{arith}
 use borrow.Author.Tests.{eq-eqb, ne_eqb, ltb-false, lt-leb}
 use lib.ListN.{length, get_or, drop, length-append, get_or-append}
 use lib.Seq.{drop_at, drop-drop, drop-append_seam, take-append_seam}
 use lib.Dec.{eqb, leb, ltb}
+use Rattle.std.proofs.lemmas.List.{nil_from_length}
 use Rattle.graph.specs.Hops.{numbers_a_hop, number_place, count}
 use Rattle.graph.specs.Answers.{most_hops, accepted}
 use Rattle.graph_check.specs.Check.{check_of, Admitted}
@@ -83,16 +84,9 @@ named sh ns = cond (eqb (length ns) 0) 0 (sh.labels - 1)
 
 pub given_legal : (sh : Shape) (ns : List ℕ) → (names_given sh ns).number ≡ 0 → Legal ns (named sh ns)
 unfolding names_given
-given_legal sh ns e = ⊎_elim none some (eq_or_not (length ns) 0) where
-  none : length ns ≡ 0 → Legal ns (named sh ns)
-  none z = rw (eq-eqb _ _ z) (record { whole = sym (name_first ns) ∙ sym z; clean = omega arith })
-
-  some : (length ns ≡ 0 → ⊥) → Legal ns (named sh ns)
-  some n = rw (ne_eqb _ _ n) (block_legal ns (sh.labels - 1) (rw (ne_eqb _ _ n) at e))
-
-no_elements : (l : List ℕ) → length l ≡ 0 → l ≡ []
-no_elements [] e = refl
-no_elements (x ∷ l) e = absurd (omega arith)
+given_legal sh ns e =
+    ⊎_elim (λ z. rw (eq-eqb (length ns) 0 z) (record { whole = sym (name_first ns) ∙ sym z; clean = omega arith }))
+    (λ n. rw (ne_eqb (length ns) 0 n) (block_legal ns (sh.labels - 1) (rw (ne_eqb (length ns) 0 n) at e))) (eq_or_not (length ns) 0)
 
 head_long : (sh : Shape) (hs ns : List ℕ) → length (head_bytes sh (bits_of sh hs ns) ++ initial_bytes sh) ≡ initial_place + length (initial_bytes sh)
 head_long sh hs ns = rw (length-append (head_bytes sh (bits_of sh hs ns)), length_head sh hs ns)
@@ -129,12 +123,11 @@ module _ (sh : Shape) (hs ns : List ℕ) (whole : length hs % numbers_a_hop ≡ 
   labels_back = omega arith
 
   initial_back : (initial_in file ≡ sh.initial) × (hops_place file ≡ initial_place + length (initial_bytes sh))
-  initial_back = ⊎_elim none some (eq_or_not sh.initial 0) where
-    none : sh.initial ≡ 0 → (initial_in file ≡ sh.initial) × (hops_place file ≡ initial_place + length (initial_bytes sh))
-    none z = let (v, p) = initial_off file (bits_back.0 ∙ rw (eq-eqb _ _ z)) in (v ∙ sym z, rw (initial_none sh z) p)
-
-    some : (sh.initial ≡ 0 → ⊥) → (initial_in file ≡ sh.initial) × (hops_place file ≡ initial_place + length (initial_bytes sh))
-    some n = let (v, p) = initial_on file (bits_back.0 ∙ rw (ne_eqb _ _ n)) in (v ∙ initial_number sh hs ns n, rw (initial_some sh n) p)
+  initial_back =
+      ⊎_elim
+      (λ z. let (v, p) = initial_off file (bits_back.0 ∙ rw (eq-eqb sh.initial 0 z)) in (v ∙ sym z, rw (initial_none sh z) p))
+      (λ n. let (v, p) = initial_on file (bits_back.0 ∙ rw (ne_eqb sh.initial 0 n)) in (v ∙ initial_number sh hs ns n, rw (initial_some sh n) p))
+      (eq_or_not sh.initial 0)
 
   -- what stands behind the initial state, and behind the hops
   from_hops : drop (hops_place file) file ≡ hops_bytes hs ++ rest
@@ -147,17 +140,13 @@ module _ (sh : Shape) (hs ns : List ℕ) (whole : length hs % numbers_a_hop ≡ 
   from_field n = from_hops ∙ rw (hops_some hs n)
 
   hops_back : (hops_in file ≡ count hs) × (names_place file ≡ hops_place file + length (hops_bytes hs))
-  hops_back = ⊎_elim none some (eq_or_not (count hs) 0) where
-    none : count hs ≡ 0 → (hops_in file ≡ count hs) × (names_place file ≡ hops_place file + length (hops_bytes hs))
-    none z = let (v, p) = hops_off file (bits_back.1 ∙ rw (eq-eqb _ _ z)) in (v ∙ sym z, omega (arith, p, ap length (hops_none hs z)))
-
-    counted : (count hs ≡ 0 → ⊥) → number_at file (hops_place file) ≡ count hs
-    counted n = count_back file hs rest (hops_place file) (from_field n)
-
-    some : (count hs ≡ 0 → ⊥) → (hops_in file ≡ count hs) × (names_place file ≡ hops_place file + length (hops_bytes hs))
-    some n =
-        let (v, p) = hops_on file (bits_back.1 ∙ rw (ne_eqb _ _ n)) in
-        (v ∙ counted n, omega (arith, p, v, counted n, length_hops_some hs n))
+  hops_back =
+      ⊎_elim
+      (λ z. let (v, p) = hops_off file (bits_back.1 ∙ rw (eq-eqb (count hs) 0 z)) in (v ∙ sym z, omega (arith, p, ap length (hops_none hs z))))
+      (λ n. let (v, p) = hops_on file (bits_back.1 ∙ rw (ne_eqb (count hs) 0 n)) in
+      let counted = count_back file hs rest (hops_place file) (from_field n) in
+      (v ∙ counted, omega (arith, p, v, counted, length_hops_some hs n)))
+      (eq_or_not (count hs) 0)
 
   rest_back : rest_of file ≡ rest
   unfolding rest_of
@@ -200,28 +189,24 @@ module _ (sh : Shape) (hs ns : List ℕ) (whole : length hs % numbers_a_hop ≡ 
     -- the hops themselves
     list_back : hop_list_in file ≡ hs
     unfolding hop_list_in lines_in
-    list_back = ap (hops_in_field file (hops_place file) (lines_in file)) hops_back.0 ∙ ⊎_elim none some (eq_or_not (count hs) 0) where
-      none : count hs ≡ 0 → hops_in_field file (hops_place file) (lines_in file) (count hs) ≡ hs
-      none z = no_elements _ (length_in_field file (hops_place file) (lines_in file) (count hs) ∙ ap number_place z) ∙ sym (no_elements hs (omega (arith, whole)))
-
-      some : (count hs ≡ 0 → ⊥) → hops_in_field file (hops_place file) (lines_in file) (count hs) ≡ hs
-      some n =
-          field_back file hs rest (hops_place file) (from_field n) (lines_in file)
-          (line_back file hs (lines_in file) bits_back.3 (λ e. lines_stand (sym bits_back.3 ∙ e))) whole
+    list_back =
+        ap (hops_in_field file (hops_place file) (lines_in file)) hops_back.0 ∙
+        ⊎_elim
+        (λ z. nil_from_length _ (length_in_field file (hops_place file) (lines_in file) (count hs) ∙ ap number_place z) ∙ sym (nil_from_length hs (omega (arith, whole))))
+        (λ n. field_back file hs rest (hops_place file) (from_field n) (lines_in file)
+        (line_back file hs (has_lines file) (lines_place file) bits_back.3 (λ e. lines_stand (sym bits_back.3 ∙ e))) whole)
+        (eq_or_not (count hs) 0)
 
     block_back : (block_in file ≡ ns) × (block_length file ≡ length ns) × (block_place file ≡ block_start sh hs ns)
     unfolding block_in rest_of block_start
-    block_back = ⊎_elim none some (eq_or_not (length ns) 0) where
-      none : length ns ≡ 0 → (block_in file ≡ ns) × (block_length file ≡ length ns) × (block_place file ≡ block_start sh hs ns)
-      none z =
-          let (n, p, l) = names_off file (bits_back.2 ∙ rw (eq-eqb _ _ z)) in
-          (rw l (sym (no_elements ns z)), l ∙ sym z, p ∙ rw (eq-eqb (length ns) 0 z))
-
-      some : (length ns ≡ 0 → ⊥) → (block_in file ≡ ns) × (block_length file ≡ length ns) × (block_place file ≡ block_start sh hs ns)
-      some y =
-          let (n, p, l) = names_on file (bits_back.2 ∙ rw (ne_eqb _ _ y)) in
-          let long : block_length file ≡ length ns = omega (arith, l, lines_place_back) in
-          (rw (p, long, rest_back) (take-append_seam ns (lines_bytes hs)), long, p ∙ rw (ne_eqb (length ns) 0 y) (omega (arith, initial_back.1, hops_back.1, length_encode sh hs ns)))
+    block_back =
+        ⊎_elim
+        (λ z. let (n, p, l) = names_off file (bits_back.2 ∙ rw (eq-eqb (length ns) 0 z)) in
+        (rw l (sym (nil_from_length ns z)), l ∙ sym z, p ∙ rw (eq-eqb (length ns) 0 z)))
+        (λ y. let (n, p, l) = names_on file (bits_back.2 ∙ rw (ne_eqb (length ns) 0 y)) in
+        let long : block_length file ≡ length ns = omega (arith, l, lines_place_back) in
+        (rw (p, long, rest_back) (take-append_seam ns (lines_bytes hs)), long, p ∙ rw (ne_eqb (length ns) 0 y) (omega (arith, initial_back.1, hops_back.1, length_encode sh hs ns))))
+        (eq_or_not (length ns) 0)
 
     need_back : needed_length file ≡ length file
     unfolding needed_length

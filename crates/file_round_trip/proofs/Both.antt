@@ -2,14 +2,13 @@
 -- round; the answers and the outputs are then those of the definitions. Assumes nothing.
 use Prim.Native.Nat.{ℕ, ◌+◌, ◌-◌, ◌<◌, ◌≤◌}
 use mathlib.Core.Path.{◌≡◌, refl, sym, ap, ◌∙◌}
-use mathlib.Core.Bool.{Bool, true, false, cond}
+use mathlib.Core.Bool.{true}
 use mathlib.Core.List.{List}
-use mathlib.Core.Logic.{◌⊎◌, ⊎_elim}
+use mathlib.Core.Logic.{⊎_elim}
 use native.Mathlib.Omega.{arith}
-use borrow.Author.Tests.{eq-eqb, ne_eqb, eqb-true, eqb-false, le-leb, lt-leb, leb-true}
+use borrow.Author.Tests.{eq-eqb, ne_eqb, le-leb, lt-leb}
 use lib.ListN.{length, get_or, take, drop, get_or-append}
 use lib.Seq.{take_at}
-use lib.Dec.{eqb, leb}
 use Rattle.graph.specs.Hops.{number_place}
 use Rattle.graph.specs.Answers.{most_numbers, accepted, refused, capacity_answer}
 use Rattle.graph_check.specs.Check.{Admitted}
@@ -17,7 +16,7 @@ use Rattle.graph.specs.declared.Shape.{Shape}
 use Rattle.graph.specs.declared.Answer.{Answer}
 use Rattle.base_bounded.proofs.Bools.{decided}
 use Rattle.graph_check.proofs.Checked.{check_admitted, admitted_check}
-use Rattle.graph.proofs.Accepts.{both_accept}
+use Rattle.graph.proofs.Accepts.{both_accept, capacity_accepts}
 use Rattle.file_names.specs.Block.{name_at, first_bad}
 use Rattle.file_names.proofs.Blocks.{name_later}
 use Rattle.file_names.proofs.Fronts.{name_same, first_bad_same}
@@ -30,7 +29,9 @@ use Rattle.file_round_trip.specs.RoundTrip.{copy_answer, copy_of, copy_bytes, ba
 use Rattle.file_read.specs.declared.Contents.{Contents}
 use Rattle.file_write.specs.declared.Written.{Written}
 use Rattle.file_fields.proofs.Laws.{names_before_lines, names_on, names_off}
+use Rattle.file_read.proofs.Entry as read
 use Rattle.file_read.proofs.Entry.{hops_part, graph_accepts, hops_most, accepted_sound}
+use Rattle.file_write.proofs.Given as write
 use Rattle.file_write.proofs.Given.{block_good}
 use Rattle.file_format.proofs.Sound.{Sound}
 use Rattle.file_numbers.specs.Numbers.{Bytes}
@@ -39,34 +40,24 @@ use Rattle.file_round_trip.proofs.Back.{encode_decode}
 
 -- what the entries' results say of their answers
 module _ (b : List ℕ) (capacity : ℕ) {c : Contents} (e : c ≡ read_of b capacity) where
-  pub found_refused : (c.answer.number ≡ 0 → ⊥) → c.answer ≡ read_answer b capacity
-  unfolding read_of
-  found_refused n = go (eqb (read_answer b capacity).number 0) refl where
-    go : (t : Bool) → eqb (read_answer b capacity).number 0 ≡ t → c.answer ≡ read_answer b capacity
-    go true d = absurd (n (ap (λ (x : Contents). x.answer.number) e ∙ rw d))
-    go false d = ap (λ (x : Contents). x.answer) e ∙ rw d
+  pub found_answer : c.answer ≡ read_answer b capacity
+  found_answer = ap (λ (x : Contents). x.answer) e ∙ read.gives_answer b capacity
 
   pub found_accepted : c.answer.number ≡ 0 → ((read_answer b capacity).number ≡ 0) × (c ≡ contents_of b)
   unfolding read_of
-  found_accepted z = go (eqb (read_answer b capacity).number 0) refl where
-    go : (t : Bool) → eqb (read_answer b capacity).number 0 ≡ t → ((read_answer b capacity).number ≡ 0) × (c ≡ contents_of b)
-    go true d = (eqb-true _ _ d, e ∙ rw d)
-    go false d = let q : c ≡ refused_contents (read_answer b capacity) = e ∙ rw d in absurd (eqb-false _ _ d (ap (λ (x : Contents). x.answer.number) (sym q) ∙ z))
+  found_accepted z =
+      let y : (read_answer b capacity).number ≡ 0 = ap (λ (x : Answer). x.number) (sym found_answer) ∙ z in
+      (y, e ∙ rw (eq-eqb (read_answer b capacity).number 0 y))
 
 module _ (sh : Shape) (hs ns : List ℕ) (capacity : ℕ) {w : Written} (e : w ≡ write_of sh hs ns capacity) where
-  pub put_refused : (w.answer.number ≡ 0 → ⊥) → w.answer ≡ write_answer sh hs ns capacity
-  unfolding write_of
-  put_refused n = go (eqb (write_answer sh hs ns capacity).number 0) refl where
-    go : (t : Bool) → eqb (write_answer sh hs ns capacity).number 0 ≡ t → w.answer ≡ write_answer sh hs ns capacity
-    go true d = absurd (n (ap (λ (x : Written). x.answer.number) e ∙ rw d))
-    go false d = ap (λ (x : Written). x.answer) e ∙ rw d
+  pub put_answer : w.answer ≡ write_answer sh hs ns capacity
+  put_answer = ap (λ (x : Written). x.answer) e ∙ write.gives_answer sh hs ns capacity
 
   pub put_accepted : w.answer.number ≡ 0 → ((write_answer sh hs ns capacity).number ≡ 0) × (w.length ≡ length (encode sh hs ns))
   unfolding write_of
-  put_accepted z = go (eqb (write_answer sh hs ns capacity).number 0) refl where
-    go : (t : Bool) → eqb (write_answer sh hs ns capacity).number 0 ≡ t → ((write_answer sh hs ns capacity).number ≡ 0) × (w.length ≡ length (encode sh hs ns))
-    go true d = (eqb-true _ _ d, ap (λ (x : Written). x.length) e ∙ rw d)
-    go false d = let q : w ≡ refused_written (write_answer sh hs ns capacity) = e ∙ rw d in absurd (eqb-false _ _ d (ap (λ (x : Written). x.answer.number) (sym q) ∙ z))
+  put_accepted z =
+      let y : (write_answer sh hs ns capacity).number ≡ 0 = ap (λ (x : Answer). x.number) (sym put_answer) ∙ z in
+      (y, ap (λ (x : Written). x.length) e ∙ rw (eq-eqb (write_answer sh hs ns capacity).number 0 y))
 
 -- a file that reading accepts
 module _ (b : List ℕ) (capacity : ℕ) (small : Bytes b) (z : (read_answer b capacity).number ≡ 0) where
@@ -135,7 +126,7 @@ module _ (b old : List ℕ) where
 -- what was read, as it is handed on to be written
 module _ (b before : List ℕ) (small : Bytes b) (l : length before ≡ most_numbers) {c : Contents} (e : c ≡ read_of b (length before)) where
   pub copy_unread : (old : List ℕ) → (c.answer.number ≡ 0 → ⊥) → (refused_written c.answer ≡ copy_of b (length old)) × (old ≡ copy_bytes b old)
-  copy_unread old n = copy_refused b old (found_refused b most_numbers (e ∙ ap (read_of b) l) n) n
+  copy_unread old n = copy_refused b old (found_answer b most_numbers (e ∙ ap (read_of b) l)) n
 
   module _ (y : c.answer.number ≡ 0) where
     found : ((read_answer b most_numbers).number ≡ 0) × (c ≡ contents_of b)
@@ -159,23 +150,23 @@ module _ (b before : List ℕ) (small : Bytes b) (l : length before ≡ most_num
       size = omega (arith, ap (λ (x : Contents). x.names_len) found.1)
 
     pub copy_gives : {hops : List ℕ} (old : List ℕ) {r : Written} {out : List ℕ} {n : ℕ} → hops ≡ read_hops b before → n ≡ number_place c.hops →
-        r ≡ write_of c.shape (take (n - 0) (drop 0 hops)) (take (c.names_place + c.names_len - c.names_place) (drop c.names_place b)) (length old) →
-        out ≡ write_bytes c.shape (take (n - 0) (drop 0 hops)) (take (c.names_place + c.names_len - c.names_place) (drop c.names_place b)) old →
+        r ≡ write_of c.shape (take n hops) (take (c.names_place + c.names_len - c.names_place) (drop c.names_place b)) (length old) →
+        out ≡ write_bytes c.shape (take n hops) (take (c.names_place + c.names_len - c.names_place) (drop c.names_place b)) old →
         (r ≡ copy_of b (length old)) × (out ≡ copy_bytes b old)
     copy_gives old {n = n} h m p q =
         let g = copy_accepted b old small found.0 in
         (p ∙ same_three (λ (s : Shape) (hs ns : List ℕ). write_of s hs ns (length old)) h ∙ g.0, q ∙ same_three (λ (s : Shape) (hs ns : List ℕ). write_bytes s hs ns old) h ∙ g.1) where
           same_three : {A : Type 0} (f : Shape → List ℕ → List ℕ → A) {hops : List ℕ} → hops ≡ read_hops b before →
-              f c.shape (take (n - 0) (drop 0 hops)) (take (c.names_place + c.names_len - c.names_place) (drop c.names_place b)) ≡
+              f c.shape (take n hops) (take (c.names_place + c.names_len - c.names_place) (drop c.names_place b)) ≡
               f (shape_in b) (hop_list_in b) (block_in b)
           same_three f {hops} h = rw (hops_part b hops before (hops_there h) (m ∙ ap (λ (x : Contents). number_place x.hops) found.1), block_part) (ap (λ (x : Contents). f x.shape (hop_list_in b) (block_in b)) found.1)
 
 -- the ways out of writing and reading again
 module _ (sh : Shape) (hs ns file again : List ℕ) where
   pub back_refused : {a : Answer} → a ≡ back_answer sh hs ns (length file) (length again) → (a.number ≡ 0 → ⊥) →
-      (refused_contents a ≡ back_of sh hs ns (length file) (length again)) × ((file ≡ back_bytes sh hs ns file (length again)) × (again ≡ back_hops sh hs ns (length file) again))
+      (refused_contents a ≡ back_of sh hs ns (length file) (length again)) × (file ≡ back_bytes sh hs ns file (length again)) × (again ≡ back_hops sh hs ns (length file) again)
   unfolding back_of back_bytes back_hops
-  back_refused e n = (rw (← e, ne_eqb _ _ n), (rw (← e, ne_eqb _ _ n), rw (← e, ne_eqb _ _ n)))
+  back_refused e n = (rw (← e, ne_eqb _ _ n), rw (← e, ne_eqb _ _ n), rw (← e, ne_eqb _ _ n))
 
   module _ {a : Answer} (e : a ≡ given_answer sh hs ns) where
     pub back_graph : (a.number ≡ 0 → ⊥) → a ≡ back_answer sh hs ns (length file) (length again)
@@ -197,7 +188,7 @@ module _ (sh : Shape) (hs ns file again : List ℕ) where
             (w.answer ≡ back_answer sh hs ns (length file) (length again)) × (file' ≡ file)
         unfolding write_bytes
         back_unwritten d f n =
-            let q = put_refused sh hs ns (length file) d n in
+            let q = put_answer sh hs ns (length file) d in
             (q ∙ back_write, f ∙ rw (← q, ne_eqb _ _ n))
 
         -- the write is accepted, and the read after it
@@ -208,29 +199,27 @@ module _ (sh : Shape) (hs ns file again : List ℕ) where
           same : ReadBack sh hs ns (encode sh hs ns) (length again)
           same = encode_decode sh hs ns (length again) (ap (λ (x : Answer). x.number) (sym e) ∙ z) l
 
-          part_again : {n : ℕ} {file' : List ℕ} → n ≡ length (encode sh hs ns) → file' ≡ write_bytes sh hs ns file → take (n - 0) (drop 0 file') ≡ encode sh hs ns
+          part_again : {n : ℕ} {file' : List ℕ} → n ≡ length (encode sh hs ns) → file' ≡ write_bytes sh hs ns file → take n file' ≡ encode sh hs ns
           unfolding write_bytes
           part_again {n} d f =
-              rw (f, eq-eqb _ _ y) (take_at (encode sh hs ns) (drop (length (encode sh hs ns)) file) (n - 0) (omega (arith, d)))
+              rw (f, eq-eqb _ _ y) (take_at (encode sh hs ns) (drop (length (encode sh hs ns)) file) n (omega (arith, d)))
 
           back_accepted : {file' : List ℕ} → file' ≡ write_bytes sh hs ns file →
               (read_of (encode sh hs ns) (length again) ≡ back_of sh hs ns (length file) (length again)) ×
-              ((file' ≡ back_bytes sh hs ns file (length again)) × (read_hops (encode sh hs ns) again ≡ back_hops sh hs ns (length file) again))
+              (file' ≡ back_bytes sh hs ns file (length again)) × (read_hops (encode sh hs ns) again ≡ back_hops sh hs ns (length file) again)
           unfolding read_of read_hops write_bytes back_of back_bytes back_hops
           back_accepted f =
-              (rw (same.accepts, eq-eqb _ _ back_zero) same.same_contents, (f ∙ rw (eq-eqb _ _ y, eq-eqb _ _ back_zero), rw (same.accepts, eq-eqb _ _ back_zero, same.same_hops)))
+              (rw (same.accepts, eq-eqb _ _ back_zero) same.same_contents, f ∙ rw (eq-eqb _ _ y, eq-eqb _ _ back_zero), rw (same.accepts, eq-eqb _ _ back_zero, same.same_hops))
 
           pub written_capacity : length (encode sh hs ns) ≤ length file
           unfolding write_answer
           written_capacity =
-              go (leb (length (encode sh hs ns)) (length file)) refl (both_accept (given_answer sh hs ns) (capacity_answer (length (encode sh hs ns)) (length file)) y).1 where
-                go : (t : Bool) → leb (length (encode sh hs ns)) (length file) ≡ t → (cond t accepted (refused 6 0)).number ≡ 0 → length (encode sh hs ns) ≤ length file
-                go true d x = leb-true _ _ d
-                go false d x = absurd (omega arith)
+              (capacity_accepts (length (encode sh hs ns)) (length file)
+              (both_accept (given_answer sh hs ns) (capacity_answer (length (encode sh hs ns)) (length file)) y).1).1
 
           pub back_gives : {n : ℕ} {file' again' : List ℕ} {r : Contents} → n ≡ length (encode sh hs ns) → file' ≡ write_bytes sh hs ns file →
-              r ≡ read_of (take (n - 0) (drop 0 file')) (length again) → again' ≡ read_hops (take (n - 0) (drop 0 file')) again →
-              (r ≡ back_of sh hs ns (length file) (length again)) × ((file' ≡ back_bytes sh hs ns file (length again)) × (again' ≡ back_hops sh hs ns (length file) again))
+              r ≡ read_of (take n file') (length again) → again' ≡ read_hops (take n file') again →
+              (r ≡ back_of sh hs ns (length file) (length again)) × (file' ≡ back_bytes sh hs ns file (length again)) × (again' ≡ back_hops sh hs ns (length file) again)
           back_gives d f p q =
-              let g = back_accepted f in
-              (p ∙ ap (λ (x : List ℕ). read_of x (length again)) (part_again d f) ∙ g.0, (g.1.0, q ∙ ap (λ (x : List ℕ). read_hops x again) (part_again d f) ∙ g.1.1))
+              let (contents, bytes, hops) = back_accepted f in
+              (p ∙ ap (λ (x : List ℕ). read_of x (length again)) (part_again d f) ∙ contents, bytes, q ∙ ap (λ (x : List ℕ). read_hops x again) (part_again d f) ∙ hops)

@@ -115,10 +115,10 @@ module _ (sh : Shape) (hs ns : List ℕ) where
     unfolding write_of
     refused_gives e n = rw (← e, ne_eqb _ _ n)
 
-    pub accepted_gives : {a : Answer} {n : ℕ} → a ≡ accepted → accepted ≡ write_answer sh hs ns capacity → n ≡ length (encode sh hs ns) →
-        ◌≡◌ {A = Written} (record { answer = a; length = n }) (write_of sh hs ns capacity)
+    pub accepted_gives : {n : ℕ} → accepted ≡ write_answer sh hs ns capacity → n ≡ length (encode sh hs ns) →
+        ◌≡◌ {A = Written} (record { answer = accepted; length = n }) (write_of sh hs ns capacity)
     unfolding write_of
-    accepted_gives e y d = rw (e, d, ← y)
+    accepted_gives y d = rw (d, ← y)
 
     pub gives_answer : (write_of sh hs ns capacity).answer ≡ write_answer sh hs ns capacity
     unfolding write_of

@@ -1,9 +1,10 @@
 -- What writing a file answers and writes. Assumes nothing: these are definitions.
-use Rattle.std.specs.Prelude.{ℕ, ◌-◌, cond, List, length, eqb, ltb}
-use Rattle.graph.specs.Answers.{accepted, refused, and_then, capacity_answer}
+use Rattle.std.specs.Prelude.{ℕ, ◌-◌, cond, List, length, eqb, ltb, Result, Ok, Err}
+use Rattle.graph.specs.Answers.{accepted, refused, and_then, capacity_answer, refusal_answer}
 use Rattle.graph_check.specs.Check.{check_of}
 use Rattle.graph.specs.declared.Shape.{Shape}
 use Rattle.graph.specs.declared.Answer.{Answer}
+use Rattle.graph.specs.declared.Refusal.{Refusal}
 use Rattle.file_names.specs.Block.{name_at, first_bad}
 use Rattle.base_outputs.specs.Output.{written}
 use Rattle.file_encode.specs.Encode.{encode}
@@ -33,6 +34,11 @@ write_answer sh hs ns capacity = and_then (given_answer sh hs ns) (capacity_answ
 -- "with any number but 0 every other figure in the answer is 0"
 abbrev pub refused_written : Answer → Written
 refused_written a = record { answer = a; length = 0 }
+
+-- the figures of what `write` returns: how many bytes it wrote, or a refusal
+abbrev pub written_record : Result ℕ Refusal → Written
+written_record (Ok n) = record { answer = accepted; length = n }
+written_record (Err r) = refused_written (refusal_answer r)
 
 unfoldable pub write_of : Shape → List ℕ → List ℕ → ℕ → Written
 write_of sh hs ns capacity =

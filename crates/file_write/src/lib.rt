@@ -6,11 +6,35 @@
 // the bytes.
 #![tactic(auto)]
 
+ghost use Rattle.std.specs.Prelude.{◌≡◌};
+ghost use Rattle.file_write.specs.Write.{written_record};
+
+use graph::answers::ACCEPTED;
+use graph::{Answer, Refusal};
+
 pub mod writing; // writing.rt: the entry and its answer
 
-// What writing returns: the answer, and how many bytes were written.
+// The figures of what writing returns: the answer, and how many bytes were written.
 #[derive(Clone, Copy)]
 pub struct Written {
-    pub answer: graph::Answer,
+    pub answer: Answer,
     pub length: usize,
+}
+
+// With a refusal the length is 0.
+impl From<Result<usize, Refusal>> for Written {
+    ghost from_gives = { λ r w. w ≡ written_record r };
+
+    fn from(outcome: Result<usize, Refusal>) -> Written {
+        match outcome {
+            Ok(length) => Written {
+                answer: ACCEPTED,
+                length,
+            },
+            Err(refusal) => Written {
+                answer: Answer::from(refusal),
+                length: 0,
+            },
+        }
+    }
 }

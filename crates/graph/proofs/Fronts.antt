@@ -1,5 +1,5 @@
--- Laws of hops written at the front of a flat list: what then stands at a place, that a hop put at
--- a place changes that hop alone, and that what lies past the front stays. Assumes nothing.
+-- Laws of hops written at the front of a flat list: what then stands at a place, and that what lies
+-- past the front stays. Assumes nothing.
 use Prim.Native.Nat.{ℕ, zero, suc, ◌+◌, ◌-◌, ◌<◌, ◌≤◌}
 use mathlib.Core.Path.{◌≡◌, refl, sym, ap, ◌∙◌}
 use mathlib.Core.List.{List, [], ◌∷◌, ◌++◌, append_assoc}
@@ -8,7 +8,7 @@ use native.Mathlib.Nat.{eq-or-lt_of_le, le_of_suc-le-suc, not-suc-le-zero}
 use native.Mathlib.Numerals.{add-one}
 use native.Mathlib.Omega.{arith}
 use lib.ListN.{length, get_or, set, drop, length-append, length-drop, length-set, get_or-append}
-use lib.Seq.{drop-cons, drop-drop, drop-append-add, get_or_at, get_or-set_same, get_or-set_other, take_at, ext_get_or}
+use lib.Seq.{drop-cons, drop-drop, drop-append-add, get_or_at, take_at, ext_get_or}
 use Rattle.graph.specs.Hops.{count, from, label, to, line_at, lined_hop, hop_at, Alike, flat, between, number_place}
 use Rattle.graph.specs.Internal.Hops.{no_hop, put, front, over}
 use Rattle.graph.specs.declared.Hop.{Hop}
@@ -149,24 +149,6 @@ module _ (hs : List ℕ) {n : ℕ} (l : n ≤ count hs) where
 
   pub between_at : {i : ℕ} → i < n → hop_at (between hs 0 n) i ≡ hop_at hs i
   between_at {i} k = ap (λ (m : List ℕ). hop_at m i) between_front ∙ flat_at (front n hs) i ∙ get_d_front hs n k
-
--- a hop put at a place stands there, and the others stand as they stood
-module _ (hs : List ℕ) (h : Hop) {n : ℕ} (l : n < count hs) where
-  put_is : put hs n h ≡ over (set (front (count hs) hs) n h) hs
-  put_is =
-      ap (λ (m : List ℕ). put m n h) (sym (over_front hs (count hs) (omega arith))) ∙
-      put_over hs h (front (count hs) hs) (omega (arith, length_front hs (count hs)))
-
-  reads : {i : ℕ} → i < count hs → hop_at (put hs n h) i ≡ get_or (set (front (count hs) hs) n h) i no_hop
-  reads {i} k =
-      ap (λ (m : List ℕ). hop_at m i) put_is ∙
-      hop_over hs (set (front (count hs) hs) n h) (omega (arith, length-set (front (count hs) hs) n h, length_front hs (count hs)))
-
-  pub put_same : hop_at (put hs n h) n ≡ h
-  put_same = reads l ∙ get_or-set_same (front (count hs) hs) n h no_hop (omega (arith, length_front hs (count hs)))
-
-  pub put_other : {i : ℕ} → i < count hs → (i ≡ n → ⊥) → hop_at (put hs n h) i ≡ hop_at hs i
-  put_other {i} k q = reads k ∙ get_or-set_other (front (count hs) hs) n i h no_hop q ∙ get_d_front hs (count hs) k
 
 -- lists whose first hops are alike and of one line, and whose other hops have one flat list, have
 -- one flat list

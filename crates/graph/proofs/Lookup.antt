@@ -1,6 +1,8 @@
 -- Laws of the search in an ascending list: the places below `lower` hold exactly the earlier hops,
 -- the search decides membership, and the places from `first_of` up to `past_of` hold exactly a
 -- state's hops. Assumes nothing.
+use Rattle.std.proofs.lemmas.Bool.{and_parts, cases_Bool, cases_lt, false_from_ne_true, not_from_false, not_from_true}
+use Rattle.std.proofs.Common.{Result, Ok, Err}
 use Prim.Native.Nat.{ℕ, ◌+◌, ◌<◌, ◌≤◌}
 use mathlib.Core.Path.{◌≡◌, refl, sym, ap, ◌∙◌, subst}
 use mathlib.Core.Bool.{Bool, true, false, not, ◌&&◌}
@@ -17,9 +19,7 @@ use Rattle.graph.specs.Internal.Sum.{sum_of, Narrow}
 use Rattle.graph.specs.Search.{lower, first_of, past_of}
 use Rattle.graph.specs.Internal.Search.{Bracket, AbsentFrom, found, placed, is_at, found_place}
 use Rattle.graph.specs.declared.Hop.{Hop}
-use Rattle.graph.specs.declared.Found.{Found}
-use Rattle.graph.specs.declared.Found.TheVariants.{At, Gap}
-use Rattle.base_bounded.proofs.Bools.{clash, decided, not_yes, not_no, no_test, and_left, and_right, same_test, lt_or_le}
+use Rattle.base_bounded.proofs.Bools.{clash, same_test}
 use Rattle.base_bounded.proofs.Quantifiers.{least_is, least_passes, least_before, least_within, any_found, any_no, all_yes}
 use Rattle.graph.proofs.Places.{is_alike, alike_is, has_place}
 use Rattle.graph.proofs.Sums.{sum_alike, sums_same}
@@ -29,15 +29,6 @@ module _ (hs : List ℕ) (h : Hop) where
   pub lower_within : lower hs h ≤ count hs
   unfolding lower
   lower_within = least_within (λ (i : ℕ). not (before (hop_at hs i) h)) (count hs)
-
-  -- the whole list brackets every hop
-  pub whole_bracket : {past : ℕ} → past ≡ count hs → Bracket hs h 0 past
-  whole_bracket e = record {
-    lo_le = omega arith;
-    hi_le = omega arith;
-    below = λ j l. absurd (omega arith);
-    above = λ j l k. absurd (omega arith);
-  }
 
   -- what brackets a hop brackets the hops of its sum
   pub sum_bracket : {lo hi n : ℕ} → Bracket hs h lo hi → (n ≡ sum_of h) × Narrow h → (g : Hop) → (n ≡ sum_of g) × Narrow g → Bracket hs g lo hi
@@ -62,15 +53,15 @@ module _ (hs : List ℕ) (h : Hop) where
   pub lower_met : {lo hi : ℕ} → Bracket hs h lo hi → hi ≤ lo → lower hs h ≡ lo
   unfolding lower
   lower_met {lo} b met =
-      least_is (λ (i : ℕ). not (before (hop_at hs i) h)) (count hs) lo (omega arith) (λ j l. not_yes (b.below j l))
-      (λ l. not_no (b.above lo met l))
+      least_is (λ (i : ℕ). not (before (hop_at hs i) h)) (count hs) lo (omega arith) (λ j l. not_from_true _ (b.below j l))
+      (λ l. not_from_false _ (b.above lo met l))
 
   module _ (up : Ascending hs) where
     -- what comes after a hop that is not before h is not before h
     after : {i j : ℕ} → i ≤ j → j < count hs → before (hop_at hs i) h ≡ false → before (hop_at hs j) h ≡ false
     after {i} {j} l m e =
         ⊎_elim (λ q. subst (λ (n : ℕ). before (hop_at hs n) h ≡ false) q e)
-        (λ k. no_test (before (hop_at hs j) h) (λ d. clash (before_trans (hop_at hs i) (hop_at hs j) h (ascending_lt hs up j k m) d) e))
+        (λ k. false_from_ne_true (before (hop_at hs j) h) (λ d. clash (before_trans (hop_at hs i) (hop_at hs j) h (ascending_lt hs up j k m) d) e))
         (eq-or-lt_of_le l)
 
     module _ (lo hi m : ℕ) (b : Bracket hs h lo hi) (lo≤m : lo ≤ m) (m<hi : m < hi) where
@@ -78,7 +69,7 @@ module _ (hs : List ℕ) (h : Hop) where
       m<n = omega arith
 
       earlier : (j : ℕ) → j < m + 1 → before (hop_at hs m) h ≡ true → before (hop_at hs j) h ≡ true
-      earlier j l e = go (decided (before (hop_at hs j) h)) where
+      earlier j l e = go (cases_Bool (before (hop_at hs j) h)) where
         go : (before (hop_at hs j) h ≡ true) ⊎ (before (hop_at hs j) h ≡ false) → before (hop_at hs j) h ≡ true
         go (inl d) = d
         go (inr d) = clash e (after (omega arith) m<n d)
@@ -92,7 +83,7 @@ module _ (hs : List ℕ) (h : Hop) where
     -- the places below `lower` are those of the hops before h
     pub lower_law : {i : ℕ} → i < count hs → ltb i (lower hs h) ≡ before (hop_at hs i) h
     unfolding lower
-    lower_law {i} l = ⊎_elim yes no (lt_or_le i (lower hs h)) where
+    lower_law {i} l = ⊎_elim yes no (cases_lt i (lower hs h)) where
       test : ℕ → Bool
       test j = not (before (hop_at hs j) h)
 
@@ -104,7 +95,7 @@ module _ (hs : List ℕ) (h : Hop) where
 
     -- a hop that stands in the list stands where the search looks
     pub lower_at : {p : ℕ} → p < count hs → Alike (hop_at hs p) h → lower hs h ≡ p
-    lower_at {p} l e = ⊎_elim over (λ k. omega (arith, not_over)) (lt_or_le (lower hs h) p) where
+    lower_at {p} l e = ⊎_elim over (λ k. omega (arith, not_over)) (cases_lt (lower hs h) p) where
       not_over : lower hs h ≤ p
       not_over = ltb-false _ _ (lower_law l ∙ alike_not_before e)
 
@@ -113,13 +104,13 @@ module _ (hs : List ℕ) (h : Hop) where
           let m : lower hs h < count hs = omega arith in
           clash (before_alike (alike_itself (hop_at hs (lower hs h))) (alike_back e) ∙ ascending_lt hs up p k l) (sym (lower_law m) ∙ le-ltb _ _ (le_refl (lower hs h)))
 
-    pub placed_at : {p : ℕ} → p < count hs → Alike (hop_at hs p) h → placed hs h ≡ At p
+    pub placed_at : {p : ℕ} → p < count hs → Alike (hop_at hs p) h → placed hs h ≡ Ok p
     unfolding placed
     placed_at {p} l e = rw (lower_at l e, lt-ltb _ _ l, alike_is hs h p e)
 
     -- a search that has come to the place of h goes on from there for a hop g that h is before
     pub bracket_on : (g : Hop) {lo hi r : ℕ} → Bracket hs h lo hi → Bracket hs g lo hi → before h g ≡ true → r ≡ lower hs h → Bracket hs g r hi
-    bracket_on g {lo} {hi} {r} b c e q = record { lo_le = ⊎_elim over (λ l. l) (lt_or_le hi r); hi_le = c.hi_le; below = low; above = c.above } where
+    bracket_on g {lo} {hi} {r} b c e q = record { lo_le = ⊎_elim over (λ l. l) (cases_lt hi r); hi_le = c.hi_le; below = low; above = c.above } where
       over : hi < r → r ≤ hi
       over l =
           let w : hi < count hs = omega (arith, lower_within) in
@@ -139,7 +130,7 @@ module _ (hs : List ℕ) (h : Hop) where
 
     pub find_end : {past : ℕ} → past ≤ r → AbsentFrom hs h past → found false r ≡ placed hs h
     unfolding placed AbsentFrom
-    find_end l f = ⊎_elim (λ m. find_found m (sym (f r l m))) (λ m. rw (← e, le-ltb _ _ m)) (lt_or_le r (count hs))
+    find_end l f = ⊎_elim (λ m. find_found m (sym (f r l m))) (λ m. rw (← e, le-ltb _ _ m)) (cases_lt r (count hs))
 
   -- the place that the search comes to
   pub found_lower : found_place (placed hs h) ≡ lower hs h
@@ -150,17 +141,17 @@ module _ (hs : List ℕ) (h : Hop) where
     go false = refl
 
   -- what the search answers holds
-  pub at_place : {p : ℕ} → placed hs h ≡ At p → (p < count hs) × (is hs h.from h.label h.to p ≡ true)
+  pub at_place : {p : ℕ} → placed hs h ≡ Ok p → (p < count hs) × (is hs h.from h.label h.to p ≡ true)
   unfolding placed
   at_place {p} e = go (ltb (lower hs h) (count hs) && is hs h.from h.label h.to (lower hs h)) refl e where
     go : (x : Bool) → (ltb (lower hs h) (count hs) && is hs h.from h.label h.to (lower hs h)) ≡ x →
-        found x (lower hs h) ≡ At p → (p < count hs) × (is hs h.from h.label h.to p ≡ true)
+        found x (lower hs h) ≡ Ok p → (p < count hs) × (is hs h.from h.label h.to p ≡ true)
     go true d f =
         let q : lower hs h ≡ p = cc in
-        rw (← q) (ltb-true _ _ (and_left (ltb (lower hs h) (count hs)) _ d), and_right (ltb (lower hs h) (count hs)) _ d)
+        rw (← q) (ltb-true _ _ (and_parts (ltb (lower hs h) (count hs)) _ d).0, (and_parts (ltb (lower hs h) (count hs)) _ d).1)
     go false d f = let z : ◌≡◌ {A = ℕ} 0 1 = cc in absurd (omega arith)
 
-  pub at_has : {p : ℕ} → placed hs h ≡ At p → has hs h.from h.label h.to ≡ true
+  pub at_has : {p : ℕ} → placed hs h ≡ Ok p → has hs h.from h.label h.to ≡ true
   unfolding has
   at_has e = let (l, f) = at_place e in any_found (is hs h.from h.label h.to) (count hs) l f
 
@@ -169,11 +160,11 @@ module _ (hs : List ℕ) (h : Hop) where
   placed_has up =
       same_test (is_at (placed hs h)) (has hs h.from h.label h.to) (told (placed hs h) refl)
       (λ e. let q = has_place hs h.from h.label h.to e in rw (placed_at up q.within (record { same_from = q.from_is; same_label = q.label_is; same_to = q.to_is }))) where
-        told : (x : Found) → placed hs h ≡ x → is_at x ≡ true → has hs h.from h.label h.to ≡ true
-        told (At p) d e = at_has d
-        told (Gap p) d e = clash e refl
+        told : (x : Result ℕ ℕ) → placed hs h ≡ x → is_at x ≡ true → has hs h.from h.label h.to ≡ true
+        told (Ok p) d e = at_has d
+        told (Err p) d e = clash e refl
 
-  pub gap_has : {p : ℕ} → Ascending hs → placed hs h ≡ Gap p → has hs h.from h.label h.to ≡ false
+  pub gap_has : {p : ℕ} → Ascending hs → placed hs h ≡ Err p → has hs h.from h.label h.to ≡ false
   gap_has up e = sym (placed_has up) ∙ ap is_at e
 
 -- in an ascending list a hop stands at one place only
@@ -183,9 +174,9 @@ one_place hs up s a t {i} {j} l m p q =
 
 -- a hop that does not come before another is not searched for before it
 pub lower_rises : (hs : List ℕ) → Ascending hs → (a b : Hop) → before b a ≡ false → lower hs a ≤ lower hs b
-lower_rises hs up a b e = ⊎_elim over (λ l. l) (lt_or_le (lower hs b) (lower hs a)) where
+lower_rises hs up a b e = ⊎_elim over (λ l. l) (cases_lt (lower hs b) (lower hs a)) where
   over : lower hs b < lower hs a → lower hs a ≤ lower hs b
-  over l = go (decided (before b (hop_at hs (lower hs b)))) where
+  over l = go (cases_Bool (before b (hop_at hs (lower hs b)))) where
     within : lower hs b < count hs
     within = omega (arith, lower_within hs a)
 
@@ -243,7 +234,7 @@ module _ (hs : List ℕ) (up : Ascending hs) where
 
   pub first_past : (s : ℕ) → first_of hs s ≤ past_of hs s
   unfolding first_of past_of
-  first_past s = lower_rises hs up (hop_of s 0 0) (hop_of (s + 1) 0 0) (no_test (before (hop_of (s + 1) 0 0) (hop_of s 0 0)) (λ e. go (before_below (hop_of (s + 1) 0 0) (hop_of s 0 0) e))) where
+  first_past s = lower_rises hs up (hop_of s 0 0) (hop_of (s + 1) 0 0) (false_from_ne_true (before (hop_of (s + 1) 0 0) (hop_of s 0 0)) (λ e. go (before_below (hop_of (s + 1) 0 0) (hop_of s 0 0) e))) where
     go : Below (hop_of (s + 1) 0 0) (hop_of s 0 0) → ⊥
     go (inl l) = omega arith
     go (inr (e, l)) = omega arith
@@ -255,13 +246,13 @@ module _ (hs : List ℕ) (up : Ascending hs) where
 -- a test over the list that only the places of a range can pass, or that all others pass
 module _ (p : ℕ → Bool) (n lo hi : ℕ) where
   pub any_range : ((j : ℕ) → j < n → p j ≡ true → (lo ≤ j) × (j < hi)) → ((j : ℕ) → lo ≤ j → j < hi → p j ≡ false) → any n p ≡ false
-  any_range out inn = any_no p n (λ j l. go j l (decided (p j))) where
+  any_range out inn = any_no p n (λ j l. go j l (cases_Bool (p j))) where
     go : (j : ℕ) → j < n → (p j ≡ true) ⊎ (p j ≡ false) → p j ≡ false
     go j l (inl e) = let (a, b) = out j l e in inn j a b
     go j l (inr e) = e
 
   pub all_range : ((j : ℕ) → j < n → p j ≡ false → (lo ≤ j) × (j < hi)) → ((j : ℕ) → lo ≤ j → j < hi → p j ≡ true) → all n p ≡ true
-  all_range out inn = all_yes p n (λ j l. go j l (decided (p j))) where
+  all_range out inn = all_yes p n (λ j l. go j l (cases_Bool (p j))) where
     go : (j : ℕ) → j < n → (p j ≡ true) ⊎ (p j ≡ false) → p j ≡ true
     go j l (inl e) = e
     go j l (inr e) = let (a, b) = out j l e in inn j a b

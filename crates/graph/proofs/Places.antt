@@ -9,19 +9,19 @@ use native.Mathlib.Omega.{arith}
 use borrow.Author.Tests.{eq-eqb, eqb-true}
 use lib.ListN.{length, get_or}
 use lib.Dec.{eqb}
+use Rattle.std.proofs.lemmas.Bool.{and_from, and_parts}
 use Rattle.graph.specs.Hops.{count, from, label, to, lined_hop, hop_of, hop_at, Alike, same, number_place, flat, is, labelled, has}
 use Rattle.graph.specs.Internal.Hops.{no_hop}
 use Rattle.graph.specs.declared.Hop.{Hop}
-use Rattle.base_bounded.proofs.Bools.{and_yes, and_left, and_right}
 use Rattle.base_bounded.proofs.Quantifiers.{any_found, any_at}
 
 -- two hops pass the test of being alike exactly when they are
 pub same_alike : (a b : Hop) → same a b ≡ true → Alike a b
-same_alike a b e = let rest = and_right (eqb a.from b.from) _ e in
+same_alike a b e = let rest = (and_parts (eqb a.from b.from) _ e).1 in
     record {
-      same_from = eqb-true _ _ (and_left (eqb a.from b.from) _ e);
-      same_label = eqb-true _ _ (and_left (eqb a.label b.label) _ rest);
-      same_to = eqb-true _ _ (and_right (eqb a.label b.label) _ rest);
+      same_from = eqb-true _ _ (and_parts (eqb a.from b.from) _ e).0;
+      same_label = eqb-true _ _ (and_parts (eqb a.label b.label) _ rest).0;
+      same_to = eqb-true _ _ (and_parts (eqb a.label b.label) _ rest).1;
     }
 
 pub alike_same : {a b : Hop} → Alike a b → same a b ≡ true
@@ -55,11 +55,11 @@ module _ (hs : List ℕ) (s a t i : ℕ) where
 module _ (hs : List ℕ) (s a i : ℕ) where
   pub labelled_yes : from hs i ≡ s → label hs i ≡ a → labelled hs s a i ≡ true
   unfolding labelled
-  labelled_yes p q = and_yes (eq-eqb _ _ p) (eq-eqb _ _ q)
+  labelled_yes p q = and_from _ _ (eq-eqb _ _ p) (eq-eqb _ _ q)
 
   pub labelled_parts : labelled hs s a i ≡ true → (from hs i ≡ s) × (label hs i ≡ a)
   unfolding labelled
-  labelled_parts e = (eqb-true _ _ (and_left (eqb (from hs i) s) _ e), eqb-true _ _ (and_right (eqb (from hs i) s) _ e))
+  labelled_parts e = (eqb-true _ _ (and_parts (eqb (from hs i) s) _ e).0, eqb-true _ _ (and_parts (eqb (from hs i) s) _ e).1)
 
 -- the hop at a place is a hop of the graph
 pub has_at : (hs : List ℕ) {i : ℕ} → i < count hs → has hs (from hs i) (label hs i) (to hs i) ≡ true

@@ -8,7 +8,8 @@ use mathlib.Core.Logic.{◌⊎◌, inl, inr}
 use native.Mathlib.Omega.{arith}
 use borrow.Author.Tests.{ltb-true, lt-ltb, le-ltb, eqb-true, eq-eqb}
 use lib.Dec.{ltb, eqb}
-use Rattle.base_bounded.proofs.Bools.{same_test, decided}
+use Rattle.std.proofs.lemmas.Bool.{cases_Bool}
+use Rattle.base_bounded.proofs.Bools.{same_test}
 use Rattle.graph.specs.Hops.{hop_of, Alike, same}
 use Rattle.graph.specs.Order.{before}
 use Rattle.graph.specs.Internal.Sum.{sum_of, Narrow}
@@ -28,7 +29,7 @@ sums_stay q = rw (q.same_from, q.same_label, q.same_to)
 -- one sum is below another exactly when its hop comes first
 pub sum_before : (a b : Hop) → Narrow a → Narrow b → ltb (sum_of a) (sum_of b) ≡ before a b
 sum_before a b n m =
-    same_test (ltb (sum_of a) (sum_of b)) (before a b) (λ e. first (ltb-true _ _ e) (decided (before a b)) (decided (before b a)))
+    same_test (ltb (sum_of a) (sum_of b)) (before a b) (λ e. first (ltb-true _ _ e) (cases_Bool (before a b)) (cases_Bool (before b a)))
     (λ e. lt-ltb _ _ (sums_rise a b n (before_below a b e))) where
       first : sum_of a < sum_of b → (before a b ≡ true) ⊎ (before a b ≡ false) → (before b a ≡ true) ⊎ (before b a ≡ false) → before a b ≡ true
       first l (inl d) q = d

@@ -5,10 +5,11 @@
 ghost use Rattle.std.specs.Prelude.{◌≡◌, ◌<◌, ◌≤◌};
 ghost use Rattle.graph.specs.Hops.{count, whole, from, label, to, line_at, lined_hop, hop_of, hop_at, is, between, part_address, number_place};
 ghost use Rattle.graph.specs.Internal.Hops.{put};
+ghost use Rattle.graph.specs.Internal.Key.{number_by, number_by_at};
 ghost use Rattle.graph.specs.Answers.{most_hops};
 
 use super::order::is_same;
-use super::{Hop, Label, NUMBERS_A_HOP, NewState, OldState};
+use super::{Hop, Key, Label, NUMBERS_A_HOP, NewState, OldState};
 
 // How many hops the list holds.
 pub fn hop_count(hops: &[u16]) -> usize
@@ -55,6 +56,7 @@ pub fn to_at(hops: &[u16], i: usize) -> OldState
     OldState(hops[NUMBERS_A_HOP * i + 2])
 }
 
+// A twin by name: one generic function would need the kind at each call, `from_at::<OldState>(..)`.
 pub fn new_from_at(hops: &[u16], i: usize) -> NewState
     requires { i < count hops.now }
     ensures { result.0 ≡ from hops.now i }
@@ -106,6 +108,29 @@ pub fn hop_at(hops: &[u16], i: usize) -> Hop
         label: hops[NUMBERS_A_HOP * i + 1],
         to: hops[NUMBERS_A_HOP * i + 2],
         line: hops[NUMBERS_A_HOP * i + 3],
+    }
+}
+
+// The number of a hop that is its key.
+pub fn number_by(h: Hop, key: Key) -> u16
+    ensures { result ≡ number_by key h }
+{
+    match key {
+        Key::From => h.from,
+        Key::Label => h.label,
+        Key::To => h.to,
+    }
+}
+
+// The key of the hop at a place. Its other numbers are not read.
+pub fn number_by_at(hops: &[u16], i: usize, key: Key) -> u16
+    requires { i < count hops.now }
+    ensures { result ≡ number_by_at key hops.now i }
+{
+    match key {
+        Key::From => from_at(hops, i).0,
+        Key::Label => label_at(hops, i).0,
+        Key::To => to_at(hops, i).0,
     }
 }
 

@@ -10,6 +10,5 @@ pub fn map_at(map: &[u16], s: OldState) -> NewState
     requires { s.0 < length map.now }
     ensures { result.0 ≡ mapped map.now s.0 }
 {
-    let at = s.0 as usize;
-    NewState(map[at])
+    NewState(map[usize::from(s.0)])
 }

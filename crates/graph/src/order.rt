@@ -2,6 +2,8 @@
 // comparison of their sums.
 // What that means is defined by from, label and to (specs/Order, specs/Hops): which hop comes
 // first, and which are alike.
+// They are functions and no `<` and `==` of a `Hop`: these would have to pass over its line, and
+// what `==` calls equal may stand for the other everywhere else.
 ghost use Rattle.std.specs.Prelude.{◌≡◌, ltb};
 ghost use Rattle.graph.specs.Hops.{same};
 ghost use Rattle.graph.specs.Order.{before};
@@ -15,7 +17,7 @@ pub fn sum_of(h: Hop) -> u64
     ensures sum { result ≡ sum_of h }
     ensures narrow { Narrow h }
 {
-    ((h.from as u64) * 65536 + h.label as u64) * 65536 + h.to as u64
+    (u64::from(h.from) * 65536 + u64::from(h.label)) * 65536 + u64::from(h.to)
 }
 
 // Whether one sum is below another. Whoever keeps a hop's sum asks here, and all others by hops.

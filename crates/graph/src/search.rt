@@ -9,11 +9,12 @@ ghost use Rattle.graph.specs.Order.{Ascending};
 ghost use Rattle.graph.specs.Search.{lower, first_of, past_of};
 ghost use Rattle.graph.specs.Internal.Search.{Bracket, AbsentFrom, found, placed, is_at, found_place};
 
+use super::Hop;
 use super::hops::{hop_at, hop_count, hop_of, is_hop_at};
 use super::order::{is_below, sum_of};
-use super::{Found, Hop};
 
 // The first place whose hop is not before h, by binary search between two places that bracket it.
+// It is by hand: `partition_point` goes over the elements of a slice, and a hop is four of them.
 pub fn lower_between(hops: &[u16], h: Hop, first: usize, past: usize) -> usize
     requires ascending { Ascending hops.now }
     requires bracket { Bracket hops.now h first past }
@@ -41,19 +42,20 @@ pub fn lower_place(hops: &[u16], h: Hop) -> usize
     lower_between(hops, h, 0, hop_count(hops))
 }
 
-// What a search returns for the place that it came to: the hop stands there, or would stand there.
-fn found_or_gap(stands: bool, at: usize) -> Found
+// What a search returns for the place that it came to: `Ok` if the hop stands there, `Err` if it
+// would stand there.
+fn found_or_gap(stands: bool, at: usize) -> Result<usize, usize>
     ensures { result ≡ found stands at }
 {
     if stands {
-        return Found::At(at);
+        return Ok(at);
     }
-    Found::Gap(at)
+    Err(at)
 }
 
 // Where the hop stands or would stand, searched for between two places that bracket it, if it does
 // not stand behind them.
-pub fn find_between(hops: &[u16], h: Hop, first: usize, past: usize) -> Found
+pub fn find_between(hops: &[u16], h: Hop, first: usize, past: usize) -> Result<usize, usize>
     requires ascending { Ascending hops.now }
     requires bracket { Bracket hops.now h first past }
     requires absent { AbsentFrom hops.now h past }
@@ -68,26 +70,24 @@ pub fn find_between(hops: &[u16], h: Hop, first: usize, past: usize) -> Found
 
 // The same by a scan from the first of the two places: for hops that are sought one after the
 // other, each not far behind the one before.
-pub fn find_ahead(hops: &[u16], h: Hop, first: usize, past: usize) -> Found
+pub fn find_ahead(hops: &[u16], h: Hop, first: usize, past: usize) -> Result<usize, usize>
     requires ascending { Ascending hops.now }
     requires bracket { Bracket hops.now h first past }
     requires absent { AbsentFrom hops.now h past }
     ensures { result ≡ placed hops.now h }
 {
     let sought = sum_of(h);
-    let mut at = first;
-    while at < past {
+    for at in first..past {
         let sum = sum_of(hop_at(hops, at));
         if !is_below(sum, sought) {
             return found_or_gap(sum == sought, at);
         }
-        at += 1;
     }
-    found_or_gap(false, at)
+    found_or_gap(false, past)
 }
 
 // Where the hop stands or would stand, in the whole list.
-pub fn find(hops: &[u16], h: Hop) -> Found
+pub fn find(hops: &[u16], h: Hop) -> Result<usize, usize>
     requires { Ascending hops.now }
     ensures { result ≡ placed hops.now h }
 {
@@ -95,21 +95,17 @@ pub fn find(hops: &[u16], h: Hop) -> Found
 }
 
 // Whether a search found its hop, and the place it came to: there the hop stands, or would stand.
-pub fn is_at(found: Found) -> bool
+pub fn is_at(found: Result<usize, usize>) -> bool
     ensures { result ≡ is_at found }
 {
-    match found {
-        Found::At(_) => true,
-        Found::Gap(_) => false,
-    }
+    found.is_ok()
 }
 
-pub fn place_of(found: Found) -> usize
+pub fn place_of(found: Result<usize, usize>) -> usize
     ensures { result ≡ found_place found }
 {
     match found {
-        Found::At(p) => p,
-        Found::Gap(p) => p,
+        Ok(at) | Err(at) => at,
     }
 }
 

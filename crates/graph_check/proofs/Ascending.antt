@@ -53,8 +53,3 @@ module _ (hs : List ℕ) where
   pub ends : {n i last : ℕ} → n ≡ count hs → i ≤ n → n ≤ i → Risen i last → n ≡ first_not_ascending hs
   unfolding first_not_ascending
   ends e l m r = e ∙ sym (least_done _ (omega arith) (omega arith) r.none_falls)
-
-  -- a list without hops
-  pub empty : count hs ≡ 0 → 0 ≡ first_not_ascending hs
-  unfolding first_not_ascending
-  empty e = rw e (sym (least_none _))

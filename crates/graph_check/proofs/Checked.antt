@@ -1,5 +1,5 @@
--- The ways out of `check` and what its answer means: 0 exactly for the graphs that document 01
--- admits, and the places of rows 3 and 4 are the first such hops. Assumes nothing.
+-- What the answer of `check` means: 0 exactly for the graphs that document 01 admits, and the
+-- places of rows 3 and 4 are the first such hops. Assumes nothing.
 use Prim.Native.Nat.{ℕ, zero, suc, ◌+◌, ◌-◌, ◌%◌, ◌<◌, ◌≤◌}
 use mathlib.Core.Path.{◌≡◌, refl, sym, ap, subst}
 use mathlib.Core.Bool.{Bool, true, false, cond, not, ◌&&◌}
@@ -11,49 +11,28 @@ use native.Mathlib.Omega.{arith}
 use borrow.Author.Tests.{ltb-true, ltb-false, leb-true, leb-false, eqb-true, lt-ltb, le-ltb, le-leb, lt-leb, eq-eqb, not-true, not-false}
 use lib.ListN.{length}
 use lib.Dec.{eqb, leb, ltb}
+use Rattle.std.proofs.lemmas.Bool.{and_parts, not_from_true, or_cases, or_right}
 use Rattle.base_bounded.specs.Quantifiers.{least}
 use Rattle.base_bounded.specs.Internal.Quantifiers.{FirstFailing}
-use Rattle.graph.specs.Hops.{numbers_a_hop, count, from, label, to, hop_at}
+use Rattle.graph.specs.Hops.{numbers_a_hop, count, from, label, hop_at}
 use Rattle.graph.specs.Order.{before, Ascending}
 use Rattle.graph.specs.Answers.{most_states, most_labels, most_hops, accepted, refused}
 use Rattle.graph_check.specs.Check.{counts_fit, inside, first_outside, ascends_at, first_not_ascending, check_of, InRange, Admitted}
-use Rattle.graph.specs.declared.Hop.{Hop}
 use Rattle.graph.specs.declared.Shape.{Shape}
 use Rattle.graph.specs.declared.Answer.{Answer}
-use Rattle.base_bounded.proofs.Bools.{not_yes, and_left, and_right, or_yes, or_right}
 use Rattle.base_bounded.proofs.Quantifiers.{least_no, least_passes, least_before}
 
--- row 3 of the hop that stands at a place
-pub inside_hop : (sh : Shape) (hs : List ℕ) (i : ℕ) {h : Hop} → h ≡ hop_at hs i →
-    (ltb h.from sh.states && ltb h.label sh.labels && ltb h.to sh.states) ≡ inside sh hs i
-unfolding inside
-inside_hop sh hs i e = rw e
-
 module _ (sh : Shape) (hs : List ℕ) where
-  module _ {fit : Bool} (f : fit ≡ counts_fit sh hs) where
-    -- the ways out, in the order of the code
-    pub check_counts : not fit ≡ true → refused 1 0 ≡ check_of sh hs
-    unfolding check_of
-    check_counts e = rw (← f, e)
+  -- row 1, where it speaks, is the answer
+  pub check_counts : {fit : Bool} → fit ≡ counts_fit sh hs → not fit ≡ true → refused 1 0 ≡ check_of sh hs
+  unfolding check_of
+  check_counts f e = rw (← f, e)
 
-    module _ (e : not fit ≡ false) where
-      pub check_initial : sh.states ≤ sh.initial → refused 2 0 ≡ check_of sh hs
-      unfolding check_of
-      check_initial l = rw (← f, e, le-leb _ _ l)
-
-      module _ (l : sh.initial < sh.states) {o : ℕ} (p : o ≡ first_outside sh hs) where
-        pub check_range : o < count hs → refused 3 o ≡ check_of sh hs
-        unfolding check_of
-        check_range m = rw (← f, e, lt-leb _ _ l, ← p, lt-ltb _ _ m)
-
-        module _ (m : count hs ≤ o) {w : ℕ} (q : w ≡ first_not_ascending hs) where
-          pub check_order : w < count hs → refused 4 w ≡ check_of sh hs
-          unfolding check_of
-          check_order k = rw (← f, e, lt-leb _ _ l, ← p, le-ltb _ _ m, ← q, lt-ltb _ _ k)
-
-          pub check_accepts : count hs ≤ w → accepted ≡ check_of sh hs
-          unfolding check_of
-          check_accepts k = rw (← f, e, lt-leb _ _ l, ← p, le-ltb _ _ m, ← q, le-ltb _ _ k)
+  -- no row speaks
+  check_accepts : not (counts_fit sh hs) ≡ false → sh.initial < sh.states → count hs ≤ first_outside sh hs → count hs ≤ first_not_ascending hs →
+      accepted ≡ check_of sh hs
+  unfolding check_of
+  check_accepts e l m k = rw (e, lt-leb _ _ l, le-ltb _ _ m, le-ltb _ _ k)
 
 -- the least number that fails a test, as the code looks for it
 first_failing : (n : ℕ) (p : ℕ → Bool) → least n (λ (i : ℕ). not (p i)) < n → FirstFailing n p (least n (λ (i : ℕ). not (p i)))
@@ -67,16 +46,16 @@ none_failing : (n : ℕ) (p : ℕ → Bool) → n ≤ least n (λ (i : ℕ). not
 none_failing n p l j k = not-false (p j) (least_before (λ (i : ℕ). not (p i)) n (omega arith))
 
 all_passing : (n : ℕ) (p : ℕ → Bool) → ((j : ℕ) → j < n → p j ≡ true) → least n (λ (i : ℕ). not (p i)) ≡ n
-all_passing n p f = least_no (λ (i : ℕ). not (p i)) n (λ j l. not_yes (f j l))
+all_passing n p f = least_no (λ (i : ℕ). not (p i)) n (λ j l. not_from_true _ (f j l))
 
 module _ (sh : Shape) (hs : List ℕ) where
   -- row 3 passed by each hop is "in range"
   inside_range : ((i : ℕ) → i < count hs → inside sh hs i ≡ true) → InRange sh hs
   unfolding inside
   inside_range f = record {
-    from_in = λ i l. ltb-true _ _ (and_left (ltb (from hs i) sh.states) _ (and_left (ltb (from hs i) sh.states && ltb (label hs i) sh.labels) _ (f i l)));
-    label_in = λ i l. ltb-true _ _ (and_right (ltb (from hs i) sh.states) _ (and_left (ltb (from hs i) sh.states && ltb (label hs i) sh.labels) _ (f i l)));
-    to_in = λ i l. ltb-true _ _ (and_right (ltb (from hs i) sh.states && ltb (label hs i) sh.labels) _ (f i l));
+    from_in = λ i l. ltb-true _ _ (and_parts (ltb (from hs i) sh.states) _ (and_parts (ltb (from hs i) sh.states && ltb (label hs i) sh.labels) _ (f i l)).0).0;
+    label_in = λ i l. ltb-true _ _ (and_parts (ltb (from hs i) sh.states) _ (and_parts (ltb (from hs i) sh.states && ltb (label hs i) sh.labels) _ (f i l)).0).1;
+    to_in = λ i l. ltb-true _ _ (and_parts (ltb (from hs i) sh.states && ltb (label hs i) sh.labels) _ (f i l)).1;
   }
 
   range_inside : InRange sh hs → (i : ℕ) → i < count hs → inside sh hs i ≡ true
@@ -86,7 +65,7 @@ module _ (sh : Shape) (hs : List ℕ) where
   -- row 4 passed by each hop is "strictly ascending"
   rising_ascends : ((i : ℕ) → i < count hs → ascends_at hs i ≡ true) → Ascending hs
   unfolding ascends_at Ascending
-  rising_ascends f i l = go (or_yes (eqb (i + 1) 0) _ (f (i + 1) l)) where
+  rising_ascends f i l = go (or_cases (eqb (i + 1) 0) _ (f (i + 1) l)) where
     back : i + 1 - 1 ≡ i
     back = omega arith
 
@@ -97,7 +76,7 @@ module _ (sh : Shape) (hs : List ℕ) where
   ascends_rising : Ascending hs → (i : ℕ) → i < count hs → ascends_at hs i ≡ true
   unfolding ascends_at Ascending
   ascends_rising up zero l = refl
-  ascends_rising up (suc i) l = or_right (eqb (suc i) 0) (subst (λ (n : ℕ). before (hop_at hs n) (hop_at hs (suc i)) ≡ true) back here) where
+  ascends_rising up (suc i) l = or_right (eqb (suc i) 0) _ (subst (λ (n : ℕ). before (hop_at hs n) (hop_at hs (suc i)) ≡ true) back here) where
     back : i ≡ suc i - 1
     back = omega arith
 
@@ -116,17 +95,17 @@ module _ (sh : Shape) (hs : List ℕ) where
   counts_limits : counts_fit sh hs ≡ true → Limits
   unfolding counts_fit
   counts_limits e =
-      let p5 = and_left (leb 1 sh.states && leb sh.states most_states && leb 1 sh.labels && leb sh.labels most_labels && leb (count hs) most_hops) _ e in
-      let p4 = and_left (leb 1 sh.states && leb sh.states most_states && leb 1 sh.labels && leb sh.labels most_labels) _ p5 in
-      let p3 = and_left (leb 1 sh.states && leb sh.states most_states && leb 1 sh.labels) _ p4 in
-      let p2 = and_left (leb 1 sh.states && leb sh.states most_states) _ p3 in
+      let p5 = (and_parts (leb 1 sh.states && leb sh.states most_states && leb 1 sh.labels && leb sh.labels most_labels && leb (count hs) most_hops) _ e).0 in
+      let p4 = (and_parts (leb 1 sh.states && leb sh.states most_states && leb 1 sh.labels && leb sh.labels most_labels) _ p5).0 in
+      let p3 = (and_parts (leb 1 sh.states && leb sh.states most_states && leb 1 sh.labels) _ p4).0 in
+      let p2 = (and_parts (leb 1 sh.states && leb sh.states most_states) _ p3).0 in
       record {
-        states_some = leb-true _ _ (and_left (leb 1 sh.states) _ p2);
-        states_most = leb-true _ _ (and_right (leb 1 sh.states) _ p2);
-        labels_some = leb-true _ _ (and_right (leb 1 sh.states && leb sh.states most_states) _ p3);
-        labels_most = leb-true _ _ (and_right (leb 1 sh.states && leb sh.states most_states && leb 1 sh.labels) _ p4);
-        hops_most = leb-true _ _ (and_right (leb 1 sh.states && leb sh.states most_states && leb 1 sh.labels && leb sh.labels most_labels) _ p5);
-        whole_hops = eqb-true _ _ (and_right (leb 1 sh.states && leb sh.states most_states && leb 1 sh.labels && leb sh.labels most_labels && leb (count hs) most_hops) _ e);
+        states_some = leb-true _ _ (and_parts (leb 1 sh.states) _ p2).0;
+        states_most = leb-true _ _ (and_parts (leb 1 sh.states) _ p2).1;
+        labels_some = leb-true _ _ (and_parts (leb 1 sh.states && leb sh.states most_states) _ p3).1;
+        labels_most = leb-true _ _ (and_parts (leb 1 sh.states && leb sh.states most_states && leb 1 sh.labels) _ p4).1;
+        hops_most = leb-true _ _ (and_parts (leb 1 sh.states && leb sh.states most_states && leb 1 sh.labels && leb sh.labels most_labels) _ p5).1;
+        whole_hops = eqb-true _ _ (and_parts (leb 1 sh.states && leb sh.states most_states && leb 1 sh.labels && leb sh.labels most_labels && leb (count hs) most_hops) _ e).1;
       }
 
   limits_counts : Limits → counts_fit sh hs ≡ true
@@ -183,7 +162,7 @@ module _ (sh : Shape) (hs : List ℕ) where
   pub admitted_check : Admitted sh hs → check_of sh hs ≡ accepted
   unfolding first_outside first_not_ascending
   admitted_check a =
-      sym (check_accepts sh hs refl (not_yes (limits_counts limits)) a.initial_in refl outside refl falling)
+      sym (check_accepts sh hs (not_from_true _ (limits_counts limits)) a.initial_in outside falling)
     where
       limits : Limits
       limits = record {

@@ -8,14 +8,16 @@
 
 ghost use Rattle.std.specs.Prelude.{◌≡◌, ◌<◌};
 ghost use Rattle.graph.specs.Hops.{count};
+ghost use Rattle.graph.specs.Answers.{answer_of};
+ghost use Rattle.graph_check.specs.Internal.Places.{place_below};
 ghost use Rattle.graph_check.specs.Check.{counts_fit, inside, first_outside, first_not_ascending, check_of};
 
-use graph::answers::{accept, refuse};
 use graph::hops::{hop_at, hop_count, is_whole};
 use graph::order::{is_below, sum_of};
-use graph::{Answer, MOST_HOPS, MOST_LABELS, MOST_STATES, Shape};
+use graph::{MOST_HOPS, MOST_LABELS, MOST_STATES, Refusal, Shape};
 
 // Row 1.
+#[tactic(auto, unfolding(crate::specs::Check::counts_fit))]
 fn counts_fit(shape: Shape, hops: &[u16]) -> bool
     ensures { result ≡ counts_fit shape hops.now }
 {
@@ -30,72 +32,67 @@ fn counts_fit(shape: Shape, hops: &[u16]) -> bool
 }
 
 // Row 3 of one hop.
+#[tactic(auto, unfolding(crate::specs::Check::inside))]
 fn is_inside(shape: Shape, hops: &[u16], i: usize) -> bool
     requires { i < count hops.now }
     ensures { result ≡ inside shape hops.now i }
 {
     let hop = hop_at(hops, i);
-    ((hop.from as u32) < shape.states)
-        & ((hop.label as u32) < shape.labels)
-        & ((hop.to as u32) < shape.states)
+    (u32::from(hop.from) < shape.states)
+        & (u32::from(hop.label) < shape.labels)
+        & (u32::from(hop.to) < shape.states)
 }
 
-// Row 3: the first hop out of range, or the number of hops.
-fn first_outside(shape: Shape, hops: &[u16]) -> usize
-    ensures { result ≡ first_outside shape hops.now }
+// Row 3: the first hop out of range.
+#[tactic(auto, using(crate::proofs::Placed::none_passed), unfolding(crate::specs::Check::first_outside))]
+fn first_outside(shape: Shape, hops: &[u16]) -> Option<usize>
+    ensures { result ≡ place_below (count hops.now) (first_outside shape hops.now) }
 {
-    let n = hop_count(hops);
-    let mut i = 0;
-    while i < n {
+    for i in 0..hop_count(hops) {
         if !is_inside(shape, hops, i) {
-            return i;
+            return Some(i);
         }
-        i += 1;
     }
-    n
+    None
 }
 
-// Row 4: the first hop not above the one before, or the number of hops. The sum of each hop is made
-// once, and kept for the next.
-fn first_not_ascending(hops: &[u16]) -> usize
-    ensures { result ≡ first_not_ascending hops.now }
+// Row 4: the first hop not above the one before. The sum of each hop is made once, and kept for the
+// next.
+fn first_not_ascending(hops: &[u16]) -> Option<usize>
+    ensures { result ≡ place_below (count hops.now) (first_not_ascending hops.now) }
 {
     let n = hop_count(hops);
     if n == 0 {
-        return 0;
+        return None;
     }
     let mut last = sum_of(hop_at(hops, 0));
-    let mut i = 1;
-    while i < n {
+    for i in 1..n {
         let sum = sum_of(hop_at(hops, i));
         if !is_below(last, sum) {
-            return i;
+            return Some(i);
         }
         last = sum;
-        i += 1;
     }
-    n
+    None
 }
 
 // The entry. Rows 1 to 4 in their order: a hop out of range anywhere speaks before any hop out of
 // order.
-pub fn check(shape: Shape, hops: &[u16]) -> Answer
-    ensures { result ≡ check_of shape hops.now }
+#[tactic(auto, unfolding(crate::specs::Check::check_of))]
+pub fn check(shape: Shape, hops: &[u16]) -> Result<(), Refusal>
+    ensures { answer_of result ≡ check_of shape hops.now }
 {
     if !counts_fit(shape, hops) {
-        return refuse(1, 0);
+        return Err(Refusal::Counts);
     }
     if shape.states <= shape.initial {
-        return refuse(2, 0);
+        return Err(Refusal::Initial);
     }
-    let n = hop_count(hops);
-    let outside = first_outside(shape, hops);
-    if outside < n {
-        return refuse(3, outside);
+    if let Some(outside) = first_outside(shape, hops) {
+        return Err(Refusal::HopOutside(outside));
     }
-    let falling = first_not_ascending(hops);
-    if falling < n {
-        return refuse(4, falling);
+    if let Some(falling) = first_not_ascending(hops) {
+        return Err(Refusal::HopNotAscending(falling));
     }
-    accept()
+    Ok(())
 }

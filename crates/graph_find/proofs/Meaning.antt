@@ -8,13 +8,14 @@ use mathlib.Core.List.{List}
 use mathlib.Core.Logic.{◌⊎◌, inl, inr, ⊎_elim}
 use native.Mathlib.Omega.{arith}
 use borrow.Author.Tests.{lt-ltb, le-ltb, ne_eqb}
+use Rattle.std.proofs.lemmas.Bool.{cases_lt, false_from_ne_true}
 use Rattle.graph.specs.Hops.{count, hop_of, hop_at, is, has}
 use Rattle.graph.specs.Order.{before}
 use Rattle.graph.specs.Search.{lower}
 use Rattle.graph_check.specs.Check.{check_of, Admitted}
 use Rattle.graph.specs.declared.Shape.{Shape}
 use Rattle.graph.specs.declared.Hop.{Hop}
-use Rattle.base_bounded.proofs.Bools.{clash, no_test, lt_or_le}
+use Rattle.base_bounded.proofs.Bools.{clash}
 use Rattle.graph.proofs.Places.{Place, is_yes, has_place}
 use Rattle.graph.proofs.Lookup.{lower_within, lower_law, lower_at}
 use Rattle.graph_check.proofs.Checked.{admitted_check}
@@ -77,7 +78,7 @@ module _ {sh : Shape} {hs : List ℕ} (ok : Admitted sh hs) (s a t : ℕ) where
     found_stands_there = rw place_is (is_yes hs s a t stands.at stands.from_is stands.label_is stands.to_is)
 
   pub out_of_range_not_found : (sh.states ≤ s) ⊎ ((sh.labels ≤ a) ⊎ (sh.states ≤ t)) → finding.found ≡ 0
-  out_of_range_not_found o = found_exactly_when_had ∙ ap (λ (x : Bool). cond x 1 0) (no_test (has hs s a t) (λ d. go (has_place hs s a t d) o)) where
+  out_of_range_not_found o = found_exactly_when_had ∙ ap (λ (x : Bool). cond x 1 0) (false_from_ne_true (has hs s a t) (λ d. go (has_place hs s a t d) o)) where
     go : Place hs s a t → (sh.states ≤ s) ⊎ ((sh.labels ≤ a) ⊎ (sh.states ≤ t)) → ⊥
     go p (inl l) = omega (arith, ok.range.from_in p.at p.within, p.from_is)
     go p (inr (inl l)) = omega (arith, ok.range.label_in p.at p.within, p.label_is)
@@ -99,7 +100,7 @@ module _ {sh : Shape} {hs : List ℕ} (ok : Admitted sh hs) (s a t : ℕ) where
 not_below : {sh : Shape} {hs : List ℕ} {s a t : ℕ} {f g : Finding} → Finds sh hs s a t f → Finds sh hs s a t g → g.place ≤ f.place
 not_below {f = f} {g = g} p q =
     ⊎_elim (λ l. clash (q.below_before f.place l) (p.above_not f.place (omega arith) (omega (arith, l, q.place_within)))) (λ l. l)
-    (lt_or_le f.place g.place)
+    (cases_lt f.place g.place)
 
 -- what is said of a finding fixes its figures
 pub only_one_finding : {sh : Shape} {hs : List ℕ} {s a t : ℕ} {f g : Finding} → Finds sh hs s a t f → Finds sh hs s a t g →

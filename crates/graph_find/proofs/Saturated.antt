@@ -8,11 +8,11 @@ use mathlib.Core.Logic.{⊎_elim}
 use native.Mathlib.Omega.{arith}
 use borrow.Author.Tests.{lt-ltb, le-ltb, ne_eqb}
 use lib.Dec.{eqb, ltb}
+use Rattle.std.proofs.lemmas.Bool.{cases_lt}
 use Rattle.graph.specs.Hops.{count, from, label, to, hop_of, hop_at, is, has}
 use Rattle.graph.specs.Order.{before}
 use Rattle.graph_check.specs.Check.{Admitted}
 use Rattle.graph.specs.declared.Shape.{Shape}
-use Rattle.base_bounded.proofs.Bools.{lt_or_le}
 use Rattle.base_bounded.proofs.Quantifiers.{any_same, tally_same}
 use Rattle.graph_find.specs.Find.{hops_before}
 use Rattle.graph_find.specs.Internal.Find.{saturated}
@@ -31,13 +31,13 @@ module _ (y x : ℕ) (l : y < 65535) where
   ltb_narrowed : ltb y (saturated x) ≡ ltb y x
   ltb_narrowed =
       ⊎_elim (λ k. rw (← saturate_fits x k)) (λ k. rw (← saturate_large x k) (lt-ltb y 65535 l ∙ sym (lt-ltb y x (omega arith))))
-      (lt_or_le x 65535)
+      (cases_lt x 65535)
 
   eqb_narrowed : eqb y (saturated x) ≡ eqb y x
   eqb_narrowed =
       ⊎_elim (λ k. rw (← saturate_fits x k))
       (λ k. rw (← saturate_large x k) (ne_eqb y 65535 (λ e. omega arith) ∙ sym (ne_eqb y x (λ e. omega arith))))
-      (lt_or_le x 65535)
+      (cases_lt x 65535)
 
 module _ {sh : Shape} {hs : List ℕ} (ok : Admitted sh hs) (s a t : ℕ) where
   -- at each place the hop that is sought is compared as the one asked for

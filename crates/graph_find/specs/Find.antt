@@ -1,16 +1,24 @@
 -- Find, of document 02: "one search that tells whether a graph has a given hop should also return
 -- its place, or where it would stand". Assumes nothing: these are definitions.
-use Rattle.std.specs.Prelude.{ℕ, ◌<◌, ◌≤◌, ◌≡◌, true, false, cond, ◌&&◌, List, ◌⊎◌, eqb}
+use Rattle.std.specs.Prelude.{ℕ, ◌<◌, ◌≤◌, ◌≡◌, true, false, cond, ◌&&◌, List, ◌⊎◌, eqb, Result, Ok, Err}
 use Rattle.base_bounded.specs.Quantifiers.{tally}
 use Rattle.graph.specs.Hops.{count, hop_of, hop_at, is, has}
 use Rattle.graph.specs.Order.{before}
 use Rattle.graph_check.specs.Check.{check_of}
+use Rattle.graph.specs.Answers.{accepted, refusal_answer}
+use Rattle.graph.specs.declared.Refusal.{Refusal}
 use Rattle.graph.specs.declared.Shape.{Shape}
 use Rattle.graph_find.specs.declared.Finding.{Finding}
 
 -- "where it would stand": how many hops of the list come before the hop s, a, t
 unfoldable pub hops_before : List ℕ → ℕ → ℕ → ℕ → ℕ
 hops_before hs s a t = tally (count hs) (λ (i : ℕ). before (hop_at hs i) (hop_of s a t))
+
+-- the figures of what `find` returns: where the hop stands, where it would stand, or a refusal
+abbrev pub finding_of : Result (Result ℕ ℕ) Refusal → Finding
+finding_of (Ok (Ok at)) = record { answer = accepted; found = 1; place = at }
+finding_of (Ok (Err gap)) = record { answer = accepted; found = 0; place = gap }
+finding_of (Err r) = record { answer = refusal_answer r; found = 0; place = 0 }
 
 -- check's answer; 1 where the graph has the hop; and how many hops come before it, which is its
 -- place where it has it. "With any number but 0 every other figure in the answer is 0"

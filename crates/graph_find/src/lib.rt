@@ -8,19 +8,37 @@
 
 ghost use Rattle.std.specs.Prelude.{◌≡◌};
 ghost use Rattle.graph_find.specs.Internal.Find.{saturated};
-ghost use Rattle.graph_find.specs.Find.{find_of};
+ghost use Rattle.graph_find.specs.Find.{finding_of, find_of};
 
+use graph::answers::answer_of;
 use graph::hops::hop_of;
-use graph::{Found, Shape};
+use graph::{Answer, Refusal, Shape};
 use graph_check::check;
 
-// What `find` returns: check's answer; 1 or 0, whether the graph has the hop; and the hop's place,
-// or where it would stand (0 and 0 with a refusal).
+// The figures of an answer: check's; 1 or 0, whether the graph has the hop; and the hop's place, or
+// where it would stand (0 and 0 with a refusal).
 #[derive(Clone, Copy)]
 pub struct Finding {
-    pub answer: graph::Answer,
+    pub answer: Answer,
     pub found: u32,
     pub place: usize,
+}
+
+impl From<Result<Result<usize, usize>, Refusal>> for Finding {
+    ghost from_gives = { λ r f. f ≡ finding_of r };
+
+    fn from(outcome: Result<Result<usize, usize>, Refusal>) -> Finding {
+        let (found, place) = match outcome {
+            Ok(Ok(at)) => (1, at),
+            Ok(Err(gap)) => (0, gap),
+            Err(_) => (0, 0),
+        };
+        Finding {
+            answer: answer_of(&outcome),
+            found,
+            place,
+        }
+    }
 }
 
 // The largest number of 16 bits. No hop of an admitted graph has it, so it may stand for all that
@@ -37,30 +55,17 @@ fn saturate(x: u32) -> u16
     LARGEST as u16
 }
 
-// The entry.
-pub fn find(shape: Shape, hops: &[u16], from: u32, label: u32, to: u32) -> Finding
-    ensures { result ≡ find_of shape hops.now from label to }
+// The entry: `Ok` of a place where the hop stands, `Err` of one where it would stand.
+pub fn find(
+    shape: Shape,
+    hops: &[u16],
+    from: u32,
+    label: u32,
+    to: u32,
+) -> Result<Result<usize, usize>, Refusal>
+    ensures { finding_of result ≡ find_of shape hops.now from label to }
 {
-    let answer = check(shape, hops);
-    if answer.number != 0 {
-        return Finding {
-            answer,
-            found: 0,
-            place: 0,
-        };
-    }
+    check(shape, hops)?;
     let sought = hop_of(saturate(from), saturate(label), saturate(to));
-    let found = graph::search::find(hops, sought);
-    match found {
-        Found::At(at) => Finding {
-            answer,
-            found: 1,
-            place: at,
-        },
-        Found::Gap(gap) => Finding {
-            answer,
-            found: 0,
-            place: gap,
-        },
-    }
+    Ok(graph::search::find(hops, sought))
 }

@@ -5,8 +5,8 @@ use mathlib.Core.Path.{◌≡◌, refl}
 use mathlib.Core.Bool.{Bool, true, false, cond}
 use mathlib.Core.List.{List}
 use native.Mathlib.Omega.{arith}
-use borrow.Author.Tests.{eq-eqb, ne_eqb, eqb-true}
-use lib.ListN.{length, take, drop}
+use borrow.Author.Tests.{eqb-true}
+use lib.ListN.{take, drop}
 use lib.Dec.{eqb}
 use Rattle.graph.specs.Hops.{number_place}
 use Rattle.graph.specs.Search.{first_of, past_of}
@@ -18,15 +18,6 @@ abbrev span : ℕ → ℕ → Span
 span first past = record { start = number_place first; length = number_place past - number_place first }
 
 module _ (hs : List ℕ) (s : ℕ) where
-  module _ {first past : ℕ} (e : first ≡ first_of hs s) (f : past ≡ past_of hs s) where
-    pub span_none : first ≡ past → no_span ≡ span_in hs s
-    unfolding span_in
-    span_none d = rw (← e, ← f, eq-eqb first past d)
-
-    pub span_some : (first ≡ past → ⊥) → span first past ≡ span_in hs s
-    unfolding span_in
-    span_some d = rw (← e, ← f, ne_eqb first past d)
-
   abbrev Shows : Bool → Type 0
   Shows x =
       outgoing hs s ≡

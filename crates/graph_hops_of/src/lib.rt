@@ -11,7 +11,8 @@ ghost use Rattle.graph.specs.Hops.{count, part_address};
 ghost use Rattle.graph.specs.Order.{Ascending};
 ghost use Rattle.graph.specs.Search.{first_of};
 ghost use Rattle.graph.specs.Answers.{most_hops};
-ghost use Rattle.graph_hops_of.specs.HopsOf.{both_pass, chosen, outgoing, hops_of_side, hops_of_address, no_span, span_in, span_of};
+ghost use Rattle.graph_hops_of.specs.HopsOf.{both_pass, chosen, outgoing, hops_of_side, hops_of_address, span_in, span_of};
+ghost use Rattle.graph_hops_of.specs.Internal.Side.{side_number};
 
 use graph::Shape;
 use graph::hops::{number_place, part};
@@ -19,34 +20,50 @@ use graph::search::{first_of, past_of};
 use graph_check::check;
 
 // Where a part stands in its table, in numbers; 0 and 0 for an empty part.
-#[derive(Clone, Copy)]
+#[derive(Clone, Copy, PartialEq, Eq, Debug)]
 pub struct Span {
     pub start: usize,
     pub length: usize,
 }
 
+// The table whose hops are shown.
+#[derive(Clone, Copy, PartialEq, Eq, Debug)]
+enum Side {
+    First,
+    Second,
+}
+
+#[tactic(auto, unfolding(crate::specs::HopsOf::both_pass))]
 fn both_pass(shape1: Shape, hops1: &[u16], shape2: Shape, hops2: &[u16]) -> bool
     ensures { result ≡ both_pass shape1 hops1.now shape2 hops2.now }
 {
     let first = check(shape1, hops1);
     let second = check(shape2, hops2);
-    (first.number == 0) & (second.number == 0)
+    first.is_ok() & second.is_ok()
 }
 
-// The side whose hops are returned: 1, 2, or 0 for none.
-fn choose(side: u32, state: u32, shape1: Shape, hops1: &[u16], shape2: Shape, hops2: &[u16]) -> u32
-    ensures { result ≡ chosen side state shape1 hops1.now shape2 hops2.now }
+// The side whose hops are returned, if any are.
+#[tactic(auto, unfolding(crate::specs::HopsOf::chosen))]
+fn choose(
+    side: u32,
+    state: u32,
+    shape1: Shape,
+    hops1: &[u16],
+    shape2: Shape,
+    hops2: &[u16],
+) -> Option<Side>
+    ensures { side_number result ≡ chosen side state shape1 hops1.now shape2 hops2.now }
 {
     if !both_pass(shape1, hops1, shape2, hops2) {
-        return 0;
+        return None;
     }
     if (side == 1) & (state < shape1.states) {
-        return 1;
+        return Some(Side::First);
     }
     if (side == 2) & (state < shape2.states) {
-        return 2;
+        return Some(Side::Second);
     }
-    0
+    None
 }
 
 // The hops of a state of an ascending list.
@@ -63,6 +80,7 @@ fn out_of<'a>(hops: &'a [u16], state: u32) -> &'a [u16]
 }
 
 // The entry. Any side and state, any two tables.
+#[tactic(auto, unfolding(crate::specs::HopsOf::hops_of_side, crate::specs::HopsOf::hops_of_address))]
 pub fn hops_of<'a>(
     side: u32,
     state: u32,
@@ -76,26 +94,20 @@ pub fn hops_of<'a>(
     ensures stands { result.ref_ptr ≡
         hops_of_address (chosen side state shape1 hops1.now shape2 hops2.now) state hops1.entry hops2.entry }
 {
-    let which = choose(side, state, shape1, hops1, shape2, hops2);
-    if which == 1 {
-        return out_of(hops1, state);
+    match choose(side, state, shape1, hops1, shape2, hops2) {
+        Some(Side::First) => out_of(hops1, state),
+        Some(Side::Second) => out_of(hops2, state),
+        None => part(hops1, 0, 0),
     }
-    if which == 2 {
-        return out_of(hops2, state);
-    }
-    part(hops1, 0, 0)
 }
 
-fn no_span() -> Span
-    ensures { result ≡ no_span }
-{
-    Span {
-        start: 0,
-        length: 0,
-    }
-}
+const NO_SPAN: Span = Span {
+    start: 0,
+    length: 0,
+};
 
 // Where the hops of a state stand in an ascending list.
+#[tactic(auto, unfolding(crate::specs::HopsOf::span_in))]
 fn span_in(hops: &[u16], state: u32) -> Span
     requires ascending { Ascending hops.now }
     requires few { count hops.now ≤ most_hops }
@@ -106,7 +118,7 @@ fn span_in(hops: &[u16], state: u32) -> Span
     let first = first_of(hops, s);
     let past = past_of(hops, s);
     if first == past {
-        return no_span();
+        return NO_SPAN;
     }
     let start = number_place(first);
     let end = number_place(past);
@@ -117,6 +129,7 @@ fn span_in(hops: &[u16], state: u32) -> Span
 }
 
 // The entry by numbers: where the part stands that `hops_of` returns.
+#[tactic(auto, unfolding(crate::specs::HopsOf::span_of))]
 pub fn span_of(
     side: u32,
     state: u32,
@@ -128,12 +141,9 @@ pub fn span_of(
     ensures { result ≡
         span_of (chosen side state shape1 hops1.now shape2 hops2.now) state hops1.now hops2.now }
 {
-    let which = choose(side, state, shape1, hops1, shape2, hops2);
-    if which == 1 {
-        return span_in(hops1, state);
+    match choose(side, state, shape1, hops1, shape2, hops2) {
+        Some(Side::First) => span_in(hops1, state),
+        Some(Side::Second) => span_in(hops2, state),
+        None => NO_SPAN,
     }
-    if which == 2 {
-        return span_in(hops2, state);
-    }
-    no_span()
 }

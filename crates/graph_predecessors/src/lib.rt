@@ -13,7 +13,7 @@ ghost use Rattle.graph_predecessors.specs.Internal.PredecessorIndex.{Predecessor
 
 use graph::hops::hop_count;
 use graph::{MOST_HOPS, NUMBERS_A_HOP, TO_COLUMN};
-use graph_counting_sort::{fill, key_starts};
+use graph_counting_sort::Column;
 use graph_successors::STARTS;
 
 // Where the hops into each state begin.
@@ -21,8 +21,13 @@ pub fn predecessor_starts(hops: &[u16]) -> [u16; STARTS]
     requires { Indexable hops.now }
     ensures { PredecessorStarts hops.now result }
 {
-    let n = hop_count(hops);
-    key_starts(hops, NUMBERS_A_HOP, TO_COLUMN, n)
+    let targets = Column {
+        table: hops,
+        width: NUMBERS_A_HOP,
+        column: TO_COLUMN,
+        n: hop_count(hops),
+    };
+    targets.key_starts()
 }
 
 // Each place in its slot: with an empty order the sort puts the places themselves.
@@ -31,6 +36,11 @@ pub fn places_of(hops: &[u16], begins: &[u16; STARTS]) -> [u16; MOST_HOPS]
     requires begins { PredecessorStarts hops.now begins.now }
     ensures { PredecessorPlaces hops.now (count hops.now) result }
 {
-    let n = hop_count(hops);
-    fill(hops, NUMBERS_A_HOP, TO_COLUMN, n, &hops[..0], *begins)
+    let targets = Column {
+        table: hops,
+        width: NUMBERS_A_HOP,
+        column: TO_COLUMN,
+        n: hop_count(hops),
+    };
+    targets.fill(&hops[..0], *begins)
 }

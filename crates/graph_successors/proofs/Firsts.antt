@@ -8,13 +8,13 @@ use native.Mathlib.Omega.{arith}
 use lib.ListN.{length, get_or, set}
 use lib.Seq.{get_or-set_same, get_or-set_other}
 use borrow.Author.Tests.{ltb-true, lt-ltb}
+use Rattle.std.proofs.lemmas.Bool.{cases_lt}
 use Rattle.graph.specs.Hops.{count, from}
 use Rattle.graph.specs.Order.{Ascending}
 use Rattle.graph.specs.Answers.{most_states}
 use Rattle.graph_check.specs.Check.{Admitted}
 use Rattle.graph.specs.Search.{first_of}
 use Rattle.graph.specs.declared.Shape.{Shape}
-use Rattle.base_bounded.proofs.Bools.{lt_or_le}
 use Rattle.graph.proofs.Lookup.{first_law, first_within}
 use Rattle.graph_successors.specs.Internal.SuccessorIndex.{SuccessorIndex, Indexable}
 
@@ -37,7 +37,7 @@ module _ (hs : List ℕ) (up : Ascending hs) where
   -- a place before which all hops are from states below s, and at which one is not, is the first of
   -- s
   pub first_is : (s : ℕ) {r : ℕ} → r ≤ count hs → ((j : ℕ) → j < r → from hs j < s) → (r < count hs → s ≤ from hs r) → r ≡ first_of hs s
-  first_is s {r} w f g = go (lt_or_le r (first_of hs s)) (lt_or_le (first_of hs s) r) where
+  first_is s {r} w f g = go (cases_lt r (first_of hs s)) (cases_lt (first_of hs s) r) where
     go : (r < first_of hs s) ⊎ (first_of hs s ≤ r) → (first_of hs s < r) ⊎ (r ≤ first_of hs s) → r ≡ first_of hs s
     go (inl l) d = absurd (omega (arith, first_below s l, g (omega (arith, first_within hs up s))))
     go (inr m) (inl l) =
@@ -46,7 +46,7 @@ module _ (hs : List ℕ) (up : Ascending hs) where
     go (inr m) (inr n) = omega arith
 
   pub first_next : (s : ℕ) → first_of hs s ≤ first_of hs (s + 1)
-  first_next s = go (lt_or_le (first_of hs (s + 1)) (first_of hs s)) where
+  first_next s = go (cases_lt (first_of hs (s + 1)) (first_of hs s)) where
     go : (first_of hs (s + 1) < first_of hs s) ⊎ (first_of hs s ≤ first_of hs (s + 1)) → first_of hs s ≤ first_of hs (s + 1)
     go (inl l) =
         let k : first_of hs (s + 1) < count hs = omega (arith, first_within hs up s) in
@@ -64,7 +64,7 @@ start_is hs st t x {y} q l e = e ∙ rw q (t y l)
 
 -- one place more of a range
 pub range_more : {P : ℕ → Type 0} {at k : ℕ} → ((j : ℕ) → at ≤ j → j < k → P j) → P k → (j : ℕ) → at ≤ j → j < k + 1 → P j
-range_more {P} {at} {k} f h j l m = go (lt_or_le j k) where
+range_more {P} {at} {k} f h j l m = go (cases_lt j k) where
   go : (j < k) ⊎ (k ≤ j) → P j
   go (inl n) = f j l n
   go (inr n) = let q : j ≡ k = omega arith in rw q h
@@ -72,7 +72,7 @@ range_more {P} {at} {k} f h j l m = go (lt_or_le j k) where
 -- one element more of a table of f
 pub filled_more : (f : ℕ → ℕ) (xs : List ℕ) {s v : ℕ} → s < length xs → v ≡ f s → ((t : ℕ) → t < s → get_or xs t 0 ≡ f t) →
     (t : ℕ) → t < s + 1 → get_or (set xs s v) t 0 ≡ f t
-filled_more f xs {s} {v} l e g t m = go (lt_or_le t s) where
+filled_more f xs {s} {v} l e g t m = go (cases_lt t s) where
   go : (t < s) ⊎ (s ≤ t) → get_or (set xs s v) t 0 ≡ f t
   go (inl n) = get_or-set_other xs s t v 0 (λ q. omega arith) ∙ g t n
   go (inr n) = let q : t ≡ s = omega arith in rw q (get_or-set_same xs s v 0 l ∙ e)

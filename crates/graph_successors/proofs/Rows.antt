@@ -1,25 +1,22 @@
 -- The hops of one state in an ascending list: its places bracket the search of each of them, and
 -- the places of one label hold exactly its hops of that label. Assumes nothing.
 use Prim.Native.Nat.{ℕ, ◌+◌, ◌<◌, ◌≤◌}
-use mathlib.Core.Path.{◌≡◌, refl, sym, ap, ◌∙◌}
+use mathlib.Core.Path.{◌≡◌, refl, sym, ◌∙◌}
 use mathlib.Core.Bool.{true, false}
 use mathlib.Core.List.{List}
 use mathlib.Core.Logic.{inl, inr, ⊎_elim}
 use native.Mathlib.Omega.{arith}
 use borrow.Author.Tests.{ltb-true, ltb-false, lt-ltb, le-ltb}
-use lib.ListN.{get_or}
+use Rattle.std.proofs.lemmas.Bool.{cases_lt, false_from_ne_true}
 use Rattle.graph.specs.Hops.{count, from, label, hop_of, hop_at, is, labelled}
 use Rattle.graph.specs.Order.{before, Ascending}
 use Rattle.graph.specs.Internal.Search.{Bracket, AbsentFrom, labelled_from, labelled_past}
 use Rattle.graph.specs.Search.{first_of, past_of}
-use Rattle.graph.specs.Answers.{most_states}
 use Rattle.graph.specs.declared.Hop.{Hop}
-use Rattle.base_bounded.proofs.Bools.{clash, lt_or_le, no_test}
+use Rattle.base_bounded.proofs.Bools.{clash}
 use Rattle.graph.proofs.Places.{is_from, labelled_yes, labelled_parts}
 use Rattle.graph.proofs.Ordered.{Below, before_below, below_before}
 use Rattle.graph.proofs.Lookup.{lower_law, lower_within, lower_rises, first_law, first_within, first_past, range_holds}
-use Rattle.graph_successors.specs.Internal.SuccessorIndex.{SuccessorIndex}
-use Rattle.graph_successors.proofs.Firsts.{start_is}
 
 module _ (hs : List ℕ) (up : Ascending hs) where
   -- a hop is searched for among those of its state
@@ -37,7 +34,7 @@ module _ (hs : List ℕ) (up : Ascending hs) where
         below_before (hop_at hs j) h (inl (ltb-true _ _ (sym (first_law hs up h.from m) ∙ lt-ltb _ _ l)))
 
     later : (j : ℕ) → first_of hs (h.from + 1) ≤ j → j < count hs → before (hop_at hs j) h ≡ false
-    later j l k = no_test (before (hop_at hs j) h) (λ e. go (before_below (hop_at hs j) h e)) where
+    later j l k = false_from_ne_true (before (hop_at hs j) h) (λ e. go (before_below (hop_at hs j) h e)) where
       past : h.from + 1 ≤ from hs j
       past = ltb-false _ _ (sym (first_law hs up (h.from + 1) k) ∙ le-ltb _ _ l)
 
@@ -49,24 +46,15 @@ module _ (hs : List ℕ) (up : Ascending hs) where
   pub row_absent : (h : Hop) {hi : ℕ} → hi ≡ first_of hs (h.from + 1) → AbsentFrom hs h hi
   unfolding AbsentFrom past_of
   row_absent h {hi} q j l k =
-      no_test (is hs h.from h.label h.to j)
+      false_from_ne_true (is hs h.from h.label h.to j)
       (λ e. let (a, b) = range_holds hs up h.from k (is_from hs h.from h.label h.to j e) in omega arith)
-
--- the same by the table
-pub index_bracket : (hs st : List ℕ) → Ascending hs → SuccessorIndex hs st → (h : Hop) {s lo hi : ℕ} → s ≡ h.from → h.from < most_states → lo ≡ get_or st s 0 →
-    hi ≡ get_or st (s + 1) 0 → Bracket hs h lo hi
-index_bracket hs st up t h {s} e l p q =
-    row_bracket hs up h (start_is hs st t s e (omega arith) p) (start_is hs st t (s + 1) (ap (λ (k : ℕ). k + 1) e) (omega arith) q)
-
-pub index_absent : (hs st : List ℕ) → Ascending hs → SuccessorIndex hs st → (h : Hop) {s hi : ℕ} → s ≡ h.from → h.from < most_states → hi ≡ get_or st (s + 1) 0 → AbsentFrom hs h hi
-index_absent hs st up t h {s} e l q = row_absent hs up h (start_is hs st t (s + 1) (ap (λ (k : ℕ). k + 1) e) (omega arith) q)
 
 -- the hops of s labelled a
 module _ (hs : List ℕ) (up : Ascending hs) (s a : ℕ) where
   pub labelled_holds : {i : ℕ} → i < count hs → labelled hs s a i ≡ true → (labelled_from hs s a ≤ i) × (i < labelled_past hs s a)
   unfolding labelled_from labelled_past
   labelled_holds {i} l e = (
-    ltb-false _ _ (lower_law hs (hop_of s a 0) up l ∙ no_test (before (hop_at hs i) (hop_of s a 0)) (λ d. go (before_below (hop_at hs i) (hop_of s a 0) d))),
+    ltb-false _ _ (lower_law hs (hop_of s a 0) up l ∙ false_from_ne_true (before (hop_at hs i) (hop_of s a 0)) (λ d. go (before_below (hop_at hs i) (hop_of s a 0) d))),
     ltb-true _ _ (lower_law hs (hop_of s (a + 1) 0) up l ∙ below_before (hop_at hs i) (hop_of s (a + 1) 0) (inr (parts.0, inl (omega (arith, parts))))),
   ) where
     parts : (from hs i ≡ s) × (label hs i ≡ a)
@@ -92,13 +80,13 @@ module _ (hs : List ℕ) (up : Ascending hs) (s a : ℕ) where
         go (inl m) e = clash (below_before (hop_at hs i) (hop_of s a 0) (inl m)) e
         go (inr (p, inl m)) e =
             ⊎_elim (λ k. clash (below_before (hop_at hs i) (hop_of s a 0) (inr (p, inl k))) e)
-            (λ k. labelled_yes hs s a i p (omega arith)) (lt_or_le (label hs i) a)
+            (λ k. labelled_yes hs s a i p (omega arith)) (cases_lt (label hs i) a)
         go (inr (p, inr (q, m))) e = absurd (omega arith)
 
   -- where they lie among the hops of s
   pub first_labelled : first_of hs s ≤ labelled_from hs s a
   unfolding first_of labelled_from
-  first_labelled = lower_rises hs up (hop_of s 0 0) (hop_of s a 0) (no_test (before (hop_of s a 0) (hop_of s 0 0)) (λ e. go (before_below (hop_of s a 0) (hop_of s 0 0) e))) where
+  first_labelled = lower_rises hs up (hop_of s 0 0) (hop_of s a 0) (false_from_ne_true (before (hop_of s a 0) (hop_of s 0 0)) (λ e. go (before_below (hop_of s a 0) (hop_of s 0 0) e))) where
     go : Below (hop_of s a 0) (hop_of s 0 0) → ⊥
     go (inl l) = omega arith
     go (inr (e, inl l)) = omega arith
@@ -106,7 +94,7 @@ module _ (hs : List ℕ) (up : Ascending hs) (s a : ℕ) where
 
   pub labelled_rising : labelled_from hs s a ≤ labelled_past hs s a
   unfolding labelled_from labelled_past
-  labelled_rising = lower_rises hs up (hop_of s a 0) (hop_of s (a + 1) 0) (no_test (before (hop_of s (a + 1) 0) (hop_of s a 0)) (λ e. go (before_below (hop_of s (a + 1) 0) (hop_of s a 0) e))) where
+  labelled_rising = lower_rises hs up (hop_of s a 0) (hop_of s (a + 1) 0) (false_from_ne_true (before (hop_of s (a + 1) 0) (hop_of s a 0)) (λ e. go (before_below (hop_of s (a + 1) 0) (hop_of s a 0) e))) where
     go : Below (hop_of s (a + 1) 0) (hop_of s a 0) → ⊥
     go (inl l) = omega arith
     go (inr (e, inl l)) = omega arith
@@ -114,7 +102,7 @@ module _ (hs : List ℕ) (up : Ascending hs) (s a : ℕ) where
 
   pub labelled_past_lem : labelled_past hs s a ≤ past_of hs s
   unfolding first_of past_of labelled_from labelled_past
-  labelled_past_lem = lower_rises hs up (hop_of s (a + 1) 0) (hop_of (s + 1) 0 0) (no_test (before (hop_of (s + 1) 0 0) (hop_of s (a + 1) 0)) (λ e. go (before_below (hop_of (s + 1) 0 0) (hop_of s (a + 1) 0) e))) where
+  labelled_past_lem = lower_rises hs up (hop_of s (a + 1) 0) (hop_of (s + 1) 0 0) (false_from_ne_true (before (hop_of (s + 1) 0 0) (hop_of s (a + 1) 0)) (λ e. go (before_below (hop_of (s + 1) 0 0) (hop_of s (a + 1) 0) e))) where
     go : Below (hop_of (s + 1) 0 0) (hop_of s (a + 1) 0) → ⊥
     go (inl l) = omega arith
     go (inr (e, l)) = omega arith

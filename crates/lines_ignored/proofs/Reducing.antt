@@ -80,12 +80,12 @@ module _ {hs hs' : List ℕ} (un : DifferInLines hs hs') (sh : Shape) where
     reduced_hops_differ_in_lines = paired_flat _ _ (paired_short (marked_ignores_lines un sh k))
 
     -- what the entry answers, returns and leaves as the map
-    module _ (map-capacity short_capacity : ℕ) where
-      pub answer_ignores_lines : reduce_answer sh hs k map-capacity short_capacity ≡ reduce_answer sh hs' k map-capacity short_capacity
+    module _ (map_capacity short_capacity : ℕ) where
+      pub answer_ignores_lines : reduce_answer sh hs k map_capacity short_capacity ≡ reduce_answer sh hs' k map_capacity short_capacity
       unfolding reduce_answer
       answer_ignores_lines = rw (check_ignores_lines un sh, ringless_ignores_lines un sh, un.as_long)
 
-      pub reduce_ignores_lines : reduce_of sh hs k map-capacity short_capacity ≡ reduce_of sh hs' k map-capacity short_capacity
+      pub reduce_ignores_lines : reduce_of sh hs k map_capacity short_capacity ≡ reduce_of sh hs' k map_capacity short_capacity
       unfolding reduce_of
       reduce_ignores_lines = rw (answer_ignores_lines, reduced_shape_ignores_lines, paired_length _ _ (paired_short (marked_ignores_lines un sh k)))
 

@@ -62,10 +62,10 @@ module _ {hs hs' : List ℕ} (un : DifferInLines hs hs') (sh : Shape) (k : ℕ) 
   unfolding last_of
   last_beside = repeated_beside k sh.states (first_stage sh hs) (first_stage sh hs') (record { shapes = refl; unlined = un; maps = refl; counts = refl })
 
-  pub shrink_ignores_lines : (map-capacity short_capacity : ℕ) → shrink_of sh hs k map-capacity short_capacity ≡ shrink_of sh hs' k map-capacity short_capacity
+  pub shrink_ignores_lines : (map_capacity short_capacity : ℕ) → shrink_of sh hs k map_capacity short_capacity ≡ shrink_of sh hs' k map_capacity short_capacity
   unfolding shrink_of
-  shrink_ignores_lines map-capacity short_capacity =
-      rw (answer_ignores_lines un sh k map-capacity short_capacity, last_beside.shapes, count_ignores_lines last_beside.unlined, last_beside.counts)
+  shrink_ignores_lines map_capacity short_capacity =
+      rw (answer_ignores_lines un sh k map_capacity short_capacity, last_beside.shapes, count_ignores_lines last_beside.unlined, last_beside.counts)
 
   pub last_map_ignores_lines : (map short : List ℕ) → shrink_map_output sh hs k map short ≡ shrink_map_output sh hs' k map short
   unfolding shrink_map_output

@@ -56,21 +56,21 @@ module _ {U : ℕ → ℕ → Type 0} (next : (s : ℕ) → StepOrNormal U s) wh
 module _ {Hop : ℕ → ℕ → ℕ → Type 0} {U : ℕ → ℕ → Type 0} (conf : Confluent Hop U) where
   open conf use {silent, weak, rank, falls}
 
-  U-falls : {s t : ℕ} → U s t → rank t < rank s
-  U-falls {s} {t} u = falls s t (silent s t u)
+  u_falls : {s t : ℕ} → U s t → rank t < rank s
+  u_falls {s} {t} u = falls s t (silent s t u)
 
   sinks : {s t : ℕ} → Star U s t → rank t ≤ rank s
   sinks stay = omega arith
-  sinks (go u p) = omega (arith, sinks p, U-falls u)
+  sinks (go u p) = omega (arith, sinks p, u_falls u)
 
   module _ (next : (s : ℕ) → StepOrNormal U s) where
     walk_rest : (k s : ℕ) → rank s ≤ k → Normal U (walk next k s)
     unfolding walk step_or_stop
-    walk_rest zero s l = λ t u. absurd (omega (arith, U-falls u))
+    walk_rest zero s l = λ t u. absurd (omega (arith, u_falls u))
     walk_rest (suc k) s l = on (walk_rest k) (next s)
       where
         on : ((t : ℕ) → rank t ≤ k → Normal U (walk next k t)) → (x : StepOrNormal U s) → Normal U (step_or_stop U (walk next k) s x)
-        on ih (inl (t, u)) = ih t (omega (arith, U-falls u))
+        on ih (inl (t, u)) = ih t (omega (arith, u_falls u))
         on ih (inr h) = h
 
     unfoldable pub rep : ℕ → ℕ
@@ -124,7 +124,7 @@ module _ {Hop : ℕ → ℕ → ℕ → Type 0} {U : ℕ → ℕ → Type 0} (co
                 let (_, x) = along (a_in s t i h) te in
                 let (j, y) = along (U-in s m i u) mp in
                 let (_, w) = along (a_in p q j k) qe in
-                Meets·move (y ∙ flat s i m u) (sym w ∙ x) (ih p (omega (arith, sinks mp, U-falls u)) j q k)
+                Meets·move (y ∙ flat s i m u) (sym w ∙ x) (ih p (omega (arith, sinks mp, u_falls u)) j q k)
 
             start : (s ≡ rep s) ⊎ ((m : ℕ) × U s m × Star U m (rep s)) → Meets Hop rep s a t
             start (inl e) = inr (t, subst (λ x. Hop x a t) e h, refl)
@@ -155,12 +155,12 @@ module _ {Hop : ℕ → ℕ → ℕ → Type 0} {U : ℕ → ℕ → Type 0} (co
               ((◌≡◌ {A = ℕ} 0 0) × Star U b e) ⊎ ((p : ℕ) × (q : ℕ) × Star U b p × Hop p 0 q × Star U q e) →
               (rep b ≡ rep c) ⊎ (rank (rep c) < rank (rep b))
           answer e ce (inl (_, be)) =
-              let (_, x) = low_along (U-falls u) be in
-              let (_, y) = low_along (U-falls v) ce in
+              let (_, x) = low_along (u_falls u) be in
+              let (_, y) = low_along (u_falls v) ce in
               inl (sym x ∙ y)
           answer e ce (inr (p, q, bp, k, qe)) =
-              let (_, x) = low_along (U-falls v) ce in
-              let (j, y) = low_along (U-falls u) bp in
+              let (_, x) = low_along (u_falls v) ce in
+              let (j, y) = low_along (u_falls u) bp in
               let (_, w) = low_along (low_hop p q j k) qe in
               settle (Meets·move y (sym w ∙ x) (sim Low ih low_u 0 low_hop p j q k))
             where
@@ -181,7 +181,7 @@ module _ {Hop : ℕ → ℕ → ℕ → Type 0} {U : ℕ → ℕ → Type 0} (co
         where
           start : (s ≡ rep s) ⊎ ((m : ℕ) × U s m × Star U m (rep s)) → rep t ≡ rep s
           start (inl e) = absurd (rest s t (subst (λ x. U x t) e u))
-          start (inr (m, v, p)) = meet t m u v ∙ sym (low_along (U-falls v) p).1 ∙ rep_normal (rest s)
+          start (inr (m, v, p)) = meet t m u v ∙ sym (low_along (u_falls v) p).1 ∙ rep_normal (rest s)
 
     flat : (s : ℕ) → Flat s
     flat = by_rank rank Flat flat_step

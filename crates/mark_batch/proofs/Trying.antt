@@ -11,7 +11,7 @@ use native.Mathlib.Omega.{arith}
 use lib.ListN.{get_or, drop}
 use lib.Dec.{eqb, ltb}
 use borrow.Author.Tests.{eqb-true, eq-eqb, lt-ltb, ltb-true}
-use Rattle.base_bounded.proofs.Bools.{and_yes, and_left, and_right, lt_or_le}
+use Rattle.base_bounded.proofs.Bools.{and_yes, and_left, and_right}
 use Rattle.base_bounded.proofs.Quantifiers.{all_at, all_yes, any_found}
 use Rattle.base_outputs.specs.Output.{on_front}
 use Rattle.graph.specs.Hops.{count, from, label, to, is, has}
@@ -21,7 +21,7 @@ use Rattle.graph.proofs.Places.{has_at, has_place, is_yes, is_from, is_to}
 use Rattle.graph_check.specs.Check.{InRange}
 use Rattle.lts.specs.Closes.{nowhere, Via, here, Sense, Answered, Closes}
 use Rattle.walk_silent.specs.Silent.{HopOf}
-use Rattle.base_fixpoint.specs.Pairs.{Pairs, In}
+use Rattle.base_fixpoint.specs.Pairs.{In}
 use Rattle.mark_confluence.specs.Internal.MarkSet.{is_marked, mark_set}
 use Rattle.mark_confluence.specs.Marks.{marks_of}
 use Rattle.mark_confluence.proofs.MarkSet.{mark_set_says, mark_set_yes}
@@ -34,7 +34,7 @@ use Rattle.base_bitset.specs.Internal.Bits.{bit_in, word_bits}
 use Rattle.mark_batch_spread.specs.Internal.Spread.{SpreadBack, SpreadForth}
 use Rattle.mark_batch_tables.specs.Internal.BatchTables.{KeyTable, AnswerTable}
 use Rattle.mark_batch_filter.specs.Internal.Filtered.{fits, Filtered}
-use Rattle.mark_batch.specs.Internal.Batch.{NothingKnown, AnsweredAt, TriedIn}
+use Rattle.mark_batch.specs.Internal.Batch.{AnsweredAt, TriedIn}
 
 -- a reach that leads nowhere leaves a table as it is
 pub back_nowhere : (U : ℕ → ℕ → Type 0) (ws : List ℕ) → SpreadBack U nowhere ws ws
@@ -195,11 +195,3 @@ module _ (sense : Sense) (sh : Shape) (hs ms : List ℕ) (ranged : InRange sh hs
   -- so the marks are those of the marked set of the sense
   pub tried_marks : (out : List ℕ) → drop (count hs) ms ≡ drop (count hs) out → ms ≡ on_front (marks_of hs (marked_in sense sh hs)) out
   tried_marks = fixpoint_marks (closes_in sense sh hs) (in_same sense sh hs) up k tried_closes
-
--- where nothing is asked of what is known
-pub swept_any : {hs : List ℕ} {m : Pairs} {Known : List ℕ → Type 0} {ms new : List ℕ} {r : ℕ} → Swept hs m Known ms new r → Swept hs m NothingKnown ms new r
-swept_any s = record { marking = s.marking; beyond = s.beyond; fewer = s.fewer; same = λ q. ((s.same q).0, tt) }
-
--- two parts of a sweep, one behind the other
-pub tried_more : (sense : Sense) (hs : List ℕ) (n m : ℕ) (ms : List ℕ) → TriedIn sense hs 0 n ms → TriedIn sense hs n (n + m) ms → TriedIn sense hs 0 (n + m) ms
-tried_more sense hs n m ms f g i j l o lo hi q = ⊎_elim (λ k. f i j l o lo k q) (λ k. g i j l o k hi q) (lt_or_le j n)

@@ -8,83 +8,64 @@
 // condition, and `mark_batch_spread`, `mark_batch_tables` and `mark_batch_filter` for the steps.
 #![tactic(auto)]
 
-ghost use Rattle.std.specs.Prelude.{◌+◌, ◌<◌, ◌≤◌, length};
+pub mod input; // input.rt: what a sweep needs
+
+ghost use Rattle.std.specs.Prelude.{◌≡◌, ◌+◌, ◌<◌, ◌≤◌, length};
 ghost use Rattle.graph.specs.Hops.{count};
-ghost use Rattle.graph_successors.specs.Internal.SuccessorIndex.{Indexable};
 ghost use Rattle.base_fixpoint.specs.Pairs.{In};
 ghost use Rattle.mark_confluence.specs.Internal.MarkSet.{mark_set};
-ghost use Rattle.mark_removal.specs.Internal.Removal.{Marking, Swept};
-ghost use Rattle.mark_senses.specs.Senses.{sense_of, marked_by};
-ghost use Rattle.base_bitset.specs.Internal.Bits.{word_bits};
-ghost use Rattle.walk_topological_order.specs.Internal.TopologicalOrder.{TopologicalOrder};
+ghost use Rattle.mark_senses.specs.Internal.Numbers.{condition_of};
 ghost use Rattle.mark_batch_spread.specs.Internal.Spread.{SpreadBack, SpreadForth};
-ghost use Rattle.mark_batch.specs.Internal.Batch.{SweepInput, TriedIn};
+ghost use Rattle.mark_batch.specs.Internal.Batch.{TriedIn};
+ghost use Rattle.mark_batch.specs.Internal.Sweeping.{MarkingIn, SweptIn};
 
 use base_bitset::WORD_BITS;
-use graph::{MOST_HOPS, MOST_LABELS, MOST_STATES, Shape};
-use mark_batch_filter::filter;
-use mark_batch_spread::{gather, pass_on, pass_once};
-use mark_batch_tables::{Key, clear, put_answers, put_keys};
+use graph::{Key, MOST_LABELS, MOST_STATES};
+use input::SweepInput;
+use mark_batch_filter::{Tables, filter};
+use mark_batch_spread::{SilentHops, gather, pass_on, pass_once};
+use mark_batch_tables::{Batch, clear, put_answers, put_keys};
+use mark_senses::Sense;
 
+// This and the two below stay apart: they are three places of one condition, each with a contract
+// of its own.
 // The closing: who is s4 for an end s3, by at most one marked hop or by a walk.
-fn closing_table(
-    hops: &[u16],
-    marks: &[u8],
-    sorted: &[u16; MOST_HOPS],
-    n: usize,
-    sense: u32,
-    words: &mut [u64; MOST_STATES],
-)
-    requires ready { Indexable hops.now }
-    requires sorted { TopologicalOrder hops.now sorted.now n }
-    requires capacity { count hops.now ≤ length marks.now }
-    ensures { SpreadForth (In (mark_set hops.now marks.now)) (sense_of sense).closing words.old words.new }
+#[tactic(auto, unfolding(mark_senses::specs::Senses::sense_of))]
+fn closing_table(silent: SilentHops, sense: Sense, marks: &[u8], words: &mut [u64; MOST_STATES])
+    requires { count silent.hops.now ≤ length marks.now }
+    ensures { SpreadForth (In (mark_set silent.entry.hops.now marks.now)) (condition_of sense).closing
+        words.old words.new }
 {
-    if (sense == 1) | ((sense == 2) | (sense == 3)) {
-        pass_once(hops, marks, sorted, n, words);
-    } else {
-        pass_on(hops, marks, sorted, n, words);
+    match sense {
+        Sense::R1 | Sense::R2 | Sense::R3 => pass_once(silent, marks, words),
+        Sense::R8 => pass_on(silent, marks, words),
     }
 }
 
 // After the answering hop: who is s4 or leads to it.
-fn after_table(
-    hops: &[u16],
-    marks: &[u8],
-    sorted: &[u16; MOST_HOPS],
-    n: usize,
-    sense: u32,
-    words: &mut [u64; MOST_STATES],
-)
-    requires ready { Indexable hops.now }
-    requires sorted { TopologicalOrder hops.now sorted.now n }
-    requires capacity { count hops.now ≤ length marks.now }
-    ensures { SpreadBack (In (mark_set hops.now marks.now)) (sense_of sense).after words.old words.new }
+#[tactic(auto, unfolding(mark_senses::specs::Senses::sense_of))]
+fn after_table(silent: SilentHops, sense: Sense, marks: &[u8], words: &mut [u64; MOST_STATES])
+    requires { count silent.hops.now ≤ length marks.now }
+    ensures { SpreadBack (In (mark_set silent.entry.hops.now marks.now)) (condition_of sense).after
+        words.old words.new }
 {
-    if (sense == 1) | (sense == 3) {
-        return;
+    match sense {
+        Sense::R1 | Sense::R3 => {}
+        Sense::R2 | Sense::R8 => gather(silent, marks, words),
     }
-    gather(hops, marks, sorted, n, words);
 }
 
 // Before the answering hop: who has it or leads to one that has.
-fn before_table(
-    hops: &[u16],
-    marks: &[u8],
-    sorted: &[u16; MOST_HOPS],
-    n: usize,
-    sense: u32,
-    words: &mut [u64; MOST_STATES],
-)
-    requires ready { Indexable hops.now }
-    requires sorted { TopologicalOrder hops.now sorted.now n }
-    requires capacity { count hops.now ≤ length marks.now }
-    ensures { SpreadBack (In (mark_set hops.now marks.now)) (sense_of sense).before words.old words.new }
+#[tactic(auto, unfolding(mark_senses::specs::Senses::sense_of))]
+fn before_table(silent: SilentHops, sense: Sense, marks: &[u8], words: &mut [u64; MOST_STATES])
+    requires { count silent.hops.now ≤ length marks.now }
+    ensures { SpreadBack (In (mark_set silent.entry.hops.now marks.now)) (condition_of sense).before
+        words.old words.new }
 {
-    if (sense == 1) | (sense == 2) {
-        return;
+    match sense {
+        Sense::R1 | Sense::R2 => {}
+        Sense::R3 | Sense::R8 => gather(silent, marks, words),
     }
-    gather(hops, marks, sorted, n, words);
 }
 
 // Records, under the batch's bit, which states have a bit in the batch's tables; if `bit` is 0 it
@@ -99,64 +80,66 @@ fn record_touched(
     if bit == 0 {
         return;
     }
-    let mut s = 0;
-    while s < MOST_STATES {
-        let had = touched[s] | bit;
+    for (s, word) in touched.iter_mut().enumerate() {
         if ends[s] | answers[s] == 0 {
-            touched[s] = had ^ bit;
+            *word &= !bit;
         } else {
-            touched[s] = had;
+            *word |= bit;
         }
-        s += 1;
     }
 }
 
-// Tries the m hops from place `base` on against every marked hop of their states; returns how many
-// marks went. The array `ends` is used again for the table of the states that the hops leave. Which
+// Tries the hops of the batch against every marked hop of their states; returns how many marks
+// went. The array `ends` is used again for the table of the states that the hops leave. Which
 // states it touches is recorded under the bit.
 pub fn try_batch(
-    shape: Shape,
-    hops: &[u16],
-    sorted: &[u16; MOST_HOPS],
-    n: usize,
-    sense: u32,
-    base: usize,
-    m: usize,
+    input: SweepInput,
+    batch: Batch,
     bit: u64,
     marks: &mut [u8],
     touched: &mut [u64; MOST_STATES],
 ) -> usize
-    requires sweepable { SweepInput shape hops.now sorted.now n }
-    requires marking { Marking hops.now (marked_by sense shape hops.now) marks.old }
-    requires batch { m ≤ word_bits }
-    requires within { base + m ≤ count hops.now }
-    ensures { Swept hops.now (marked_by sense shape hops.now) (TriedIn (sense_of sense) hops.now base (base + m))
+    requires marking { MarkingIn input marks.old }
+    requires within { batch.base + batch.m ≤ count input.silent.hops.now }
+    ensures { SweptIn input.entry
+        (TriedIn (condition_of input.entry.sense) input.entry.silent.hops.now batch.base (batch.base + batch.m))
         marks.old marks.new result }
 {
+    let SweepInput {
+        shape,
+        silent,
+        sense,
+        ..
+    } = input;
+    let hops = silent.hops;
     let mut ends = [0u64; MOST_STATES];
     let mut labels = [0u64; MOST_LABELS];
     let mut answers = [0u64; MOST_STATES];
-    put_keys(shape, hops, Key::To, base, m, &mut ends);
-    closing_table(hops, marks, sorted, n, sense, &mut ends);
-    after_table(hops, marks, sorted, n, sense, &mut ends);
-    put_keys(shape, hops, Key::Label, base, m, &mut labels);
+    put_keys(shape, hops, Key::To, batch, &mut ends);
+    closing_table(silent, sense, marks, &mut ends);
+    after_table(silent, sense, marks, &mut ends);
+    put_keys(shape, hops, Key::Label, batch, &mut labels);
     put_answers(shape, hops, &labels, &ends, &mut answers);
-    before_table(hops, marks, sorted, n, sense, &mut answers);
+    before_table(silent, sense, marks, &mut answers);
     record_touched(&ends, &answers, bit, touched);
     clear(&mut ends);
-    put_keys(shape, hops, Key::From, base, m, &mut ends);
-    filter(hops, marks, &ends, &answers)
+    put_keys(shape, hops, Key::From, batch, &mut ends);
+    let tables = Tables {
+        froms: &ends,
+        answers: &answers,
+    };
+    filter(hops, marks, tables)
 }
 
-// How many hops the batch from place `base` on has, of n.
-pub fn batch_len(base: usize, n: usize) -> usize
+// The batch from place `base` on, of n hops.
+pub fn batch_at(base: usize, n: usize) -> Batch
     requires { base < n }
-    ensures within { base + result ≤ n }
-    ensures most { result ≤ word_bits }
-    ensures some { 0 < result }
+    ensures base { result.base ≡ base }
+    ensures within { base + result.m ≤ n }
+    ensures some { 0 < result.m }
 {
-    if n - base < WORD_BITS {
-        return n - base;
+    Batch {
+        base,
+        m: WORD_BITS.min(n - base),
     }
-    WORD_BITS
 }

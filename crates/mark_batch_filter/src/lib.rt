@@ -14,61 +14,51 @@ ghost use Rattle.mark_batch_filter.specs.Internal.Filtered.{fits, fails, Filtere
 use base_bitset::holds;
 use graph::MOST_STATES;
 use graph::hops::{hop_at, hop_count};
-use graph::tables::wide;
 
-// Whether every bit of where the hop at place i begins is where it ends.
-fn fits_at(hops: &[u16], froms: &[u64; MOST_STATES], answers: &[u64; MOST_STATES], i: usize) -> bool
-    requires ready { Indexable hops.now }
-    requires place { i < count hops.now }
-    ensures { result ≡ fits hops.now froms.now answers.now i }
-{
-    let h = hop_at(hops, i);
-    holds(answers[wide(h.to)], froms[wide(h.from)])
+// The two tables: the bits that a state asks for if a hop begins there, and those that answer them
+// if it ends there.
+#[derive(Clone, Copy)]
+pub struct Tables<'a> {
+    pub froms: &'a [u64; MOST_STATES],
+    pub answers: &'a [u64; MOST_STATES],
 }
 
-// The hop at place i loses its mark if it is marked and does not fit; returns how many marks went.
-fn filter_at(
-    hops: &[u16],
-    marks: &mut [u8],
-    froms: &[u64; MOST_STATES],
-    answers: &[u64; MOST_STATES],
-    i: usize,
-) -> usize
+// Whether every bit of where the hop at place i begins is where it ends.
+fn fits_at(hops: &[u16], tables: Tables, i: usize) -> bool
     requires ready { Indexable hops.now }
-    requires capacity { count hops.now ≤ length marks.old }
     requires place { i < count hops.now }
-    ensures marks { marks.new ≡
-        cond (fails hops.now marks.old froms.now answers.now i)
-        (set marks.old i 0) marks.old }
-    ensures lost { result ≡ cond (fails hops.now marks.old froms.now answers.now i) 1 0 }
+    ensures { result ≡ fits hops.now tables.entry.froms.now tables.entry.answers.now i }
 {
-    if marks[i] != 1 {
-        return 0;
-    }
-    if fits_at(hops, froms, answers, i) {
-        return 0;
-    }
-    marks[i] = 0;
-    1
+    let h = hop_at(hops, i);
+    holds(
+        tables.answers[usize::from(h.to)],
+        tables.froms[usize::from(h.from)],
+    )
+}
+
+// Whether the hop at place i is marked and does not fit.
+#[tactic(auto, unfolding(mark_confluence::specs::Internal::MarkSet::is_marked))]
+fn fails_at(hops: &[u16], marks: &[u8], tables: Tables, i: usize) -> bool
+    requires ready { Indexable hops.now }
+    requires capacity { count hops.now ≤ length marks.now }
+    requires place { i < count hops.now }
+    ensures { result ≡ fails hops.now marks.now tables.entry.froms.now tables.entry.answers.now i }
+{
+    marks[i] == 1 && !fits_at(hops, tables, i)
 }
 
 // Every marked hop that does not fit loses its mark; returns how many marks went.
-pub fn filter(
-    hops: &[u16],
-    marks: &mut [u8],
-    froms: &[u64; MOST_STATES],
-    answers: &[u64; MOST_STATES],
-) -> usize
+pub fn filter(hops: &[u16], marks: &mut [u8], tables: Tables) -> usize
     requires ready { Indexable hops.now }
     requires capacity { count hops.now ≤ length marks.old }
-    ensures { Filtered hops.now marks.old froms.now answers.now marks.new result }
+    ensures { Filtered hops.now marks.old tables.entry.froms.now tables.entry.answers.now marks.new result }
 {
-    let n = hop_count(hops);
     let mut lost = 0;
-    let mut i = 0;
-    while i < n {
-        lost += filter_at(hops, marks, froms, answers, i);
-        i += 1;
+    for i in 0..hop_count(hops) {
+        if fails_at(hops, marks, tables, i) {
+            marks[i] = 0;
+            lost += 1;
+        }
     }
     lost
 }

@@ -72,6 +72,10 @@ module _ (hs ms : List ℕ) (back : Bool) (place : ℕ → ℕ) where
     abbrev after : ℕ → List ℕ
     after k = spread_along hs ms back place k ws
 
+    pub along_none : ws ≡ after 0
+    unfolding spread_along
+    along_none = refl
+
     -- one step more, as the code counts
     pub along_more : (k : ℕ) {i : ℕ} {now next : List ℕ} → i ≡ place k → now ≡ after k → next ≡ step_at hs ms back i now →
         next ≡ after (k + 1)

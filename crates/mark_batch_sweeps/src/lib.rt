@@ -6,43 +6,41 @@
 // all. When it takes nothing the marks are those of the marked set, in whatever order the others
 // went.
 // Uses `mark_senses` for what is marked, `mark_removal` for what marks keep under removal, for any
-// condition, `mark_batch` for one batch, and `walk_topological_order` for the order of silent hops.
-#![tactic(auto)]
+// condition, `mark_batch` for one batch, `mark_batch_tables` for which hops a batch has,
+// `mark_batch_spread` for the silent hops as one value, `walk_topological_order` for their order,
+// and `graph_index` for the graph with its table of first places.
+#![tactic(auto, using(mark_removal::proofs::Fixpoint::count_within))]
 
 ghost use Rattle.std.specs.Prelude.{◌≡◌, ◌+◌, ◌*◌, ◌<◌, ◌≤◌, length};
 ghost use Rattle.base_outputs.specs.Output.{on_front};
 ghost use Rattle.graph.specs.Hops.{count};
 ghost use Rattle.graph.specs.Answers.{most_hops};
-ghost use Rattle.graph_successors.specs.Internal.SuccessorIndex.{Indexable, Indexed};
+ghost use Rattle.graph_successors.specs.Internal.SuccessorIndex.{Indexable};
 ghost use Rattle.walk_silent.specs.Silent.{ring_answer};
 ghost use Rattle.mark_confluence.specs.Marks.{marks_of};
-ghost use Rattle.mark_removal.specs.Internal.Removal.{Marking, Swept};
-ghost use Rattle.mark_senses.specs.Senses.{sense_of, marked_by};
+ghost use Rattle.mark_senses.specs.Senses.{marked_by};
+ghost use Rattle.mark_senses.specs.Internal.Numbers.{sense_number, condition_of};
 ghost use Rattle.base_bitset.specs.Internal.Bits.{word_bits};
-ghost use Rattle.mark_batch.specs.Internal.Batch.{NothingKnown, SweepInput, TriedIn};
+ghost use Rattle.mark_batch.specs.Internal.Batch.{NothingKnown, TriedIn};
+ghost use Rattle.mark_batch.specs.Internal.Sweeping.{MarkingIn, SweptIn};
 
 use base_bitset::{WORD_BITS, bit_of};
 use graph::hops::{hop_at, hop_count};
-use graph::tables::wide;
-use graph::{MOST_HOPS, MOST_STATES, Shape};
-use graph_successors::STARTS;
-use mark_batch::{batch_len, try_batch};
+use graph::{MOST_HOPS, MOST_STATES};
+use graph_index::Indexed;
+use mark_batch::input::SweepInput;
+use mark_batch::{batch_at, try_batch};
+use mark_batch_spread::SilentHops;
+use mark_batch_tables::Batch;
 use mark_confluence::start_marks;
+use mark_senses::Sense;
 use walk_topological_order::order_of;
 
-// Every bit: all batches, or all places of a word.
-const ALL_BATCHES: u64 = 18446744073709551615;
+// All batches, as a set in one word; or all places of a word.
+const ALL_BATCHES: u64 = u64::MAX;
 
 // How many sweeps record nothing of what their batches touch: most graphs need no more sweeps.
 const PLAIN_SWEEPS: usize = 4;
-
-// The outcome of one batch or of a pass over batches: how many marks went, and which batches are
-// pending, that is, to be run again.
-#[derive(Clone, Copy)]
-struct SweepOutcome {
-    lost: usize,
-    pending: u64,
-}
 
 // The bit of the batch from place `base` on, for sets of batches in one word: bit k stands for the
 // batch from place 64 * k on. There are at most 64 batches.
@@ -50,133 +48,101 @@ fn batch_bit(base: usize) -> u64 {
     bit_of(base / WORD_BITS % WORD_BITS)
 }
 
-// Whether the hop at place i has no mark and this was not yet recorded; then records it. `was` has
-// one bit a place, 0 where it is recorded.
-fn lost_mark(marks: &[u8], was: &mut [u64; WORD_BITS], i: usize) -> bool
-    requires { i < length marks.now }
-{
-    if marks[i] == 1 {
-        return false;
-    }
-    let at = i / WORD_BITS % WORD_BITS;
-    let bit = bit_of(i % WORD_BITS);
-    if was[at] & bit == 0 {
-        return false;
-    }
-    was[at] ^= bit;
-    true
+// What the heuristic knows. `touched` has the batches that touched a state; `was` has one bit a
+// hop, 0 where it is recorded that the hop has no mark; `pending` has the batches to be run again.
+#[derive(Drop)]
+struct Hints {
+    touched: [u64; MOST_STATES],
+    was: [u64; WORD_BITS],
+    pending: u64,
 }
 
-// Records the hops without a mark that were not yet recorded, and returns the batches that touched
-// an end of such a hop.
-fn pending_after(
-    hops: &[u16],
-    marks: &[u8],
-    was: &mut [u64; WORD_BITS],
-    touched: &[u64; MOST_STATES],
-) -> u64
-    requires ready { Indexable hops.now }
-    requires capacity { count hops.now ≤ length marks.now }
-{
-    let n = hop_count(hops);
-    let mut pending = 0;
-    let mut i = 0;
-    while i < n {
-        if lost_mark(marks, was, i) {
-            let h = hop_at(hops, i);
-            pending |= touched[wide(h.from)] | touched[wide(h.to)];
+impl Hints {
+    // Whether the hop at place i has no mark and this was not yet recorded; then records it.
+    fn lost_mark(&mut self, marks: &[u8], i: usize) -> bool
+        requires { i < length marks.now }
+    {
+        if marks[i] == 1 {
+            return false;
         }
-        i += 1;
+        let at = i / WORD_BITS % WORD_BITS;
+        let bit = bit_of(i % WORD_BITS);
+        if self.was[at] & bit == 0 {
+            return false;
+        }
+        self.was[at] ^= bit;
+        true
     }
-    pending
+
+    // Records the hops without a mark that were not yet recorded: the batches that touched an end
+    // of such a hop are pending.
+    fn record_lost(&mut self, hops: &[u16], marks: &[u8])
+        requires ready { Indexable hops.now }
+        requires capacity { count hops.now ≤ length marks.now }
+    {
+        for i in 0..hop_count(hops) {
+            if self.lost_mark(marks, i) {
+                let h = hop_at(hops, i);
+                self.pending |= self.touched[usize::from(h.from)] | self.touched[usize::from(h.to)];
+            }
+        }
+    }
 }
 
 // One sweep over all hops; returns how many marks went. Which states a batch touches is recorded
 // for the batches in `recorded`.
-fn sweep(
-    shape: Shape,
-    hops: &[u16],
-    sorted: &[u16; MOST_HOPS],
-    n: usize,
-    sense: u32,
-    recorded: u64,
-    marks: &mut [u8],
-    touched: &mut [u64; MOST_STATES],
-) -> usize
-    requires sweepable { SweepInput shape hops.now sorted.now n }
-    requires marking { Marking hops.now (marked_by sense shape hops.now) marks.old }
-    ensures { Swept hops.now (marked_by sense shape hops.now)
-        (TriedIn (sense_of sense) hops.now 0 (count hops.now)) marks.old marks.new result }
+fn sweep(input: SweepInput, recorded: u64, marks: &mut [u8], hints: &mut Hints) -> usize
+    requires { MarkingIn input marks.old }
+    ensures { SweptIn input.entry
+        (TriedIn (condition_of input.entry.sense) input.entry.silent.hops.now 0 (count input.entry.silent.hops.now))
+        marks.old marks.new result }
 {
-    let past = hop_count(hops);
+    let past = hop_count(input.silent.hops);
     let mut lost = 0;
     let mut base = 0;
+    // `while`: each batch says where the next one begins.
     while base < past {
-        let m = batch_len(base, past);
+        let batch = batch_at(base, past);
         let bit = batch_bit(base) & recorded;
-        lost += try_batch(shape, hops, sorted, n, sense, base, m, bit, marks, touched);
-        base += m;
+        lost += try_batch(input, batch, bit, marks, &mut hints.touched);
+        base += batch.m;
     }
     lost
 }
 
-// Tries the m hops from place `base` on until they take no mark; returns how many marks went.
-fn run_to_fixpoint(
-    shape: Shape,
-    hops: &[u16],
-    sorted: &[u16; MOST_HOPS],
-    n: usize,
-    sense: u32,
-    base: usize,
-    m: usize,
-    marks: &mut [u8],
-    touched: &mut [u64; MOST_STATES],
-) -> usize
-    requires sweepable { SweepInput shape hops.now sorted.now n }
-    requires marking { Marking hops.now (marked_by sense shape hops.now) marks.old }
-    requires batch { m ≤ word_bits }
-    requires within { base + m ≤ count hops.now }
-    ensures { Swept hops.now (marked_by sense shape hops.now) NothingKnown marks.old marks.new result }
+// Tries the hops of the batch until they take no mark; returns how many marks went.
+fn run_to_fixpoint(input: SweepInput, batch: Batch, marks: &mut [u8], hints: &mut Hints) -> usize
+    requires marking { MarkingIn input marks.old }
+    requires within { batch.base + batch.m ≤ count input.silent.hops.now }
+    ensures { SweptIn input.entry NothingKnown marks.old marks.new result }
 {
-    let bit = batch_bit(base);
-    let mut lost = 1;
+    let bit = batch_bit(batch.base);
     let mut all = 0;
-    while lost > 0 {
-        lost = try_batch(shape, hops, sorted, n, sense, base, m, bit, marks, touched);
+    loop {
+        let lost = try_batch(input, batch, bit, marks, &mut hints.touched);
+        if lost == 0 {
+            return all;
+        }
         all += lost;
     }
-    all
 }
 
-// Runs the batch from place `base` on if it is pending, and returns which batches are pending then.
-fn run_pending(
-    shape: Shape,
-    hops: &[u16],
-    sorted: &[u16; MOST_HOPS],
-    n: usize,
-    sense: u32,
-    base: usize,
-    pending: u64,
-    marks: &mut [u8],
-    was: &mut [u64; WORD_BITS],
-    touched: &mut [u64; MOST_STATES],
-) -> SweepOutcome
-    requires sweepable { SweepInput shape hops.now sorted.now n }
-    requires marking { Marking hops.now (marked_by sense shape hops.now) marks.old }
-    requires place { base < count hops.now }
-    ensures { Swept hops.now (marked_by sense shape hops.now) NothingKnown marks.old marks.new result.lost }
+// Runs the batch from place `base` on if it is pending; returns how many marks went.
+fn run_pending(input: SweepInput, base: usize, marks: &mut [u8], hints: &mut Hints) -> usize
+    requires marking { MarkingIn input marks.old }
+    requires place { base < count input.silent.hops.now }
+    ensures { SweptIn input.entry NothingKnown marks.old marks.new result }
 {
     let bit = batch_bit(base);
-    if pending & bit == 0 {
-        return SweepOutcome { lost: 0, pending };
+    if hints.pending & bit == 0 {
+        return 0;
     }
-    let m = batch_len(base, hop_count(hops));
-    let lost = run_to_fixpoint(shape, hops, sorted, n, sense, base, m, marks, touched);
-    let more = pending_after(hops, marks, was, touched);
-    SweepOutcome {
-        lost,
-        pending: (pending | more | bit) ^ bit,
-    }
+    let hops = input.silent.hops;
+    let batch = batch_at(base, hop_count(hops));
+    let lost = run_to_fixpoint(input, batch, marks, hints);
+    hints.record_lost(hops, marks);
+    hints.pending &= !bit;
+    lost
 }
 
 // How many batches n hops make.
@@ -184,155 +150,104 @@ fn batch_count(n: usize) -> usize
     requires { n ≤ most_hops }
     ensures { word_bits * result < n + word_bits }
 {
-    (n + (WORD_BITS - 1)) / WORD_BITS
+    n.div_ceil(WORD_BITS)
 }
 
-// Where the batch begins that a pass over so many batches of n hops runs after k others.
-fn pass_base(n: usize, batches: usize, down: bool, k: usize) -> usize
-    requires batches { word_bits * batches < n + word_bits }
-    requires most { n ≤ most_hops }
-    requires within { k < batches }
-    ensures { result < n }
+// One pass over the pending batches, upward; returns how many marks went.
+fn pass_up(input: SweepInput, marks: &mut [u8], hints: &mut Hints) -> usize
+    requires { MarkingIn input marks.old }
+    ensures { SweptIn input.entry NothingKnown marks.old marks.new result }
 {
-    if down {
-        return WORD_BITS * (batches - 1 - k);
-    }
-    WORD_BITS * k
-}
-
-// One pass over the pending batches, downward or upward.
-fn pass_pending(
-    shape: Shape,
-    hops: &[u16],
-    sorted: &[u16; MOST_HOPS],
-    n: usize,
-    sense: u32,
-    down: bool,
-    first: u64,
-    marks: &mut [u8],
-    was: &mut [u64; WORD_BITS],
-    touched: &mut [u64; MOST_STATES],
-) -> SweepOutcome
-    requires sweepable { SweepInput shape hops.now sorted.now n }
-    requires marking { Marking hops.now (marked_by sense shape hops.now) marks.old }
-    ensures { Swept hops.now (marked_by sense shape hops.now) NothingKnown marks.old marks.new result.lost }
-{
-    let past = hop_count(hops);
-    let batches = batch_count(past);
-    let mut pending = first;
     let mut lost = 0;
-    let mut k = 0;
-    while k < batches {
-        let base = pass_base(past, batches, down, k);
-        let outcome = run_pending(
-            shape, hops, sorted, n, sense, base, pending, marks, was, touched,
-        );
-        pending = outcome.pending;
-        lost += outcome.lost;
-        k += 1;
+    for k in 0..batch_count(hop_count(input.silent.hops)) {
+        lost += run_pending(input, WORD_BITS * k, marks, hints);
     }
-    SweepOutcome { lost, pending }
+    lost
 }
 
-// Between two sweeps: passes over the pending batches (`pending_after`), upward and downward
-// alternately, until one takes no mark; returns how many marks went.
-fn run_all_pending(
-    shape: Shape,
-    hops: &[u16],
-    sorted: &[u16; MOST_HOPS],
-    n: usize,
-    sense: u32,
-    marks: &mut [u8],
-    was: &mut [u64; WORD_BITS],
-    touched: &mut [u64; MOST_STATES],
-) -> usize
-    requires sweepable { SweepInput shape hops.now sorted.now n }
-    requires marking { Marking hops.now (marked_by sense shape hops.now) marks.old }
-    ensures { Swept hops.now (marked_by sense shape hops.now) NothingKnown marks.old marks.new result }
+// One pass over the pending batches, downward; returns how many marks went.
+fn pass_down(input: SweepInput, marks: &mut [u8], hints: &mut Hints) -> usize
+    requires { MarkingIn input marks.old }
+    ensures { SweptIn input.entry NothingKnown marks.old marks.new result }
 {
-    let mut pending = pending_after(hops, marks, was, touched);
-    let mut down = false;
-    let mut lost = 1;
+    let mut lost = 0;
+    for k in (0..batch_count(hop_count(input.silent.hops))).rev() {
+        lost += run_pending(input, WORD_BITS * k, marks, hints);
+    }
+    lost
+}
+
+// Between two sweeps: passes over the pending batches, upward and downward alternately, until one
+// takes no mark; returns how many marks went.
+fn run_all_pending(input: SweepInput, marks: &mut [u8], hints: &mut Hints) -> usize
+    requires { MarkingIn input marks.old }
+    ensures { SweptIn input.entry NothingKnown marks.old marks.new result }
+{
+    hints.record_lost(input.silent.hops, marks);
     let mut all = 0;
-    while lost > 0 {
-        let outcome = pass_pending(
-            shape, hops, sorted, n, sense, down, pending, marks, was, touched,
-        );
-        pending = outcome.pending;
-        lost = outcome.lost;
-        all += lost;
-        down = !down;
+    loop {
+        let up = pass_up(input, marks, hints);
+        if up == 0 {
+            return all;
+        }
+        let down = pass_down(input, marks, hints);
+        all += up + down;
+        if down == 0 {
+            return all;
+        }
     }
-    all
-}
-
-// The batches for which a sweep records what they touch: none if sweeps without a record (`plain`
-// many) are still to come, else all.
-fn recorded_after(plain: usize) -> u64 {
-    if plain > 0 {
-        return 0;
-    }
-    ALL_BATCHES
-}
-
-// One less, if there is one.
-fn one_less(plain: usize) -> usize {
-    if plain > 0 {
-        return plain - 1;
-    }
-    0
 }
 
 // Sweeps until one takes no mark; where no hop is silent there is none to take, and no sweep. After
 // a sweep that takes some, the batches run that are pending by it: where marks fall one after the
 // other, sweeps alone would run all batches for each of them. The first sweeps record nothing, so
 // that no batch is pending after them.
-fn sweep_to_fixpoint(
-    shape: Shape,
-    hops: &[u16],
-    sorted: &[u16; MOST_HOPS],
-    n: usize,
-    sense: u32,
-    marks: &mut [u8],
-)
-    requires sweepable { SweepInput shape hops.now sorted.now n }
-    requires marking { Marking hops.now (marked_by sense shape hops.now) marks.old }
+fn sweep_to_fixpoint(input: SweepInput, marks: &mut [u8])
+    requires { MarkingIn input marks.old }
     ensures { marks.new ≡
-        on_front (marks_of hops.now (marked_by sense shape hops.now)) marks.old }
+        on_front (marks_of input.entry.silent.hops.now (marked_by (sense_number input.entry.sense) input.entry.shape input.entry.silent.hops.now)) marks.old }
 {
-    let mut touched = [0u64; MOST_STATES];
-    let mut was = [ALL_BATCHES; WORD_BITS];
+    let mut hints = Hints {
+        touched: [0u64; MOST_STATES],
+        was: [ALL_BATCHES; WORD_BITS],
+        pending: 0,
+    };
     let mut plain = PLAIN_SWEEPS;
-    let mut fell = n;
+    let mut fell = input.silent.n;
+    // `while`: how many sweeps it takes depends on the marks.
     while fell > 0 {
-        let recorded = recorded_after(plain);
-        fell = sweep(shape, hops, sorted, n, sense, recorded, marks, &mut touched);
-        plain = one_less(plain);
+        let recorded = if plain > 0 { 0 } else { ALL_BATCHES };
+        fell = sweep(input, recorded, marks, &mut hints);
+        plain = plain.saturating_sub(1);
         if fell > 0 {
-            run_all_pending(shape, hops, sorted, n, sense, marks, &mut was, &mut touched);
+            run_all_pending(input, marks, &mut hints);
         }
     }
 }
 
-// Marks by sweeps, in the sense with the number: what `mark`, `reduce` and `shrink` do after the
-// refusals, for any sense but 1, which is marked in rounds (`mark_worklist_loop`). It would be
-// right for 1 too. The callers choose between the two: in one function they would share a frame,
-// and sense 1 would take more stack.
-pub fn mark_by_sweeps(
-    shape: Shape,
-    hops: &[u16],
-    starts: &[u16; STARTS],
-    sense: u32,
-    marks: &mut [u8],
-)
-    requires tabled { Indexed shape hops.now starts.now }
-    requires free { (ring_answer shape hops.now).number ≡ 0 }
-    requires capacity { count hops.now ≤ length marks.old }
+// Marks by sweeps, in the sense: what `mark`, `reduce` and `shrink` do after the refusals, for any
+// sense but R1, which is marked in rounds (`mark_worklist_loop`). It would be right for R1 too. The
+// callers choose between the two: in one function they would share a frame, and R1 would take more
+// stack.
+pub fn mark_by_sweeps(graph: Indexed<'_>, sense: Sense, marks: &mut [u8])
+    requires free { (ring_answer graph.shape graph.index.hops.now).number ≡ 0 }
+    requires capacity { count graph.index.hops.now ≤ length marks.old }
     ensures { marks.new ≡
-        on_front (marks_of hops.now (marked_by sense shape hops.now)) marks.old }
+        on_front (marks_of graph.entry.index.hops.now (marked_by (sense_number sense) graph.entry.shape graph.entry.index.hops.now)) marks.old }
 {
+    let hops = graph.index.hops;
     let mut sorted = [0u16; MOST_HOPS];
-    let n = order_of(shape, hops, starts, &mut sorted);
+    let n = order_of(graph, &mut sorted);
     start_marks(hops, marks);
-    sweep_to_fixpoint(shape, hops, &sorted, n, sense, marks);
+    let silent = SilentHops {
+        hops,
+        sorted: &sorted,
+        n,
+    };
+    let input = SweepInput {
+        shape: graph.shape,
+        silent,
+        sense,
+    };
+    sweep_to_fixpoint(input, marks);
 }

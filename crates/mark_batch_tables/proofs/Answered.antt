@@ -11,9 +11,8 @@ use borrow.Author.Tests.{eq-eqb, eqb-true}
 use lib.Bits.{bit_and, bit_or}
 use lib.Dec.{eqb}
 use lib.ListN.{length, get_or, set}
-use lib.Seq.{get_or-set_same, get_or-set_other}
 use Rattle.base_bounded.specs.Quantifiers.{any}
-use Rattle.base_bounded.proofs.Bools.{lt_or_le, eq_or_not, and_yes, and_left, and_right, and_no_left, or_left, or_right, or_yes}
+use Rattle.base_bounded.proofs.Bools.{lt_or_le, and_yes, and_left, and_right, and_no_left, or_left, or_right, or_yes}
 use Rattle.base_bounded.proofs.Quantifiers.{any_found, any_at}
 use Rattle.graph.specs.Hops.{count, from, label, to}
 use Rattle.graph.proofs.Places.{has_place, place_has}
@@ -29,15 +28,6 @@ cut_of xs ys s t b = bit_and_lem (get_or xs s 0) (get_or ys t 0) b ∙ ap₂ ◌
 -- staying: the first i words are done
 pub record Stayed (ends : List ℕ) (silent i : ℕ) (out : List ℕ) : Type 0 where
   pub word : (p : ℕ) → p < i → get_or out p 0 ≡ bit_and (get_or ends p 0) silent
-
-pub stayed_none : (ends : List ℕ) (silent : ℕ) (out : List ℕ) → Stayed ends silent 0 out
-stayed_none ends silent out = record { word = λ p l. absurd (omega arith) }
-
-pub stayed_more : {ends out : List ℕ} {silent i : ℕ} → Stayed ends silent i out → i < length out → Stayed ends silent (i + 1) (set out i (bit_and (get_or ends i 0) silent))
-stayed_more {ends} {out} {silent} {i} h l = record { word = λ p k. go p k (eq_or_not p i) } where
-  go : (p : ℕ) → p < i + 1 → (p ≡ i) ⊎ (p ≡ i → ⊥) → get_or (set out i (bit_and (get_or ends i 0) silent)) p 0 ≡ bit_and (get_or ends p 0) silent
-  go p k (inl e) = rw e (get_or-set_same out i (bit_and (get_or ends i 0) silent) 0 l)
-  go p k (inr n) = get_or-set_other out i p (bit_and (get_or ends i 0) silent) 0 n ∙ h.word p (omega arith)
 
 pub stayed_all : (labels : List ℕ) {ends out : List ℕ} {n : ℕ} → length ends ≡ n → length out ≡ n → Stayed ends (get_or labels 0 0) n out → StayTable labels ends out
 stayed_all labels {ends} {out} {n} d e h p b = go (lt_or_le p n) where

@@ -13,13 +13,14 @@ use lib.ListN.{length, get_or, set, replicate, length-set}
 use Rattle.base_bounded.proofs.Bools.{lt_or_le, eq_or_not}
 use Rattle.graph.specs.Hops.{count}
 use Rattle.graph.specs.Answers.{most_states}
+use Rattle.graph.specs.Internal.Key.{number_by_at}
 use Rattle.graph.specs.declared.Shape.{Shape}
 use Rattle.graph_check.specs.Check.{Admitted}
 use Rattle.base_bitset.specs.Internal.Bits.{bit_in}
 use Rattle.base_bitset.proofs.Laws.{bit_one, table_none, table_or, or_nothing}
-use Rattle.mark_batch_tables.specs.Internal.BatchTables.{number_by, KeyTable}
-use Rattle.mark_batch_tables.specs.declared.Key.{Key}
-use Rattle.mark_batch_tables.specs.declared.Key.TheVariants.{From, Label, To}
+use Rattle.mark_batch_tables.specs.Internal.BatchTables.{KeyTable}
+use Rattle.graph.specs.declared.Key.{Key}
+use Rattle.graph.specs.declared.Key.TheVariants.{From, Label, To}
 
 eqb_swap : (a b : ℕ) → eqb a b ≡ eqb b a
 eqb_swap a b = go (eq_or_not a b) where
@@ -36,7 +37,7 @@ and_true true = refl
 and_true false = refl
 
 -- a key is a place of a table
-pub key_in : {sh : Shape} {hs : List ℕ} → Admitted sh hs → (key : Key) {i : ℕ} → i < count hs → number_by key hs i < most_states
+pub key_in : {sh : Shape} {hs : List ℕ} → Admitted sh hs → (key : Key) {i : ℕ} → i < count hs → number_by_at key hs i < most_states
 key_in a From {i} l = omega (arith, a.range.from_in i l, a.states_most)
 key_in a Label {i} l = omega (arith, a.range.label_in i l, a.labels_most)
 key_in a To {i} l = omega (arith, a.range.to_in i l, a.states_most)

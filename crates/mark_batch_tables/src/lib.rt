@@ -12,20 +12,20 @@ ghost use Rattle.std.specs.Prelude.{◌≡◌, ◌+◌, ◌<◌, ◌≤◌, ◌^
 ghost use Rattle.std.specs.Int.Bits.{bit_or};
 ghost use Rattle.graph.specs.Hops.{count};
 ghost use Rattle.graph.specs.Answers.{most_states};
+ghost use Rattle.graph.specs.Internal.Key.{number_by_at};
 ghost use Rattle.graph_check.specs.Check.{Admitted};
 ghost use Rattle.base_bitset.specs.Internal.Bits.{word_bits};
-ghost use Rattle.mark_batch_tables.specs.Internal.BatchTables.{number_by, KeyTable, StayTable, AnswerTable};
+ghost use Rattle.mark_batch_tables.specs.Internal.BatchTables.{KeyTable, StayTable, AnswerTable};
 
-use base_bitset::{bit_of, sized};
-use graph::hops::{from_at, hop_at, hop_count, label_at, to_at};
-use graph::tables::wide;
-use graph::{MOST_LABELS, MOST_STATES, Shape};
+use base_bitset::bit_of;
+use graph::hops::{hop_at, hop_count, number_by_at};
+use graph::{Key, MOST_LABELS, MOST_STATES, Shape};
 
 // No bit anywhere.
 pub fn clear(words: &mut [u64; MOST_STATES])
     ensures { words.new ≡ replicate most_states 0 }
 {
-    *words = [0u64; MOST_STATES];
+    words.fill(0);
 }
 
 // Bit b at s, besides what the table has.
@@ -34,50 +34,28 @@ fn put_bit(words: &mut [u64; MOST_STATES], s: u16, b: usize)
     requires bit { b < word_bits }
     ensures { words.new ≡ set words.old s (bit_or (get_or words.old s 0) (2 ^ b)) }
 {
-    words[wide(s)] |= bit_of(b);
+    words[usize::from(s)] |= bit_of(b);
 }
 
-// Which number of a hop is its key in a table.
+// A batch of hops tried together: the m hops from place `base` on, a bit each.
 #[derive(Clone, Copy)]
-pub enum Key {
-    From,
-    Label,
-    To,
+pub struct Batch {
+    pub base: usize,
+    pub m: usize,
+    ghost few: { m ≤ word_bits },
 }
 
-// The key of the hop at place i.
-fn key_at(hops: &[u16], key: Key, i: usize) -> u16
-    requires { i < count hops.now }
-    ensures { result ≡ number_by key hops.now i }
-{
-    match key {
-        Key::From => from_at(hops, i).0,
-        Key::Label => label_at(hops, i).0,
-        Key::To => to_at(hops, i).0,
-    }
-}
-
-// Bit b at the key of the hop at place base + b, for each b below m, in a table that has no bit
-// yet: who has just made it need not clear it. A label is a key as a state is: there are as many
-// labels at most as states.
-pub fn put_keys(
-    shape: Shape,
-    hops: &[u16],
-    key: Key,
-    base: usize,
-    m: usize,
-    words: &mut [u64; MOST_STATES],
-)
+// Bit b at the key of hop b of the batch, for each of its hops, in a table that has no bit yet: who
+// has just made it need not clear it. A label is a key as a state is: there are as many labels at
+// most as states.
+pub fn put_keys(shape: Shape, hops: &[u16], key: Key, batch: Batch, words: &mut [u64; MOST_STATES])
     requires admitted { Admitted shape hops.now }
-    requires batch { m ≤ word_bits }
-    requires within { base + m ≤ count hops.now }
+    requires within { batch.base + batch.m ≤ count hops.now }
     requires empty { words.old ≡ replicate most_states 0 }
-    ensures { KeyTable (number_by key hops.now) base m words.new }
+    ensures { KeyTable (number_by_at key hops.now) batch.base batch.m words.new }
 {
-    let mut b = 0;
-    while b < m {
-        put_bit(words, key_at(hops, key, base + b), b);
-        b += 1;
+    for b in 0..batch.m {
+        put_bit(words, number_by_at(hops, batch.base + b, key), b);
     }
 }
 
@@ -85,13 +63,9 @@ pub fn put_keys(
 fn put_stay(labels: &[u64; MOST_LABELS], ends: &[u64; MOST_STATES], out: &mut [u64; MOST_STATES])
     ensures { StayTable labels.now ends.now out.new }
 {
-    sized(ends);
-    sized(out);
     let silent = labels[0];
-    let mut s = 0;
-    while s < MOST_STATES {
-        out[s] = ends[s] & silent;
-        s += 1;
+    for (s, word) in out.iter_mut().enumerate() {
+        *word = ends[s] & silent;
     }
 }
 
@@ -107,12 +81,8 @@ pub fn put_answers(
     ensures { AnswerTable hops.now labels.now ends.now out.new }
 {
     put_stay(labels, ends, out);
-    sized(out);
-    let n = hop_count(hops);
-    let mut i = 0;
-    while i < n {
+    for i in 0..hop_count(hops) {
         let h = hop_at(hops, i);
-        out[wide(h.from)] |= ends[wide(h.to)] & labels[wide(h.label)];
-        i += 1;
+        out[usize::from(h.from)] |= ends[usize::from(h.to)] & labels[usize::from(h.label)];
     }
 }

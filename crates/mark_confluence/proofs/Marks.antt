@@ -18,7 +18,7 @@ use Rattle.graph.specs.Hops.{count, from, label, to, has}
 use Rattle.graph.proofs.Places.{is_yes, is_from, is_to, has_place, place_has}
 use Rattle.base_fixpoint.specs.Pairs.{Pairs, In, Subset}
 use Rattle.mark_confluence.specs.Rounds.{silent_hops}
-use Rattle.mark_confluence.specs.Internal.MarkSet.{is_marked, mark_set, every_pair}
+use Rattle.mark_confluence.specs.Internal.MarkSet.{is_marked, mark_set}
 use Rattle.mark_confluence.specs.Marks.{mark_of, marks_of}
 use Rattle.mark_confluence.proofs.MarkSet.{mark_set_says, mark_set_yes}
 
@@ -51,9 +51,6 @@ module _ (hs : List ℕ) (u : Pairs) where
     mark_says e =
         let b = bit_one (eqb (label hs i) 0 && u (from hs i) (to hs i)) e in
         (eqb-true (label hs i) 0 (and_left (eqb (label hs i) 0) _ b), and_right (eqb (label hs i) 0) _ b)
-
-    pub mark_visible : (label hs i ≡ 0 → ⊥) → mark_of hs u i ≡ 0
-    mark_visible n = ⊎_elim (λ z. z) (λ o. absurd (n (mark_says o).0)) mark_bit
 
   pub length_marks : length (marks_of hs u) ≡ count hs
   unfolding marks_of
@@ -119,14 +116,6 @@ module _ (hs : List ℕ) (u : Pairs) where
       same : (s t : ℕ) → mark_set hs ms s t ≡ u s t
       same s t =
           marks_mark_set s t ∙ same_test (has hs s 0 t && u s t) (u s t) (and_right (has hs s 0 t) (u s t)) (λ h. and_yes (w s t h) h)
-
--- the marks that marking begins with
-module _ (hs : List ℕ) where
-  pub first_silent : (i : ℕ) → label hs i ≡ 0 → 1 ≡ mark_of hs every_pair i
-  first_silent i q = sym (mark_one hs every_pair i q refl)
-
-  pub first_visible : (i : ℕ) → (label hs i ≡ 0 → ⊥) → 0 ≡ mark_of hs every_pair i
-  first_visible i n = sym (mark_visible hs every_pair i n)
 
 -- marks that are written over others are written over what was there before
 pub marks_over : (hs : List ℕ) (u v : Pairs) {ms : List ℕ} (out : List ℕ) {new : List ℕ} → ms ≡ on_front (marks_of hs v) out → new ≡ on_front (marks_of hs u) ms → new ≡ on_front (marks_of hs u) out

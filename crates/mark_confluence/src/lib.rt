@@ -22,14 +22,7 @@ pub fn start_marks(hops: &[u16], marks: &mut [u8])
     requires { count hops.now ≤ length marks.old }
     ensures { marks.new ≡ on_front (marks_of hops.now every_pair) marks.old }
 {
-    let past = hop_count(hops);
-    let mut i = 0;
-    while i < past {
-        if label_at(hops, i).0 == 0 {
-            marks[i] = 1;
-        } else {
-            marks[i] = 0;
-        }
-        i += 1;
+    for i in 0..hop_count(hops) {
+        marks[i] = u8::from(label_at(hops, i).0 == 0);
     }
 }

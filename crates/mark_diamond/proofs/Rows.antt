@@ -1,14 +1,15 @@
 -- One state's hops in an ascending list walked, and two states' side by side: the table of first
 -- places says where each state's hops stand, and their labels do not descend. By this the ways out
 -- of X and Y. Assumes nothing.
+use Rattle.std.proofs.Common.{Result}
 use Prim.Native.Nat.{ℕ, ◌+◌, ◌<◌, ◌≤◌}
 use mathlib.Core.Path.{◌≡◌, refl, sym, ◌∙◌}
-use mathlib.Core.Bool.{Bool, true, false, not, ◌&&◌}
+use mathlib.Core.Bool.{Bool, true, false, ◌&&◌}
 use mathlib.Core.List.{List}
 use mathlib.Core.Logic.{inl, inr, ⊎_elim}
 use native.Mathlib.Nat.{le_refl}
 use native.Mathlib.Omega.{arith}
-use borrow.Author.Tests.{not-true, not-false, eqb-true}
+use borrow.Author.Tests.{eqb-true}
 use borrow.Author.Count.{below_more}
 use lib.Dec.{eqb}
 use Rattle.graph.specs.Hops.{count, from, label, to, hop_of, hop_at, has}
@@ -16,7 +17,6 @@ use Rattle.graph.specs.Order.{before, Ascending}
 use Rattle.graph.specs.Internal.Search.{placed, is_at, found_place}
 use Rattle.graph.specs.Search.{first_of, past_of}
 use Rattle.graph.specs.declared.Hop.{Hop}
-use Rattle.graph.specs.declared.Found.{Found}
 use Rattle.base_bounded.proofs.Bools.{and_left, and_right, lt_or_le}
 use Rattle.base_bounded.proofs.Quantifiers.{all_yes, all_fails}
 use Rattle.graph.proofs.Ordered.{Below, before_below, below_before, ascending_lt}
@@ -70,16 +70,16 @@ module _ (hs : List ℕ) (up : Ascending hs) (s1 end : ℕ) where
 
       -- X: the one at j is tried, against a silent hop to t, which is s2
       module _ (u : Pairs) (s2 : ℕ) {t : ℕ} {v : Bool} (q : t ≡ s2) (e : v ≡ answered hs u t j) where
-        pub tried_fails : not v ≡ true → false ≡ closes hs u s1 s2
+        pub tried_fails : v ≡ false → false ≡ closes hs u s1 s2
         unfolding closes
         tried_fails n =
-            let d : answered hs u s2 j ≡ false = rw q at (sym e ∙ not-true v n) in
+            let d : answered hs u s2 j ≡ false = rw q at (sym e ∙ n) in
             sym (all_fails (tried hs (answers hs (closing u)) s1 s2) (count hs) own_in (tried_own hs u s1 s2 j own_from ∙ d))
 
-        pub tried_next : not v ≡ false → ((k : ℕ) → k < j → tried hs (answers hs (closing u)) s1 s2 k ≡ true) →
+        pub tried_next : v ≡ true → ((k : ℕ) → k < j → tried hs (answers hs (closing u)) s1 s2 k ≡ true) →
             (k : ℕ) → k < j + 1 → tried hs (answers hs (closing u)) s1 s2 k ≡ true
         tried_next n f =
-            let d : answered hs u s2 j ≡ true = rw q at (sym e ∙ not-false v n) in
+            let d : answered hs u s2 j ≡ true = rw q at (sym e ∙ n) in
             below_more _ j f (tried_own hs u s1 s2 j own_from ∙ d)
 
 -- Two states' hops walked side by side: j goes over those of s1, up to `end`, and `at` over those
@@ -179,12 +179,12 @@ module _ (hs : List ℕ) (up : Ascending hs) (s1 s2 end past : ℕ) where
       go (inl k) = absurd (omega (arith, own_from hs up s1 end o l, own_from hs up s1 end later n))
       go (inr (q, k)) = below_before (like_at hs s2 j) (like_at hs s2 i) (inr (refl, k))
 
-    pub beside_next : {same r : ℕ} {h : Hop} {f : Found} → Beside hs s2 end past same j → h ≡ like_at hs s2 j → f ≡ placed hs h → r ≡ found_place f →
+    pub beside_next : {same r : ℕ} {h : Hop} {f : Result ℕ ℕ} → Beside hs s2 end past same j → h ≡ like_at hs s2 j → f ≡ placed hs h → r ≡ found_place f →
         Beside hs s2 end past r (j + 1)
     beside_next w q e d = onward hs up likes_rise w l (d ∙ rw (e, q) (found_lower hs (like_at hs s2 j)))
 
 -- the search decides whether s2 has it
-pub like_has : (hs : List ℕ) → Ascending hs → (s2 j : ℕ) {h : Hop} {f : Found} {v : Bool} → h ≡ like_at hs s2 j → f ≡ placed hs h → v ≡ is_at f →
+pub like_has : (hs : List ℕ) → Ascending hs → (s2 j : ℕ) {h : Hop} {f : Result ℕ ℕ} {v : Bool} → h ≡ like_at hs s2 j → f ≡ placed hs h → v ≡ is_at f →
     v ≡ has hs s2 (label hs j) (to hs j)
 like_has hs up s2 j q e d = d ∙ rw (e, q) (placed_has hs (like_at hs s2 j) up)
 

@@ -1,5 +1,6 @@
 -- The place m along s3's row: it brackets the search of the silent hop from s3 to each end that is
 -- still to come, since these ends rise. Assumes nothing.
+use Rattle.std.proofs.Common.{Result, Ok, Err}
 use Prim.Native.Nat.{ℕ, ◌+◌, ◌<◌, ◌≤◌}
 use mathlib.Core.Path.{◌≡◌, refl, sym, ◌∙◌}
 use mathlib.Core.Bool.{Bool}
@@ -11,8 +12,6 @@ use Rattle.graph.specs.Order.{Ascending}
 use Rattle.graph.specs.Internal.Search.{placed, found_place}
 use Rattle.graph.specs.Search.{first_of}
 use Rattle.graph.specs.declared.Hop.{Hop}
-use Rattle.graph.specs.declared.Found.{Found}
-use Rattle.graph.specs.declared.Found.TheVariants.{At, Gap}
 use Rattle.graph.proofs.Ordered.{Below, before_below, below_before, ascending_lt}
 use Rattle.graph.proofs.Lookup.{found_lower, Onward, onward}
 use Rattle.graph_successors.proofs.Rows.{row_bracket}
@@ -40,7 +39,7 @@ module _ (hs : List ℕ) (up : Ascending hs) where
     pub along_start : {k : ℕ} → m ≡ first_of hs s3 → end ≡ first_of hs (s3 + 1) → Along hs a s3 past end m k
     along_start p q i l w = row_bracket hs up (hop_of s3 0 (to hs i)) p q
 
-    pub along_next : {s at : ℕ} → Row hs s a at past → {k r s4 : ℕ} {h : Hop} {f : Found} → Along hs a s3 past end m k → at ≤ k → k < past → label hs k ≡ a →
+    pub along_next : {s at : ℕ} → Row hs s a at past → {k r s4 : ℕ} {h : Hop} {f : Result ℕ ℕ} → Along hs a s3 past end m k → at ≤ k → k < past → label hs k ≡ a →
         s4 ≡ to hs k → h ≡ hop_of s3 0 s4 → f ≡ placed hs h → r ≡ found_place f → Along hs a s3 past end r (k + 1)
     along_next row {k} w l n p t q e v =
         onward hs up (λ i o (u, d). below_before (hop_of s3 0 (to hs k)) (hop_of s3 0 (to hs i)) (inr (refl, inr (refl, ends_rise row l o u p d)))) w (n, p)
@@ -48,12 +47,12 @@ module _ (hs : List ℕ) (up : Ascending hs) where
 
 -- what the code found out, v, of the silent hop from s3 to s4, another state, by the search that
 -- came to f
-module _ (hs ms : List ℕ) (up : Ascending hs) (s3 s4 : ℕ) {h : Hop} {f : Found} (q : h ≡ hop_of s3 0 s4) (e : f ≡ placed hs h) where
-  pub found_marked_lem : {p : ℕ} → f ≡ At p → p < count hs
+module _ (hs ms : List ℕ) (up : Ascending hs) (s3 s4 : ℕ) {h : Hop} {f : Result ℕ ℕ} (q : h ≡ hop_of s3 0 s4) (e : f ≡ placed hs h) where
+  pub found_marked_lem : {p : ℕ} → f ≡ Ok p → p < count hs
   found_marked_lem d = (mark_set_found hs ms up s3 s4 q e d).0
 
   pub found_closes : {v : Bool} → (s3 ≡ s4 → ⊥) → v ≡ found_marked ms f → v ≡ closing (mark_set hs ms) s3 s4
   found_closes {v} n d = d ∙ told f refl ∙ sym (closing_other (mark_set hs ms) s3 s4 n) where
-    told : (x : Found) → f ≡ x → found_marked ms x ≡ mark_set hs ms s3 s4
-    told (At p) g = (mark_set_found hs ms up s3 s4 q e g).1
-    told (Gap p) g = mark_set_missing hs ms up s3 s4 q e g
+    told : (x : Result ℕ ℕ) → f ≡ x → found_marked ms x ≡ mark_set hs ms s3 s4
+    told (Ok p) g = (mark_set_found hs ms up s3 s4 q e g).1
+    told (Err p) g = mark_set_missing hs ms up s3 s4 q e g

@@ -2,11 +2,13 @@
 -- stand together. By this, the ways out of the walk over s2's hops. Assumes nothing.
 use Prim.Native.Nat.{ℕ, ◌<◌, ◌≤◌}
 use mathlib.Core.Path.{◌≡◌, sym, ◌∙◌}
-use mathlib.Core.Bool.{Bool, true, false}
+use mathlib.Core.Bool.{Bool, true, false, not}
 use mathlib.Core.List.{List}
 use mathlib.Core.Logic.{inl, inr, ⊎_elim}
 use native.Mathlib.Nat.{eq-or-lt_of_le}
 use native.Mathlib.Omega.{arith}
+use lib.Dec.{eqb}
+use borrow.Author.Tests.{eqb-true, eqb-false, not-true, not-false}
 use Rattle.graph.specs.Hops.{count, from, label, to, labelled, hop_at}
 use Rattle.graph.specs.Order.{Ascending}
 use Rattle.base_bounded.proofs.Bools.{lt_or_le}
@@ -16,6 +18,13 @@ use Rattle.base_fixpoint.specs.Pairs.{Pairs}
 use Rattle.mark_confluence.specs.Rounds.{closing, hop_answers}
 use Rattle.mark_confluence.proofs.Closing.{closing_is, hop_answers_lem, none_answers}
 use Rattle.graph_successors.specs.Internal.Row.{Row}
+
+-- what `!=` says of two labels, by their numbers
+pub unlike : {a b : ℕ} → true ≡ not (eqb a b) → a ≡ b → ⊥
+unlike e = eqb-false _ _ (not-true _ (sym e))
+
+pub alike : {a b : ℕ} → false ≡ not (eqb a b) → a ≡ b
+alike e = eqb-true _ _ (not-false _ (sym e))
 
 module _ (hs : List ℕ) (up : Ascending hs) where
   pub ascending_label : {i j : ℕ} → i ≤ j → j < count hs → from hs i ≡ from hs j → label hs i ≤ label hs j

@@ -3,7 +3,8 @@
 -- the code. Assumes nothing.
 use Prim.Native.Nat.{ℕ, ◌+◌, ◌<◌, ◌≤◌}
 use mathlib.Core.Path.{◌≡◌, sym, ◌∙◌}
-use mathlib.Core.Bool.{true, false}
+use mathlib.Core.Bool.{Bool, true, false}
+use lib.ListN.{get_or}
 use mathlib.Core.List.{List}
 use mathlib.Core.Logic.{inl, inr, ⊎_elim}
 use native.Mathlib.Omega.{arith}
@@ -17,7 +18,7 @@ use Rattle.graph.proofs.Ordered.{Below, before_below, below_before}
 use Rattle.graph.proofs.Lookup.{lower_law, first_within, range_holds, range_only}
 use Rattle.graph_successors.proofs.Rows.{first_labelled}
 use Rattle.mark_confluence.specs.Internal.Rounds.{answered}
-use Rattle.mark_confluence.specs.Internal.MarkSet.{mark_set, is_marked}
+use Rattle.mark_confluence.specs.Internal.MarkSet.{mark_set}
 use Rattle.graph_successors.specs.Internal.Row.{Row}
 use Rattle.mark_diamond_retest.specs.Internal.Retest.{CleanAnswered}
 
@@ -50,7 +51,7 @@ row_is hs up s {a} q e p = rw (e, p, q) (labelled_row hs up s a)
 
 -- a hop of the state that the one at place i leaves, tried against t, its end: if it leads to a
 -- state that is not dirty it is answered
-pub clean_at : (hs ms sh : List ℕ) (i : ℕ) → CleanAnswered hs ms sh i → {j t : ℕ} → j < count hs → from hs j ≡ from hs i → t ≡ to hs i →
-    is_marked sh (to hs j) ≡ false → answered hs (mark_set hs ms) t j ≡ true
+pub clean_at : (hs ms : List ℕ) (sh : List Bool) (i : ℕ) → CleanAnswered hs ms sh i → {j t : ℕ} → j < count hs → from hs j ≡ from hs i → t ≡ to hs i →
+    get_or sh (to hs j) false ≡ false → answered hs (mark_set hs ms) t j ≡ true
 unfolding CleanAnswered
 clean_at hs ms sh i u {j} l f q e = rw q (u j l f e)

@@ -1,13 +1,13 @@
 -- The answer of `mark` row by row, and what its acceptance implies: an admitted graph without
 -- rings, and an output with capacity for one mark a hop. Assumes nothing.
-use Prim.Native.Nat.{ℕ, ◌<◌, ◌≤◌}
+use Prim.Native.Nat.{ℕ, ◌≤◌}
 use mathlib.Core.Path.{◌≡◌, sym, ◌∙◌}
 use mathlib.Core.List.{List}
 use lib.ListN.{length}
-use borrow.Author.Tests.{eq-eqb, ne_eqb, le-leb, lt-leb}
+use borrow.Author.Tests.{eq-eqb, ne_eqb}
 use Rattle.base_outputs.specs.Output.{on_front}
 use Rattle.graph.specs.Hops.{count}
-use Rattle.graph.specs.Answers.{accepted, refused, and_then, capacity_answer}
+use Rattle.graph.specs.Answers.{and_then, capacity_answer}
 use Rattle.graph_check.specs.Check.{check_of, Admitted}
 use Rattle.graph.specs.declared.Shape.{Shape}
 use Rattle.graph.specs.declared.Answer.{Answer}
@@ -17,27 +17,10 @@ use Rattle.walk_silent.specs.Silent.{ring_answer}
 use Rattle.mark_senses.specs.Senses.{sense_answer}
 use Rattle.mark_entry.specs.Mark.{marks_made, mark_answer, mark_output}
 
--- rows 5 and 6 of an admitted graph: the ways out of the code, in order
+-- row 5 of an admitted graph is the answer where it refuses
 module _ (sh : Shape) (hs : List ℕ) (capacity : ℕ) {d : Answer} (f : d ≡ ring_answer sh hs) where
-  abbrev later : Answer
-  later = and_then (ring_answer sh hs) (capacity_answer (count hs) capacity)
-
-  pub later_ringed : (d.number ≡ 0 → ⊥) → d ≡ later
+  pub later_ringed : (d.number ≡ 0 → ⊥) → d ≡ and_then (ring_answer sh hs) (capacity_answer (count hs) capacity)
   later_ringed n = f ∙ sym (then_first (ring_answer sh hs) _ (rw f at n))
-
-  module _ (y : d.number ≡ 0) where
-    last : capacity_answer (count hs) capacity ≡ later
-    last = sym (then_next (ring_answer sh hs) _ (rw f at y))
-
-    pub later_narrow : capacity < count hs → refused 6 0 ≡ later
-    later_narrow l = narrow ∙ last where
-      narrow : refused 6 0 ≡ capacity_answer (count hs) capacity
-      narrow = rw (lt-leb (count hs) capacity l)
-
-    pub later_accepts : count hs ≤ capacity → accepted ≡ later
-    later_accepts l = wide ∙ last where
-      wide : accepted ≡ capacity_answer (count hs) capacity
-      wide = rw (le-leb (count hs) capacity l)
 
 module _ (sh : Shape) (hs : List ℕ) (k : ℕ) (out : List ℕ) where
   abbrev behind_sense : Answer

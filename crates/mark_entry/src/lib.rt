@@ -3,7 +3,8 @@
 // Refusals come in the order 1 to 4, 19 (no such sense), 5 (a ring exists), 6 (output too short).
 // Sense 1 is marked by the worklist, the others by sweeps over batches.
 // Uses `mark_worklist_loop` and `mark_batch_sweeps` for the marking, `mark_senses`, `walk_rings`
-// and `graph_check` for the refusals, and `base_outputs` for what is written.
+// and `graph_check` for the refusals, `graph_index` for the graph with its table of first places,
+// and `base_outputs` for what is written.
 #![tactic(auto)]
 
 pub mod mark; // mark.rt: the entry `mark`

@@ -3,7 +3,7 @@
 -- set. Assumes nothing.
 use Prim.Native.Nat.{ℕ}
 use mathlib.Core.Path.{◌≡◌, sym, ◌∙◌}
-use mathlib.Core.List.{List}
+use mathlib.Core.List.{List, []}
 use lib.ListN.{drop}
 use Rattle.graph.specs.Hops.{count}
 use Rattle.graph.specs.Order.{Ascending}
@@ -15,5 +15,5 @@ use Rattle.mark_worklist_loop.specs.Internal.BetweenRounds.{After}
 use Rattle.mark_worklist_loop.proofs.Rounds.{after_marks}
 
 pub sweeps_same_marks : (hs : List ℕ) → Ascending hs → (out : List ℕ) {ms : List ℕ} → Marking hs (marked hs) ms → ClosesUpTo hs (count hs) ms → drop (count hs) ms ≡ drop (count hs) out →
-    {ns fl : List ℕ} {k n t : ℕ} → After hs k ns out fl n t → n ≡ 0 → ms ≡ ns
+    {ns fl : List ℕ} {k t : ℕ} → After hs k ns out fl t → fl ≡ [] → ms ≡ ns
 sweeps_same_marks hs up out m rest e a z = rested_marks hs up m rest out e ∙ sym (after_marks hs a z)

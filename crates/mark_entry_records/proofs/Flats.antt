@@ -7,12 +7,12 @@
 -- Assumes nothing.
 use Prim.Native.Nat.{ℕ, suc, ◌+◌, ◌<◌, ◌≤◌}
 use mathlib.Core.Path.{◌≡◌, refl, sym, ◌∙◌, ap}
-use mathlib.Core.Bool.{Bool, true, false, cond, ◌&&◌}
+use mathlib.Core.Bool.{◌&&◌}
 use mathlib.Core.List.{List, [], ◌∷◌, ◌++◌}
 use native.Mathlib.Numerals.{add-one}
 use native.Mathlib.Omega.{arith}
-use borrow.Author.Tests.{ltb-true, ltb-false, lt-leb}
-use lib.Dec.{ltb, leb}
+use borrow.Author.Tests.{lt-leb}
+use lib.Dec.{leb}
 use lib.ListN.{length, take, get_or, set}
 use lib.Seq.{length-take-le, take-length, take-suc, set_at}
 use Rattle.graph.specs.Hops.{count, whole, hop_at, flat}
@@ -26,7 +26,6 @@ use Rattle.graph_check.proofs.Checked.{check_counts}
 use Rattle.graph.proofs.Fronts.{length_front, over_front, put_over, length_over, front_over, over_over}
 use Rattle.graph.proofs.Places.{count_flat}
 use Rattle.mark_entry.specs.Mark.{mark_answer, mark_output}
-use Rattle.mark_entry_records.specs.Internal.Records.{unless_over}
 
 abbrev pub done : List Hop → List ℕ → ℕ → List ℕ
 done ys xs i = over (take i ys) xs
@@ -61,15 +60,6 @@ module _ (ys : List Hop) (xs : List ℕ) where
             set_at (front i hs) (hop_at hs i) [] h i (length_front hs i)
             ∙ ap (λ (z : List Hop). z ++ (h ∷ [])) (ap (λ (k : ℕ). front k hs) (sym as_many) ∙ front_over xs (take i ys))
             ∙ (sym (take-suc ys i no_hop l) ∙ ap (λ (k : ℕ). take k ys) (sym (add-one i)))
-
--- what is said of a list that stands for another wherever there are not too many hops, and where
--- there are, is known
-pub unless_over_lem : {A : Type 0} (n : ℕ) (z : A) (f : List ℕ → A) (a b : List ℕ) → (n ≤ most_hops → a ≡ b) → (most_hops < n → f b ≡ z) →
-    unless_over n z (f a) ≡ f b
-unless_over_lem n z f a b few many = go (ltb most_hops n) refl where
-  go : (t : Bool) → ltb most_hops n ≡ t → cond t z (f a) ≡ f b
-  go true e = sym (many (ltb-true most_hops n e))
-  go false e = ap f (few (ltb-false most_hops n e))
 
 -- "4,097 give 1"
 pub check_over : (sh : Shape) (ys : List Hop) → most_hops < length ys → check_of sh (flat ys) ≡ refused 1 0

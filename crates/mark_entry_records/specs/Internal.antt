@@ -1,1 +1,1 @@
-pub mod Records  -- what the functions below the entries say; a flat list that holds records
+pub mod Records  -- a flat list that holds records

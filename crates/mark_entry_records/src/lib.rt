@@ -5,83 +5,49 @@
 // Uses `check` of `graph_check` and `mark` of `mark_entry`.
 #![tactic(auto)]
 
-ghost use Rattle.std.specs.Prelude.{◌≡◌, ◌≤◌, length, ltb};
-ghost use Rattle.graph.specs.Hops.{between, flat};
-ghost use Rattle.graph.specs.Answers.{most_hops, refused};
+ghost use Rattle.std.specs.Prelude.{◌≡◌, ◌<◌, ◌↔◌, length, IfOk, IfErr, IsErr};
+ghost use Rattle.graph.specs.Hops.{flat};
+ghost use Rattle.graph.specs.Answers.{most_hops, refused, refusal_answer, answer_of};
 ghost use Rattle.graph_check.specs.Check.{check_of};
 ghost use Rattle.mark_entry.specs.Mark.{mark_answer, mark_output};
-ghost use Rattle.mark_entry_records.specs.Internal.Records.{unless_over};
 
-use graph::answers::refuse;
 use graph::hops::{part, put_hop};
-use graph::{Answer, Hop, MOST_HOPS, MOST_NUMBERS, Shape};
+use graph::{Hop, MOST_HOPS, MOST_NUMBERS, Refusal, Shape};
 use graph_check::check;
 use mark_entry::mark::mark;
 
-// The flat list of the records at the front of an array. Its contract says nothing of more records
-// than a graph may have hops.
-fn flat_of(hops: &[Hop]) -> [u16; MOST_NUMBERS]
-    ensures { length hops.now ≤ most_hops → between result 0 (length hops.now) ≡ flat hops.now }
+// The flat list of the records, written at the front of an array; more records than a graph may
+// have hops are refused.
+fn flat_of<'a>(hops: &[Hop], nums: &'a mut [u16; MOST_NUMBERS]) -> Result<&'a [u16], Refusal>
+    ensures flat { IfOk result (λ list. list.now ≡ flat hops.now) }
+    ensures refusal { IfErr result (λ refusal. refusal_answer refusal ≡ refused 1 0) }
+    ensures refuses { IsErr result ↔ (most_hops < length hops.now) }
 {
-    let mut nums = [0u16; MOST_NUMBERS];
-    if MOST_HOPS < hops.len() {
-        return nums;
+    let n = hops.len();
+    if MOST_HOPS < n {
+        return Err(Refusal::Counts);
     }
-    let mut i = 0;
-    while i < hops.len() {
-        put_hop(&mut nums, i, hops[i]);
-        i += 1;
+    for i in 0..n {
+        put_hop(nums, i, hops[i]);
     }
-    nums
-}
-
-// Whether n hops are more than a graph may have.
-fn is_over(n: usize) -> bool
-    ensures { result ≡ ltb most_hops n }
-{
-    MOST_HOPS < n
-}
-
-// `check` of the first n hops of an array, where a graph may have as many.
-fn check_of(shape: Shape, nums: [u16; MOST_NUMBERS], n: usize) -> Answer
-    ensures { result ≡ unless_over n (refused 1 0) (check_of shape (between nums 0 n)) }
-{
-    if is_over(n) {
-        return refuse(1, 0);
-    }
-    check(shape, part(&nums, 0, n))
+    Ok(part(nums, 0, n))
 }
 
 // The entry `check` over records.
-pub fn check_records(shape: Shape, hops: &[Hop]) -> Answer
-    ensures { result ≡ check_of shape (flat hops.now) }
+pub fn check_records(shape: Shape, hops: &[Hop]) -> Result<(), Refusal>
+    ensures { answer_of result ≡ check_of shape (flat hops.now) }
 {
-    let n = hops.len();
-    check_of(shape, flat_of(hops), n)
-}
-
-// `mark` of the first n hops of an array, where a graph may have as many.
-fn mark_of(
-    shape: Shape,
-    nums: [u16; MOST_NUMBERS],
-    n: usize,
-    sense: u32,
-    marks: &mut [u8],
-) -> Answer
-    ensures { (result ≡ unless_over n (refused 1 0) (mark_answer shape (between nums 0 n) sense marks.old)) ×
-        (marks.new ≡ unless_over n marks.old (mark_output shape (between nums 0 n) sense marks.old)) }
-{
-    if is_over(n) {
-        return refuse(1, 0);
-    }
-    mark(shape, part(&nums, 0, n), sense, marks)
+    let mut nums = [0u16; MOST_NUMBERS];
+    let list = flat_of(hops, &mut nums)?;
+    check(shape, list)
 }
 
 // The entry `mark` over records, in the sense asked: a refusal writes nothing.
-pub fn mark_records(shape: Shape, hops: &[Hop], sense: u32, marks: &mut [u8]) -> Answer
-    ensures answers { result ≡ mark_answer shape (flat hops.now) sense marks.old }
+pub fn mark_records(shape: Shape, hops: &[Hop], sense: u32, marks: &mut [u8]) -> Result<(), Refusal>
+    ensures answers { answer_of result ≡ mark_answer shape (flat hops.now) sense marks.old }
     ensures writes { marks.new ≡ mark_output shape (flat hops.now) sense marks.old }
 {
-    let n = hops.len();
-    mark_of(shape, flat_of(hops), n, sense, marks)
+    let mut nums = [0u16; MOST_NUMBERS];
+    let list = flat_of(hops, &mut nums)?;
+    mark(shape, list, sense, marks)
 }

@@ -6,7 +6,6 @@ use mathlib.Core.Bool.{Bool, true, false, cond, ◌&&◌}
 use mathlib.Core.List.{List}
 use native.Mathlib.Omega.{arith}
 use borrow.Author.Tests.{eq-eqb, ne_eqb, eqb-true, lt-ltb, le-ltb, ltb-true, le-leb, lt-leb, leb-true}
-use mir.Val.{bool_byte}
 use lib.Dec.{eqb, leb, ltb}
 use Rattle.graph.specs.Hops.{count, from, label, to}
 use Rattle.graph.specs.Answers.{accepted, refused}
@@ -23,11 +22,6 @@ use Rattle.mark_entry_round.specs.Question.{most_rounds, silent_place, few_round
 silent_row : (n : ℕ) (b : Bool) → (cond b accepted (refused (suc n) 0)).number ≡ 0 → b ≡ true
 silent_row n true e = refl
 silent_row n false e = absurd (omega arith)
-
--- a truth value as a number
-as_number : (v : Bool) → bool_byte v ≡ cond v 1 0
-as_number true = refl
-as_number false = refl
 
 -- row 9
 module _ (hs : List ℕ) (i : ℕ) where
@@ -93,6 +87,6 @@ module _ (sh : Shape) (hs : List ℕ) (i k : ℕ) where
           let (e, f) = both_accept (silent_place hs i) (few_rounds k) d in
           (check_admitted sh hs c, ((place_accepted hs i e).0, ((place_accepted hs i e).1, rounds_accepted k f)))
 
-      pub question_answered : {v : Bool} → v ≡ survives hs k (from hs i) (to hs i) → record { answer = a; survives = bool_byte v } ≡ question_of sh hs i k
+      pub question_answered : {v : Bool} → v ≡ survives hs k (from hs i) (to hs i) → record { answer = a; survives = cond v 1 0 } ≡ question_of sh hs i k
       unfolding question_of
-      question_answered {v} e = rw (← p, eq-eqb _ _ z, ← e, as_number v)
+      question_answered {v} e = rw (← p, eq-eqb _ _ z, ← e)

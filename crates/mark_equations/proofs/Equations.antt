@@ -1,5 +1,6 @@
 -- The ways out of X, Y and Z, in the words of their definitions, with the walks over the places of
 -- a state's hops instead of the whole list. Assumes nothing.
+use Rattle.std.proofs.Common.{Result, Ok, Err}
 use Prim.Native.Nat.{ℕ, zero, suc, ◌-◌, ◌<◌, ◌≤◌}
 use mathlib.Core.Path.{◌≡◌, refl, sym, ◌∙◌}
 use mathlib.Core.Bool.{Bool, true, false, not}
@@ -7,7 +8,7 @@ use mathlib.Core.List.{List}
 use mathlib.Core.Logic.{◌⊎◌, inl, inr}
 use native.Mathlib.Numerals.{sub-one}
 use native.Mathlib.Omega.{arith}
-use borrow.Author.Tests.{not-true, not-false}
+use borrow.Author.Tests.{not-true}
 use Rattle.base_bounded.proofs.Bools.{clash, no_test, eq_or_not}
 use Rattle.base_bounded.proofs.Quantifiers.{all_fails}
 use Rattle.graph.specs.Hops.{count, from, label, to, hop_of, has}
@@ -15,8 +16,6 @@ use Rattle.graph.specs.Order.{Ascending}
 use Rattle.graph.specs.Search.{first_of, past_of}
 use Rattle.graph.specs.Internal.Search.{labelled_from, labelled_past, placed}
 use Rattle.graph.specs.declared.Hop.{Hop}
-use Rattle.graph.specs.declared.Found.{Found}
-use Rattle.graph.specs.declared.Found.TheVariants.{At, Gap}
 use Rattle.graph.proofs.Places.{has_at, is_from, is_label, is_to}
 use Rattle.graph.proofs.Lookup.{range_holds, range_only, past_within, all_range, at_place, gap_has}
 use Rattle.graph_successors.proofs.Rows.{labelled_holds, labelled_only}
@@ -74,25 +73,21 @@ module _ (hs : List ℕ) (up : Ascending hs) (u : Pairs) where
       pub answered_no : (a ≡ 0 → ⊥) → false ≡ answered hs u s2 i
       answered_no n = sym none ∙ answers_else hs u s2 a s3 (λ z. absurd (n z)) ∙ answered_at hs u s2 i x y
 
--- a hop passed is answered
-pub passed_answered : (hs : List ℕ) (u : Pairs) (s2 j : ℕ) {v : Bool} → v ≡ answered hs u s2 j → not v ≡ false → answered hs u s2 j ≡ true
-passed_answered hs u s2 j {v} e d = sym e ∙ not-false v d
-
 -- Z: the silent hop s3 to s4 where the search finds it, or does not
-module _ (hs : List ℕ) (s3 s4 : ℕ) {h : Hop} {f : Found} (q : h ≡ hop_of s3 0 s4) (e : f ≡ placed hs h) where
-  found : {g : Found} → f ≡ g → placed hs (hop_of s3 0 s4) ≡ g
+module _ (hs : List ℕ) (s3 s4 : ℕ) {h : Hop} {f : Result ℕ ℕ} (q : h ≡ hop_of s3 0 s4) (e : f ≡ placed hs h) where
+  found : {g : Result ℕ ℕ} → f ≡ g → placed hs (hop_of s3 0 s4) ≡ g
   found d = rw q at (sym e ∙ d)
 
-  pub found_silent : {i : ℕ} → f ≡ At i → (i < count hs) × (label hs i ≡ 0)
+  pub found_silent : {i : ℕ} → f ≡ Ok i → (i < count hs) × (label hs i ≡ 0)
   found_silent {i} d = let (l, w) = at_place hs (hop_of s3 0 s4) (found d) in (l, is_label hs s3 0 s4 i w)
 
   module _ (k : ℕ) (n : s3 ≡ s4 → ⊥) where
-    pub closing_at : {i : ℕ} → f ≡ At i → {v : Bool} → v ≡ survives hs k (from hs i) (to hs i) → v ≡ closing (survives hs k) s3 s4
+    pub closing_at : {i : ℕ} → f ≡ Ok i → {v : Bool} → v ≡ survives hs k (from hs i) (to hs i) → v ≡ closing (survives hs k) s3 s4
     closing_at {i} d g =
         let w = (at_place hs (hop_of s3 0 s4) (found d)).1 in
         g ∙ rw (is_from hs s3 0 s4 i w, is_to hs s3 0 s4 i w) (sym (closing_other (survives hs k) s3 s4 n))
 
-    pub closing_none : {i : ℕ} → Ascending hs → f ≡ Gap i → false ≡ closing (survives hs k) s3 s4
+    pub closing_none : {i : ℕ} → Ascending hs → f ≡ Err i → false ≡ closing (survives hs k) s3 s4
     closing_none up d =
         sym (no_test (survives hs k s3 s4) (λ w. clash (survives_silent hs k s3 s4 w) (gap_has hs (hop_of s3 0 s4) up (found d)))) ∙
         sym (closing_other (survives hs k) s3 s4 n)

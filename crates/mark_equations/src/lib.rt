@@ -3,8 +3,8 @@
 // The number of rounds bounds the recursion. A memo table is passed down the cycle, so that each
 // hop is decided once for each number of rounds. `mark_entry_round` asks X for the entry; the only
 // limit on k here is the length of the table.
-// Uses `mark_confluence` for the equations and the rounds, `graph` for hops, `graph_successors` for
-// a state's hops, by label and by hop.
+// Uses `mark_confluence` for the equations and the rounds, `graph` for hops, `graph_index` for a
+// state's hops, by label and by hop.
 #![tactic(auto)]
 
 ghost use Rattle.std.specs.Prelude.{◌≡◌, ◌<◌};
@@ -15,106 +15,82 @@ ghost use Rattle.mark_confluence.specs.Internal.Rounds.{answered};
 ghost use Rattle.mark_equations.specs.Internal.Known.{Right, Prepared};
 
 use graph::hops::{from_at, hop_of, label_at, to_at};
-use graph::tables::wide;
-use graph::{Found, MOST_HOPS, OldState};
-use graph_successors::{STARTS, find_row, labelled_from, labelled_past, start_of};
+use graph::{MOST_HOPS, OldState};
+use graph_index::Index;
 
-// What the table holds of a hop and a number of rounds; 0 says nothing.
-const FALLS: u8 = 1;
-
-const SURVIVES: u8 = 2;
+// What the table holds of a hop and a number of rounds.
+#[derive(Clone, Copy, PartialEq, Eq)]
+pub enum Known {
+    Unknown,
+    Falls,
+    Survives,
+}
 
 // X: does the silent hop at place i survive k rounds?
 #[cycle(x_y_z)]
-pub fn x(hops: &[u16], starts: &[u16; STARTS], i: usize, k: usize, known: &mut [u8]) -> bool
-    requires place { i < count hops.now }
-    requires silent { label hops.now i ≡ 0 }
-    requires prepared { Prepared hops.now starts.now known.old k }
-    ensures answers { result ≡ survives hops.now k (from hops.now i) (to hops.now i) }
-    ensures keeps { Right hops.now known.new }
+pub fn x(index: Index<'_>, i: usize, k: usize, known: &mut [Known]) -> bool
+    requires place { i < count index.hops.now }
+    requires silent { label index.hops.now i ≡ 0 }
+    requires prepared { Prepared index.hops.now known.old k }
+    ensures answers { result ≡ survives index.entry.hops.now k
+        (from index.entry.hops.now i) (to index.entry.hops.now i) }
+    ensures keeps { Right index.entry.hops.now known.new }
 {
     if k == 0 {
         return true;
     }
     let at = k * MOST_HOPS + i;
-    let word = known[at];
-    if word == FALLS {
-        return false;
+    match known[at] {
+        Known::Unknown => {}
+        Known::Falls => return false,
+        Known::Survives => return true,
     }
-    if word == SURVIVES {
-        return true;
-    }
-    let s1 = wide(from_at(hops, i).0);
-    let s2 = to_at(hops, i);
-    let past = start_of(starts, s1 + 1);
-    let mut j = start_of(starts, s1);
-    while j < past {
-        if !y(hops, starts, j, s2, k - 1, known) {
-            known[at] = FALLS;
+    let s1 = from_at(index.hops, i);
+    let s2 = to_at(index.hops, i);
+    for j in index.first(s1.0)..index.past(s1.0) {
+        if !y(index, j, s2, k - 1, known) {
+            known[at] = Known::Falls;
             return false;
         }
-        j += 1;
     }
-    known[at] = SURVIVES;
+    known[at] = Known::Survives;
     true
 }
 
 // Y: is the hop at place i, tried against a silent hop to s2, answered from s2 with a closing that
 // survives k rounds?
 #[cycle(x_y_z)]
-fn y(
-    hops: &[u16],
-    starts: &[u16; STARTS],
-    i: usize,
-    s2: OldState,
-    k: usize,
-    known: &mut [u8],
-) -> bool
-    requires place { i < count hops.now }
+fn y(index: Index<'_>, i: usize, s2: OldState, k: usize, known: &mut [Known]) -> bool
+    requires place { i < count index.hops.now }
     requires state { s2.0 < most_states }
-    requires prepared { Prepared hops.now starts.now known.old k }
-    ensures answers { result ≡ answered hops.now (survives hops.now k) s2.0 i }
-    ensures keeps { Right hops.now known.new }
+    requires prepared { Prepared index.hops.now known.old k }
+    ensures answers { result ≡ answered index.entry.hops.now (survives index.entry.hops.now k) s2.0 i }
+    ensures keeps { Right index.entry.hops.now known.new }
 {
-    let a = label_at(hops, i);
-    let s3 = to_at(hops, i);
-    let past = labelled_past(hops, starts, s2.0, a);
-    let mut j = labelled_from(hops, starts, s2.0, a);
-    while j < past {
-        let s4 = to_at(hops, j);
-        if z(hops, starts, s3, s4, k, known) {
+    let a = label_at(index.hops, i);
+    let s3 = to_at(index.hops, i);
+    for j in index.first_labelled(s2.0, a)..index.past_labelled(s2.0, a) {
+        let s4 = to_at(index.hops, j);
+        if z(index, s3, s4, k, known) {
             return true;
         }
-        j += 1;
     }
-    if a.0 == 0 {
-        z(hops, starts, s3, s2, k, known)
-    } else {
-        false
-    }
+    a.0 == 0 && z(index, s3, s2, k, known)
 }
 
 // Z, the closing: is s3 the state s4, or does the silent hop s3 to s4 survive k rounds?
 #[cycle(x_y_z)]
-fn z(
-    hops: &[u16],
-    starts: &[u16; STARTS],
-    s3: OldState,
-    s4: OldState,
-    k: usize,
-    known: &mut [u8],
-) -> bool
+fn z(index: Index<'_>, s3: OldState, s4: OldState, k: usize, known: &mut [Known]) -> bool
     requires state { s3.0 < most_states }
-    requires prepared { Prepared hops.now starts.now known.old k }
-    ensures answers { result ≡ closing (survives hops.now k) s3.0 s4.0 }
-    ensures keeps { Right hops.now known.new }
+    requires prepared { Prepared index.hops.now known.old k }
+    ensures answers { result ≡ closing (survives index.entry.hops.now k) s3.0 s4.0 }
+    ensures keeps { Right index.entry.hops.now known.new }
 {
-    if s3.0 == s4.0 {
+    if s3 == s4 {
         return true;
     }
-    let found = find_row(hops, starts, hop_of(s3.0, 0, s4.0));
-    match found {
-        Found::At(i) => x(hops, starts, i, k, known),
-        Found::Gap(_) => false,
+    match index.find(hop_of(s3.0, 0, s4.0)) {
+        Ok(i) => x(index, i, k, known),
+        Err(_) => false,
     }
 }

@@ -1,30 +1,40 @@
 // The four senses (notions) of tau-confluence, R1, R2, R3 and R8, as one condition with the sense
 // as an argument, and the marked set of a sense.
 // Proved once for all four: the condition is monotone in the set, and the marked set is of the
-// sense and contains every set of it. The answer of row 19 (no such sense) is here too.
+// sense and contains every set of it. The sense that a caller asks by number is here too, with
+// row 19, which refuses any other number.
 // Uses `lts` for what a sense is, over any relation, `mark_confluence` for document 01's condition,
 // which is sense 1, and `base_fixpoint` for the rounds of any condition.
 #![tactic(auto)]
 
-ghost use Rattle.std.specs.Prelude.{◌≡◌};
-ghost use Rattle.mark_senses.specs.Senses.{is_sense, sense_answer};
+ghost use Rattle.mark_senses.specs.Internal.Numbers.{GivesSense};
 
-use graph::Answer;
-use graph::answers::{accept, refuse};
+use graph::Refusal;
 
-// Whether the number is that of a sense.
-fn is_sense(sense: u32) -> bool
-    ensures { result ≡ is_sense sense }
-{
-    (sense == 1) | ((sense == 2) | ((sense == 3) | (sense == 8)))
+// The senses, by RR-7000's names.
+// In the field: a notion of confluence.
+#[derive(Clone, Copy, PartialEq, Eq, Debug)]
+pub enum Sense {
+    R1,
+    R2,
+    R3,
+    R8,
 }
 
-// Row 19.
-pub fn sense_answer(sense: u32) -> Answer
-    ensures { result ≡ sense_answer sense }
-{
-    if is_sense(sense) {
-        return accept();
+// The sense with the number, or row 19.
+impl TryFrom<u32> for Sense {
+    type Error = Refusal;
+
+    ghost try_from_gives = { GivesSense };
+
+    #[tactic(auto, unfolding(crate::specs::Senses::is_sense, crate::specs::Senses::sense_answer))]
+    fn try_from(number: u32) -> Result<Sense, Refusal> {
+        match number {
+            1 => Ok(Sense::R1),
+            2 => Ok(Sense::R2),
+            3 => Ok(Sense::R3),
+            8 => Ok(Sense::R8),
+            _ => Err(Refusal::NoSense),
+        }
     }
-    refuse(19, 0)
 }

@@ -6,7 +6,7 @@ use mathlib.Core.Bool.{Bool, true, false}
 use mathlib.Core.List.{List}
 use mathlib.Core.Logic.{◌⊎◌, inl, inr}
 use native.Mathlib.Omega.{arith}
-use lib.ListN.{get_or, set, drop, length-set}
+use lib.ListN.{length, get_or, set, drop, length-set}
 use lib.Seq.{get_or-set_same, get_or-set_other, drop-set-lt}
 use borrow.Author.Tests.{eqb-true}
 use Rattle.base_bounded.proofs.Bools.{clash, eq_or_not}
@@ -20,7 +20,7 @@ use Rattle.mark_confluence.specs.Internal.Rounds.{closes_at}
 use Rattle.mark_confluence.specs.Internal.MarkSet.{is_marked, mark_set}
 use Rattle.mark_confluence.specs.Marks.{marks_of}
 use Rattle.mark_confluence.proofs.Marked.{marked_kept, marked_same}
-use Rattle.mark_confluence.proofs.MarkSet.{mark_set_says, mark_set_yes}
+use Rattle.mark_confluence.proofs.MarkSet.{mark_set_says, mark_set_yes, taken_here, taken_there, taken_only}
 use Rattle.mark_removal.specs.Internal.Removal.{mark_count, Marking, Swept}
 use Rattle.mark_sweeps.specs.Internal.Sweep.{ClosesIfMarked, ClosesUpTo}
 use Rattle.mark_removal.proofs.Fixpoint.{on_or_off, swept_none, fixpoint_marks}
@@ -35,27 +35,16 @@ module _ (hs : List ℕ) {ms : List ℕ} (m : Marking hs (marked hs) ms) where
   tested_closes i e d = swept_none m (λ o. sym e ∙ d)
 
   module _ {i : ℕ} (l : i < count hs) where
-    off_here : is_marked (set ms i 0) i ≡ false
-    unfolding is_marked
-    off_here = rw (get_or-set_same ms i 0 0 (omega (arith, m.capacity)))
-
-    off_there : (j : ℕ) → (j ≡ i → ⊥) → is_marked (set ms i 0) j ≡ is_marked ms j
-    unfolding is_marked
-    off_there j n = rw (get_or-set_other ms i j 0 0 n)
-
-    off_only : (j : ℕ) → is_marked (set ms i 0) j ≡ true → is_marked ms j ≡ true
-    off_only j e = go (eq_or_not j i) where
-      go : (j ≡ i) ⊎ (j ≡ i → ⊥) → is_marked ms j ≡ true
-      go (inl q) = clash (rw q at e) off_here
-      go (inr n) = sym (off_there j n) ∙ e
+    long : i < length ms
+    long = omega (arith, m.capacity)
 
     pub tested_lost : (get_or ms i 0 ≡ 0 → ⊥) → {v : Bool} → v ≡ closes_at hs (mark_set hs ms) i → v ≡ false → Swept hs (marked hs) (ClosesIfMarked hs i) ms (set ms i 0) 1
     unfolding mark_count
     tested_lost n x d =
         record {
-          marking = record { capacity = simp length-set m.capacity; bits = bits; silent = λ j k e. m.silent j k (off_only j e); holds = holds };
+          marking = record { capacity = simp length-set m.capacity; bits = bits; silent = λ j k e. m.silent j k (taken_only ms long j e); holds = holds };
           beyond = drop-set-lt (count hs) ms i 0 l;
-          fewer = omega (arith, tally_less (is_marked (set ms i 0)) (is_marked ms) (count hs) (λ j k e. off_only j e) l off_here (on_or_off m l n));
+          fewer = omega (arith, tally_less (is_marked (set ms i 0)) (is_marked ms) (count hs) (λ j k e. taken_only ms long j e) l (taken_here ms long) (on_or_off m l n));
           same = λ q. absurd (omega arith);
         } where
           bits : (j : ℕ) → j < count hs → (get_or (set ms i 0) j 0 ≡ 0) ⊎ (get_or (set ms i 0) j 0 ≡ 1)
@@ -71,7 +60,7 @@ module _ (hs : List ℕ) {ms : List ℕ} (m : Marking hs (marked hs) ms) where
                 let f : from hs i ≡ s = rw q at (is_from hs s 0 t j h) in
                 let g : to hs i ≡ t = rw q at (is_to hs s 0 t j h) in
                 clash (rw (f, g) (marked_kept hs (mark_set hs ms) m.holds s t e)) (sym x ∙ d)
-            go j k h o (inr n) = mark_set_yes hs (set ms i 0) s t k h (off_there j n ∙ o)
+            go j k h o (inr n) = mark_set_yes hs (set ms i 0) s t k h (taken_there ms long j n ∙ o)
 
 -- where no marked hop fails to close, the marks are those of the marked set
 pub rested_marks : (hs : List ℕ) → Ascending hs → {ms : List ℕ} → Marking hs (marked hs) ms → ClosesUpTo hs (count hs) ms → (out : List ℕ) →

@@ -5,7 +5,8 @@
 // with `mark_worklist_loop`, which leaves the same marks (`mark_entry_fast: sweeps_same_marks`);
 // this is the plain algorithm, with a proof that needs no rounds.
 // Uses `mark_confluence` for the marked set and its theorems, `mark_removal` for what marks keep
-// under removal, for any condition, and `mark_diamond` for the test of a hop.
+// under removal, for any condition, `graph_successors` for the table of first places, `graph_index`
+// for a hop list with it, and `mark_diamond` for the test of a hop.
 #![tactic(auto)]
 
 ghost use Rattle.std.specs.Prelude.{◌≡◌, ◌<◌, ◌≤◌, length};
@@ -15,26 +16,23 @@ ghost use Rattle.mark_confluence.specs.Rounds.{marked};
 ghost use Rattle.mark_confluence.specs.Marks.{marks_of};
 ghost use Rattle.mark_removal.specs.Internal.Removal.{Marking, Swept};
 ghost use Rattle.mark_sweeps.specs.Internal.Sweep.{ClosesIfMarked, ClosesUpTo};
-ghost use Rattle.graph_successors.specs.Internal.SuccessorIndex.{SuccessorIndex, Indexable};
+ghost use Rattle.graph_successors.specs.Internal.SuccessorIndex.{Indexable};
 
 use graph::hops::hop_count;
-use graph_successors::{STARTS, starts_of};
+use graph_index::{Index, Marked};
+use graph_successors::{STARTS, put_starts};
 use mark_confluence::start_marks;
 use mark_diamond::closes_at;
 
 // Takes the mark of the hop at place i if it does not close; returns how many marks went.
-fn test_at(hops: &[u16], starts: &[u16; STARTS], marks: &mut [u8], i: usize) -> usize
-    requires ready { Indexable hops.now }
-    requires table { SuccessorIndex hops.now starts.now }
-    requires marking { Marking hops.now (marked hops.now) marks.old }
-    requires place { i < count hops.now }
-    ensures { Swept hops.now (marked hops.now) (ClosesIfMarked hops.now i)
+// That is 0 or 1, and no `bool`: a sweep adds it up, and its contract counts.
+fn test_at(index: Index<'_>, marks: &mut [u8], i: usize) -> usize
+    requires marking { Marking index.hops.now (marked index.hops.now) marks.old }
+    requires place { i < count index.hops.now }
+    ensures { Swept index.entry.hops.now (marked index.entry.hops.now) (ClosesIfMarked index.entry.hops.now i)
         marks.old marks.new result }
 {
-    if marks[i] == 0 {
-        return 0;
-    }
-    if closes_at(hops, starts, marks, i) {
+    if marks[i] == 0 || closes_at(Marked { index, marks }, i) {
         return 0;
     }
     marks[i] = 0;
@@ -42,34 +40,25 @@ fn test_at(hops: &[u16], starts: &[u16; STARTS], marks: &mut [u8], i: usize) -> 
 }
 
 // One sweep; returns how many marks went.
-fn sweep(hops: &[u16], starts: &[u16; STARTS], marks: &mut [u8]) -> usize
-    requires ready { Indexable hops.now }
-    requires table { SuccessorIndex hops.now starts.now }
-    requires marking { Marking hops.now (marked hops.now) marks.old }
-    ensures { Swept hops.now (marked hops.now) (ClosesUpTo hops.now (count hops.now))
+fn sweep(index: Index<'_>, marks: &mut [u8]) -> usize
+    requires { Marking index.hops.now (marked index.hops.now) marks.old }
+    ensures { Swept index.entry.hops.now (marked index.entry.hops.now) (ClosesUpTo index.entry.hops.now (count index.entry.hops.now))
         marks.old marks.new result }
 {
-    let n = hop_count(hops);
     let mut lost = 0;
-    let mut i = 0;
-    while i < n {
-        lost += test_at(hops, starts, marks, i);
-        i += 1;
+    for i in 0..hop_count(index.hops) {
+        lost += test_at(index, marks, i);
     }
     lost
 }
 
 // Sweeps until one takes no mark.
-fn sweep_to_fixpoint(hops: &[u16], starts: &[u16; STARTS], marks: &mut [u8])
-    requires ready { Indexable hops.now }
-    requires table { SuccessorIndex hops.now starts.now }
-    requires marking { Marking hops.now (marked hops.now) marks.old }
-    ensures { marks.new ≡ on_front (marks_of hops.now (marked hops.now)) marks.old }
+fn sweep_to_fixpoint(index: Index<'_>, marks: &mut [u8])
+    requires { Marking index.hops.now (marked index.hops.now) marks.old }
+    ensures { marks.new ≡ on_front (marks_of index.entry.hops.now (marked index.entry.hops.now)) marks.old }
 {
-    let mut lost = 1;
-    while lost > 0 {
-        lost = sweep(hops, starts, marks);
-    }
+    // `while`: how many sweeps it takes depends on the marks.
+    while sweep(index, marks) > 0 {}
 }
 
 // Marks by sweeps. No entry calls it: `mark` marks sense 1 by rounds, which leave the same marks.
@@ -78,7 +67,14 @@ pub fn mark_all(hops: &[u16], marks: &mut [u8])
     requires capacity { count hops.now ≤ length marks.old }
     ensures { marks.new ≡ on_front (marks_of hops.now (marked hops.now)) marks.old }
 {
-    let starts = starts_of(hops);
+    let mut starts = [0u16; STARTS];
+    put_starts(hops, &mut starts);
     start_marks(hops, marks);
-    sweep_to_fixpoint(hops, &starts, marks);
+    sweep_to_fixpoint(
+        Index {
+            hops,
+            starts: &starts,
+        },
+        marks,
+    );
 }

@@ -4,141 +4,84 @@
 // the silent (tau) hops of s1 where s1 has at most a few hops more than lead to s4, else the hops
 // into s4, of which those labelled a answer. So a pair costs at most the hops into s4 and those
 // few, and is met for one fallen hop at most.
-// Uses `mark_worklist_push` for what one such pair brings to the queue, `graph_predecessors` for
-// the hops into a state, `graph_successors` for those out of it.
+// Uses `mark_worklist_push` for what one such pair brings to the queue and for the hops into a
+// state, `graph_index` for those out of it.
 #![tactic(auto)]
 
-ghost use Rattle.std.specs.Prelude.{◌<◌, ◌≤◌, length};
+ghost use Rattle.std.specs.Prelude.{◌≡◌, ◌<◌, ◌≤◌, length};
 ghost use Rattle.graph.specs.Hops.{count};
-ghost use Rattle.graph.specs.Answers.{most_hops};
 ghost use Rattle.graph_successors.specs.Internal.SuccessorIndex.{Indexable};
-ghost use Rattle.mark_worklist_push.specs.Internal.Queue.{NextInput, Leaving, Pushed, Trying, ClosedBy, ClosedByAny, PlacesBelow};
+ghost use Rattle.mark_worklist_push.specs.Internal.Queue.{Leaving, Queue, Pushed, Trying, ClosedBy, ClosedByAny, PlacesBelow};
 
+use graph::MOST_STATES;
 use graph::hops::{from_at, hop_count, to_at};
-use graph::tables::{place_at, wide};
-use graph::{MOST_HOPS, MOST_STATES};
-use graph_successors::{STARTS, start_of};
-use mark_worklist_push::{push_into, push_out};
+use graph::tables::place_at;
+use mark_worklist_push::{RoundGraph, Worklist, push_into, push_out};
 
 // Where s1 has at most this many hops more than lead to s4, its own hops are gone over: that needs
 // no search where none of them is marked.
 const FEW: usize = 16;
 
-// The states that a marked hop leaves: 1 for each of them. Marks are only taken, so a 0 stays
-// right.
-pub fn leaving_of(hops: &[u16], marks: &[u8]) -> [u8; MOST_STATES]
+// The states that a marked hop leaves. Marks are only taken, so one that none leaves stays so.
+pub fn leaving_of(hops: &[u16], marks: &[u8]) -> [bool; MOST_STATES]
     requires ready { Indexable hops.now }
     requires capacity { count hops.now ≤ length marks.now }
     ensures { Leaving hops.now marks.now result }
 {
-    let mut leaving = [0u8; MOST_STATES];
-    let n = hop_count(hops);
-    let mut i = 0;
-    while i < n {
+    let mut leaving = [false; MOST_STATES];
+    for i in 0..hop_count(hops) {
         if marks[i] == 1 {
-            let s = wide(from_at(hops, i).0);
-            leaving[s] = 1;
+            leaving[usize::from(from_at(hops, i).0)] = true;
         }
-        i += 1;
     }
     leaving
 }
 
 // Pushes the silent hops for which the hop at place j is one to try and the end of the hop at place
 // p is an s4, by the way that costs less.
-fn push_hop(
-    hops: &[u16],
-    starts: &[u16; STARTS],
-    begins: &[u16; STARTS],
-    places: &[u16; MOST_HOPS],
-    leaving: &[u8; MOST_STATES],
-    marks: &[u8],
-    flags: &mut [u8; MOST_HOPS],
-    queue: &mut [u16; MOST_HOPS],
-    n: usize,
-    j: usize,
-    p: usize,
-) -> usize
-    requires given { NextInput hops.now starts.now begins.now places.now leaving.now marks.now flags.old queue.old n }
-    requires tried { j < count hops.now }
-    requires fallen { p < count hops.now }
-    ensures { Pushed hops.now marks.now (Trying hops.now j p)
-        flags.old flags.new queue.new result }
+fn push_hop(graph: RoundGraph<'_>, worklist: &mut Worklist<'_>, j: usize, p: usize)
+    requires queue { Queue graph.marked.index.hops.now worklist.old }
+    requires tried { j < count graph.marked.index.hops.now }
+    requires fallen { p < count graph.marked.index.hops.now }
+    ensures { Pushed graph.entry.marked.index.hops.now graph.entry.marked.marks.now
+        (Trying graph.entry.marked.index.hops.now j p) worklist.old worklist.new }
 {
-    let s1 = wide(from_at(hops, j).0);
-    if leaving[s1] != 1 {
-        return n;
+    let index = graph.marked.index;
+    let s1 = from_at(index.hops, j).0;
+    let leaves = graph.leaving[usize::from(s1)];
+    if !leaves {
+        return;
     }
-    let s4 = wide(to_at(hops, p).0);
-    if start_of(starts, s1 + 1) + start_of(begins, s4)
-        <= start_of(begins, s4 + 1) + start_of(starts, s1) + FEW
-    {
-        return push_out(hops, starts, marks, flags, queue, n, j, p);
+    let s4 = to_at(index.hops, p).0;
+    if index.past(s1) + graph.begin(s4) <= graph.end(s4) + index.first(s1) + FEW {
+        push_out(graph.marked, worklist, j, p);
+    } else {
+        push_into(graph, worklist, j, p);
     }
-    push_into(hops, starts, begins, places, marks, flags, queue, n, j, p)
 }
 
 // Pushes the marked hops of which the hop at place p, s3 to s4, is a closing hop: each hop into s3
 // is one to try.
-fn push_fallen(
-    hops: &[u16],
-    starts: &[u16; STARTS],
-    begins: &[u16; STARTS],
-    places: &[u16; MOST_HOPS],
-    leaving: &[u8; MOST_STATES],
-    marks: &[u8],
-    flags: &mut [u8; MOST_HOPS],
-    queue: &mut [u16; MOST_HOPS],
-    n: usize,
-    p: usize,
-) -> usize
-    requires given { NextInput hops.now starts.now begins.now places.now leaving.now marks.now flags.old queue.old n }
-    requires fallen { p < count hops.now }
-    ensures { Pushed hops.now marks.now (ClosedBy hops.now p)
-        flags.old flags.new queue.new result }
+fn push_fallen(graph: RoundGraph<'_>, worklist: &mut Worklist<'_>, p: usize)
+    requires queue { Queue graph.marked.index.hops.now worklist.old }
+    requires fallen { p < count graph.marked.index.hops.now }
+    ensures { Pushed graph.entry.marked.index.hops.now graph.entry.marked.marks.now
+        (ClosedBy graph.entry.marked.index.hops.now p) worklist.old worklist.new }
 {
-    let s3 = wide(from_at(hops, p).0);
-    let past = start_of(begins, s3 + 1);
-    let mut length = n;
-    let mut k = start_of(begins, s3);
-    while k < past {
-        let j = place_at(places, k);
-        length = push_hop(
-            hops, starts, begins, places, leaving, marks, flags, queue, length, j, p,
-        );
-        k += 1;
+    let s3 = from_at(graph.marked.index.hops, p);
+    for k in graph.begin(s3.0)..graph.end(s3.0) {
+        push_hop(graph, worklist, place_at(graph.places, k), p);
     }
-    length
 }
 
-// Pushes the marked hops of which one of the fallen hops is a closing hop; returns how many there
-// are.
-pub fn next_queue(
-    hops: &[u16],
-    starts: &[u16; STARTS],
-    begins: &[u16; STARTS],
-    places: &[u16; MOST_HOPS],
-    leaving: &[u8; MOST_STATES],
-    marks: &[u8],
-    fallen: &[u16; MOST_HOPS],
-    lost: usize,
-    flags: &mut [u8; MOST_HOPS],
-    queue: &mut [u16; MOST_HOPS],
-) -> usize
-    requires given { NextInput hops.now starts.now begins.now places.now leaving.now marks.now flags.old queue.old 0 }
-    requires most { lost ≤ most_hops }
-    requires fallen { PlacesBelow hops.now fallen.now lost }
-    ensures { Pushed hops.now marks.now (ClosedByAny hops.now fallen.now lost)
-        flags.old flags.new queue.new result }
+// Pushes the marked hops of which one of the fallen hops is a closing hop.
+pub fn next_queue(graph: RoundGraph<'_>, fallen: &[u16], worklist: &mut Worklist<'_>)
+    requires queue { Queue graph.marked.index.hops.now worklist.old }
+    requires fallen { PlacesBelow graph.marked.index.hops.now fallen.now }
+    ensures { Pushed graph.entry.marked.index.hops.now graph.entry.marked.marks.now
+        (ClosedByAny graph.entry.marked.index.hops.now fallen.now) worklist.old worklist.new }
 {
-    let mut length = 0;
-    let mut q = 0;
-    while q < lost {
-        let p = place_at(fallen, q);
-        length = push_fallen(
-            hops, starts, begins, places, leaving, marks, flags, queue, length, p,
-        );
-        q += 1;
+    for &p in fallen {
+        push_fallen(graph, worklist, usize::from(p));
     }
-    length
 }

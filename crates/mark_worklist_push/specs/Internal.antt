@@ -1,1 +1,2 @@
-pub mod Queue  -- the queue of the hops that a round tests, and the sets that are pushed on it
+pub mod Queue  -- the worklist, and what is pushed on it for a hop that fell
+pub mod Facts  -- that the facts of a round's graph are propositions

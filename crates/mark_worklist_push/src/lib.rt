@@ -4,248 +4,192 @@
 // hop labelled a to s4, or a is silent (tau) and it is s4. They are found among s1's own silent
 // hops (`push_out`) or by the hops into s4 (`push_into`). Each comes to the queue once, by a flag a
 // hop. `mark_worklist_next` asks this for each such pair.
-// Uses `graph_predecessors` for the hops into a state, `graph_successors` for those out of it, and
-// `mark_confluence` for marks and document 01's first point.
+// Uses `graph_index` for the graph with its marks, `graph_predecessors` for the hops into a state,
+// `graph_successors` to read where these begin, and `mark_confluence` for marks and document 01's
+// first point.
 #![tactic(auto)]
 
-ghost use Rattle.std.specs.Prelude.{◌≡◌, ◌<◌, ◌≤◌, length};
+ghost use Rattle.std.specs.Prelude.{◌≡◌, ◌+◌, ◌<◌, ◌≤◌};
 ghost use Rattle.graph.specs.Hops.{count, label};
 ghost use Rattle.graph.specs.Answers.{most_states};
-ghost use Rattle.graph_successors.specs.Internal.SuccessorIndex.{SuccessorIndex, Indexable};
-ghost use Rattle.mark_worklist_push.specs.Internal.Queue.{Tables, Queue, PushInput, Pushed, OnlyPlace, Joining, Like, AnsweredTo, Trying, Asked, DecidesPoint};
+ghost use Rattle.graph_predecessors.specs.Internal.PredecessorIndex.{predecessor_start};
+ghost use Rattle.mark_worklist_push.specs.Internal.Queue.{Tables, Leaving, Queue, Pushed, OnlyPlace, Joining, Like, AnsweredTo, Trying, Asked, DecidesPoint};
+ghost use Rattle.mark_worklist_push.specs.Internal.Facts.{tables_prop, leaving_prop};
 
 use graph::hops::{from_at, hop_of, label_at, to_at};
-use graph::tables::{place_at, wide};
-use graph::{Found, Label, MOST_HOPS, OldState};
-use graph_successors::{STARTS, find_row, labelled_past, start_of};
+use graph::tables::place_at;
+use graph::{Label, MOST_HOPS, MOST_STATES, OldState};
+use graph_index::{Index, Marked};
+use graph_successors::STARTS;
 
-// Pushes the silent hop at place i if it is marked and not in the queue yet; returns how long the
-// queue is.
-fn push(
-    hops: &[u16],
-    marks: &[u8],
-    flags: &mut [u8; MOST_HOPS],
-    queue: &mut [u16; MOST_HOPS],
-    n: usize,
-    i: usize,
-) -> usize
-    requires ready { Indexable hops.now }
-    requires capacity { count hops.now ≤ length marks.now }
-    requires queue { Queue hops.now flags.old queue.old n }
-    requires place { i < count hops.now }
-    requires silent { label hops.now i ≡ 0 }
-    ensures { Pushed hops.now marks.now (OnlyPlace i) flags.old flags.new queue.new result }
-{
-    if marks[i] != 1 {
-        return n;
+// The worklist: the queue is the first `len` places, and a hop's flag says whether it is in it.
+// The two arrays are lent, since the first round needs no flags.
+#[derive(Drop)]
+pub struct Worklist<'a> {
+    pub flags: &'a mut [bool; MOST_HOPS],
+    pub places: &'a mut [u16; MOST_HOPS],
+    pub len: usize,
+}
+
+// What a later round goes by: the marks, the hops into each state (where they begin among the
+// places, and the places), and whether a marked hop leaves a state. It is a few references, and
+// goes by value.
+#[derive(Clone, Copy)]
+pub struct RoundGraph<'a> {
+    pub marked: Marked<'a>,
+    pub begins: &'a [u16; STARTS],
+    pub places: &'a [u16; MOST_HOPS],
+    pub leaving: &'a [bool; MOST_STATES],
+    ghost tables: { Tables marked.index.hops.now begins.now places.now } by { tables_prop marked.index.hops.now begins.now places.now },
+    ghost leaves: { Leaving marked.index.hops.now marked.marks.now leaving.now } by { leaving_prop marked.index.hops.now marked.marks.now leaving.now },
+}
+
+impl<'a> RoundGraph<'a> {
+    // Where the hops into s begin among the places.
+    pub fn begin(self, s: u16) -> usize
+        requires { s < most_states }
+        ensures is_begin { result ≡ predecessor_start self.entry.marked.index.hops.now s }
+        ensures within { result ≤ count self.entry.marked.index.hops.now }
+    {
+        place_at(self.begins, usize::from(s))
     }
-    if flags[i] == 1 {
-        return n;
+
+    // The place past the last hop into s.
+    pub fn end(self, s: u16) -> usize
+        requires { s < most_states }
+        ensures is_next { result ≡ predecessor_start self.entry.marked.index.hops.now (s + 1) }
+        ensures within { result ≤ count self.entry.marked.index.hops.now }
+    {
+        place_at(self.begins, usize::from(s) + 1)
     }
-    flags[i] = 1;
-    queue[n] = i as u16;
-    n + 1
+}
+
+impl<'a> Worklist<'a> {
+    // Pushes the silent hop at place i if it is marked and not in the queue yet.
+    fn push(&mut self, graph: Marked<'_>, i: usize)
+        requires queue { Queue graph.index.hops.now self.old }
+        requires place { i < count graph.index.hops.now }
+        requires silent { label graph.index.hops.now i ≡ 0 }
+        ensures { Pushed graph.entry.index.hops.now graph.entry.marks.now (OnlyPlace i) self.old self.new }
+    {
+        if graph.marks[i] != 1 {
+            return;
+        }
+        if self.flags[i] {
+            return;
+        }
+        self.flags[i] = true;
+        self.places[self.len] = i as u16;
+        self.len += 1;
+    }
 }
 
 // Pushes the silent hop from s1 to s2.
-fn push_pair(
-    hops: &[u16],
-    starts: &[u16; STARTS],
-    marks: &[u8],
-    flags: &mut [u8; MOST_HOPS],
-    queue: &mut [u16; MOST_HOPS],
-    n: usize,
-    s1: OldState,
-    s2: OldState,
-) -> usize
-    requires given { PushInput hops.now starts.now marks.now flags.old queue.old n }
+fn push_pair(graph: Marked<'_>, worklist: &mut Worklist<'_>, s1: OldState, s2: OldState)
+    requires queue { Queue graph.index.hops.now worklist.old }
     requires state { s1.0 < most_states }
-    ensures { Pushed hops.now marks.now (Joining hops.now s1.0 s2.0)
-        flags.old flags.new queue.new result }
+    ensures { Pushed graph.entry.index.hops.now graph.entry.marks.now
+        (Joining graph.entry.index.hops.now s1.0 s2.0) worklist.old worklist.new }
 {
-    let Found::At(i) = find_row(hops, starts, hop_of(s1.0, 0, s2.0)) else {
-        return n;
-    };
-    push(hops, marks, flags, queue, n, i)
+    if let Ok(i) = graph.index.find(hop_of(s1.0, 0, s2.0)) {
+        worklist.push(graph, i);
+    }
 }
 
 // Pushes the silent hop from where the hop at place j begins to where the one at place m begins, if
 // the two have the same label.
-fn push_like(
-    hops: &[u16],
-    starts: &[u16; STARTS],
-    marks: &[u8],
-    flags: &mut [u8; MOST_HOPS],
-    queue: &mut [u16; MOST_HOPS],
-    n: usize,
-    j: usize,
-    m: usize,
-) -> usize
-    requires given { PushInput hops.now starts.now marks.now flags.old queue.old n }
-    requires tried { j < count hops.now }
-    requires answer { m < count hops.now }
-    ensures { Pushed hops.now marks.now (Like hops.now j m)
-        flags.old flags.new queue.new result }
+fn push_like(graph: Marked<'_>, worklist: &mut Worklist<'_>, j: usize, m: usize)
+    requires queue { Queue graph.index.hops.now worklist.old }
+    requires tried { j < count graph.index.hops.now }
+    requires answer { m < count graph.index.hops.now }
+    ensures { Pushed graph.entry.index.hops.now graph.entry.marks.now
+        (Like graph.entry.index.hops.now j m) worklist.old worklist.new }
 {
-    let a = label_at(hops, m);
-    if a.0 != label_at(hops, j).0 {
-        return n;
+    let hops = graph.index.hops;
+    if label_at(hops, m) == label_at(hops, j) {
+        push_pair(graph, worklist, from_at(hops, j), from_at(hops, m));
     }
-    push_pair(
-        hops,
-        starts,
-        marks,
-        flags,
-        queue,
-        n,
-        from_at(hops, j),
-        from_at(hops, m),
-    )
 }
 
 // Pushes s1's silent hops to states that have a hop to s4 with the label of the hop at place j,
 // which leaves s1: each hop into s4 is asked.
-fn push_answers(
-    hops: &[u16],
-    starts: &[u16; STARTS],
-    begins: &[u16; STARTS],
-    places: &[u16; MOST_HOPS],
-    marks: &[u8],
-    flags: &mut [u8; MOST_HOPS],
-    queue: &mut [u16; MOST_HOPS],
-    n: usize,
-    j: usize,
-    p: usize,
-) -> usize
-    requires given { PushInput hops.now starts.now marks.now flags.old queue.old n }
-    requires tables { Tables hops.now begins.now places.now }
-    requires tried { j < count hops.now }
-    requires fallen { p < count hops.now }
-    ensures { Pushed hops.now marks.now (AnsweredTo hops.now j p)
-        flags.old flags.new queue.new result }
+fn push_answers(graph: RoundGraph<'_>, worklist: &mut Worklist<'_>, j: usize, p: usize)
+    requires queue { Queue graph.marked.index.hops.now worklist.old }
+    requires tried { j < count graph.marked.index.hops.now }
+    requires fallen { p < count graph.marked.index.hops.now }
+    ensures { Pushed graph.entry.marked.index.hops.now graph.entry.marked.marks.now
+        (AnsweredTo graph.entry.marked.index.hops.now j p) worklist.old worklist.new }
 {
-    let s4 = wide(to_at(hops, p).0);
-    let past = start_of(begins, s4 + 1);
-    let mut length = n;
-    let mut k = start_of(begins, s4);
-    while k < past {
-        let m = place_at(places, k);
-        length = push_like(hops, starts, marks, flags, queue, length, j, m);
-        k += 1;
+    let s4 = to_at(graph.marked.index.hops, p);
+    for k in graph.begin(s4.0)..graph.end(s4.0) {
+        push_like(graph.marked, worklist, j, place_at(graph.places, k));
     }
-    length
 }
 
 // The same, with the silent hop to s4 itself where the hop to try is silent.
-pub fn push_into(
-    hops: &[u16],
-    starts: &[u16; STARTS],
-    begins: &[u16; STARTS],
-    places: &[u16; MOST_HOPS],
-    marks: &[u8],
-    flags: &mut [u8; MOST_HOPS],
-    queue: &mut [u16; MOST_HOPS],
-    n: usize,
-    j: usize,
-    p: usize,
-) -> usize
-    requires given { PushInput hops.now starts.now marks.now flags.old queue.old n }
-    requires tables { Tables hops.now begins.now places.now }
-    requires tried { j < count hops.now }
-    requires fallen { p < count hops.now }
-    ensures { Pushed hops.now marks.now (Trying hops.now j p)
-        flags.old flags.new queue.new result }
+pub fn push_into(graph: RoundGraph<'_>, worklist: &mut Worklist<'_>, j: usize, p: usize)
+    requires queue { Queue graph.marked.index.hops.now worklist.old }
+    requires tried { j < count graph.marked.index.hops.now }
+    requires fallen { p < count graph.marked.index.hops.now }
+    ensures { Pushed graph.entry.marked.index.hops.now graph.entry.marked.marks.now
+        (Trying graph.entry.marked.index.hops.now j p) worklist.old worklist.new }
 {
-    let length = push_answers(hops, starts, begins, places, marks, flags, queue, n, j, p);
+    push_answers(graph, worklist, j, p);
+    let hops = graph.marked.index.hops;
     if label_at(hops, j).0 == 0 {
-        let s1 = from_at(hops, j);
-        let s4 = to_at(hops, p);
-        return push_pair(hops, starts, marks, flags, queue, length, s1, s4);
+        push_pair(graph.marked, worklist, from_at(hops, j), to_at(hops, p));
     }
-    length
 }
 
 // Whether s4 is an s4 of s2 for a hop labelled a: document 01's first point.
-fn is_point(hops: &[u16], starts: &[u16; STARTS], s2: OldState, a: Label, s4: OldState) -> bool
-    requires ready { Indexable hops.now }
-    requires table { SuccessorIndex hops.now starts.now }
-    requires state { s2.0 < most_states }
-    ensures { DecidesPoint hops.now s2.0 a.0 s4.0 result }
+fn is_point(index: Index<'_>, s2: OldState, a: Label, s4: OldState) -> bool
+    requires { s2.0 < most_states }
+    ensures { DecidesPoint index.entry.hops.now s2.0 a.0 s4.0 result }
 {
-    if a.0 == 0 {
-        if s4.0 == s2.0 {
-            return true;
-        }
+    if a.0 == 0 && s4 == s2 {
+        return true;
     }
-    match find_row(hops, starts, hop_of(s2.0, a.0, s4.0)) {
-        Found::At(_) => true,
-        Found::Gap(_) => false,
-    }
+    index.leads_to(s2.0, a, s4.0)
 }
 
 // Pushes the silent hop at place i if it is marked and not in the queue yet, and the end of the one
 // at p is an s4 of its end for the label of the one at j.
-fn push_answered(
-    hops: &[u16],
-    starts: &[u16; STARTS],
-    marks: &[u8],
-    flags: &mut [u8; MOST_HOPS],
-    queue: &mut [u16; MOST_HOPS],
-    n: usize,
-    i: usize,
-    j: usize,
-    p: usize,
-) -> usize
-    requires given { PushInput hops.now starts.now marks.now flags.old queue.old n }
-    requires place { i < count hops.now }
-    requires silent { label hops.now i ≡ 0 }
-    requires tried { j < count hops.now }
-    requires fallen { p < count hops.now }
-    ensures { Pushed hops.now marks.now (Asked hops.now j p i)
-        flags.old flags.new queue.new result }
+fn push_answered(graph: Marked<'_>, worklist: &mut Worklist<'_>, i: usize, j: usize, p: usize)
+    requires queue { Queue graph.index.hops.now worklist.old }
+    requires place { i < count graph.index.hops.now }
+    requires silent { label graph.index.hops.now i ≡ 0 }
+    requires tried { j < count graph.index.hops.now }
+    requires fallen { p < count graph.index.hops.now }
+    ensures { Pushed graph.entry.index.hops.now graph.entry.marks.now
+        (Asked graph.entry.index.hops.now j p i) worklist.old worklist.new }
 {
-    if marks[i] != 1 {
-        return n;
+    if graph.marks[i] != 1 {
+        return;
     }
-    if flags[i] == 1 {
-        return n;
+    if worklist.flags[i] {
+        return;
     }
+    let hops = graph.index.hops;
     if is_point(
-        hops,
-        starts,
+        graph.index,
         to_at(hops, i),
         label_at(hops, j),
         to_at(hops, p),
     ) {
-        return push(hops, marks, flags, queue, n, i);
+        worklist.push(graph, i);
     }
-    n
 }
 
 // As `push_into`, each silent hop of s1 asked.
-pub fn push_out(
-    hops: &[u16],
-    starts: &[u16; STARTS],
-    marks: &[u8],
-    flags: &mut [u8; MOST_HOPS],
-    queue: &mut [u16; MOST_HOPS],
-    n: usize,
-    j: usize,
-    p: usize,
-) -> usize
-    requires given { PushInput hops.now starts.now marks.now flags.old queue.old n }
-    requires tried { j < count hops.now }
-    requires fallen { p < count hops.now }
-    ensures { Pushed hops.now marks.now (Trying hops.now j p)
-        flags.old flags.new queue.new result }
+pub fn push_out(graph: Marked<'_>, worklist: &mut Worklist<'_>, j: usize, p: usize)
+    requires queue { Queue graph.index.hops.now worklist.old }
+    requires tried { j < count graph.index.hops.now }
+    requires fallen { p < count graph.index.hops.now }
+    ensures { Pushed graph.entry.index.hops.now graph.entry.marks.now
+        (Trying graph.entry.index.hops.now j p) worklist.old worklist.new }
 {
-    let s1 = from_at(hops, j);
-    let past = labelled_past(hops, starts, s1.0, Label(0));
-    let mut length = n;
-    let mut i = start_of(starts, wide(s1.0));
-    while i < past {
-        length = push_answered(hops, starts, marks, flags, queue, length, i, j, p);
-        i += 1;
+    let s1 = from_at(graph.index.hops, j);
+    for i in graph.index.first(s1.0)..graph.index.past_labelled(s1.0, Label(0)) {
+        push_answered(graph, worklist, i, j, p);
     }
-    length
 }

@@ -3,23 +3,24 @@
 // The first round tests each silent (tau) hop in full; a later one tries only the hops to a state
 // that a fallen hop leaves. `mark_worklist_loop` puts the parts together.
 // Uses `mark_diamond` and `mark_diamond_retest` for the two tests, `mark_worklist` for which hops
-// the first round tests, and `mark_worklist_push` for the queue.
+// the first round tests, `mark_worklist_push` for the queue, and `graph_index` for the hop list
+// with its table and its marks.
 #![tactic(auto)]
 
-ghost use Rattle.std.specs.Prelude.{ℕ, ◌<◌, ◌≤◌, length, get_or};
+ghost use Rattle.std.specs.Prelude.{◌+◌, ◌<◌, ◌≤◌, length, take, All};
 ghost use Rattle.graph.specs.Hops.{count};
 ghost use Rattle.graph.specs.Answers.{most_hops};
 ghost use Rattle.graph_successors.specs.Internal.SuccessorIndex.{Indexable};
 ghost use Rattle.mark_worklist.specs.Tests.{tested_in};
-ghost use Rattle.mark_worklist_push.specs.Internal.Queue.{PlacesBelow};
-ghost use Rattle.mark_worklist_round.specs.Internal.Round.{Enumerates, DirtyStates, TestInput, SkipsClean, ListedUnless, Tested, Cleared, Unmarked};
+ghost use Rattle.mark_worklist_push.specs.Internal.Queue.{queued, PlacesBelow};
+ghost use Rattle.mark_worklist_round.specs.Internal.Round.{Enumerates, DirtyStates, SkipsClean, ListedUnless, Tested, Cleared, Emptied, Unmarked};
 
 use graph::hops::{from_at, hop_count, label_at};
-use graph::tables::{place_at, wide};
 use graph::{MOST_HOPS, MOST_STATES};
-use graph_successors::STARTS;
+use graph_index::Marked;
 use mark_diamond::closes_at;
 use mark_diamond_retest::closes_again;
+use mark_worklist_push::Worklist;
 
 // Lists the silent hops: the first round tests them all. Returns how many there are. Each place is
 // written behind the list, and kept if its hop is silent, so that no write depends on a branch that
@@ -27,118 +28,98 @@ use mark_diamond_retest::closes_again;
 pub fn list_silent(hops: &[u16], queue: &mut [u16; MOST_HOPS]) -> usize
     requires ready { Indexable hops.now }
     requires capacity { most_hops ≤ length queue.old }
-    ensures lists { Enumerates (count hops.now) (tested_in hops.now 0) queue.new result }
+    ensures lists { Enumerates (count hops.now) (tested_in hops.now 0) (take result queue.new) }
+    ensures within { result ≤ most_hops }
     ensures capacity { most_hops ≤ length queue.new }
 {
-    let past = hop_count(hops);
     let mut n = 0;
-    let mut i = 0;
-    while i < past {
+    for i in 0..hop_count(hops) {
         queue[n] = i as u16;
         let is_silent = label_at(hops, i).0 == 0;
         if is_silent {
             n += 1;
         }
-        i += 1;
     }
     n
 }
 
-// The dirty states, those that a fallen hop leaves: 1 for each of them. Of the hops tried only
-// those to a dirty state can have lost an answer.
-pub fn dirty_of(hops: &[u16], fallen: &[u16; MOST_HOPS], n: usize) -> [u8; MOST_STATES]
+// The dirty states, those that a fallen hop leaves. Of the hops tried only those to a dirty state
+// can have lost an answer.
+pub fn dirty_of(hops: &[u16], fallen: &[u16]) -> [bool; MOST_STATES]
     requires ready { Indexable hops.now }
-    requires most { n ≤ most_hops }
-    requires places { PlacesBelow hops.now fallen.now n }
-    ensures { DirtyStates hops.now fallen.now n result }
+    requires places { PlacesBelow hops.now fallen.now }
+    ensures { DirtyStates hops.now fallen.now result }
 {
-    let mut dirty = [0u8; MOST_STATES];
-    let mut k = 0;
-    while k < n {
-        let s = wide(from_at(hops, place_at(fallen, k)).0);
-        dirty[s] = 1;
-        k += 1;
+    let mut dirty = [false; MOST_STATES];
+    for &p in fallen {
+        let s = from_at(hops, usize::from(p));
+        dirty[usize::from(s.0)] = true;
     }
     dirty
 }
 
 // Lists the hop at place i behind the fallen ones unless it closes; returns how many there are.
-fn list_unless(fallen: &mut [u16; MOST_HOPS], lost: usize, i: usize, closes: bool) -> usize
-    requires place { i < most_hops }
-    requires capacity { lost < most_hops }
-    ensures { ListedUnless i closes fallen.old lost fallen.new result }
+fn list_unless(fallen: &mut [u16; MOST_HOPS], lost: usize, i: u16, closes: bool) -> usize
+    requires { lost < most_hops }
+    ensures lists { ListedUnless i closes (take lost fallen.old) (take result fallen.new) }
+    ensures within { result ≤ lost + 1 }
 {
     if closes {
         return lost;
     }
-    fallen[lost] = i as u16;
+    fallen[lost] = i;
     lost + 1
 }
 
-// The first round: tests the first n hops of the queue against the marks, which stay as they are,
-// and tries every hop; lists those that do not close, and returns how many.
-pub fn test_first(
-    hops: &[u16],
-    starts: &[u16; STARTS],
-    marks: &[u8],
-    queue: &[u16; MOST_HOPS],
-    n: usize,
-    fallen: &mut [u16; MOST_HOPS],
-) -> usize
-    requires given { TestInput hops.now starts.now marks.now queue.now n fallen.old }
-    ensures { Tested hops.now marks.now queue.now n fallen.new result }
+// The first round: tests the hops of the queue against the marks, which stay as they are, and tries
+// every hop; lists those that do not close, and returns how many.
+pub fn test_first(graph: Marked<'_>, queue: &[u16], fallen: &mut [u16; MOST_HOPS]) -> usize
+    requires most { length queue.now ≤ most_hops }
+    requires places { PlacesBelow graph.index.hops.now queue.now }
+    ensures tested { Tested graph.entry.index.hops.now graph.entry.marks.now queue.now (take result fallen.new) }
+    ensures within { result ≤ length queue.now }
 {
     let mut lost = 0;
-    let mut k = 0;
-    while k < n {
-        let i = place_at(queue, k);
-        let closes = closes_at(hops, starts, marks, i);
-        lost = list_unless(fallen, lost, i, closes);
-        k += 1;
+    for &i in queue {
+        lost = list_unless(fallen, lost, i, closes_at(graph, usize::from(i)));
     }
     lost
 }
 
-// A later round: the same, with only the hops to dirty states tried, and the flags of the queue
-// cleared.
+// A later round: the same of the hops on the worklist, with only the hops to dirty states tried.
+// The worklist is empty afterwards.
 pub fn test_again(
-    hops: &[u16],
-    starts: &[u16; STARTS],
-    marks: &[u8],
-    dirty: &[u8; MOST_STATES],
-    queue: &[u16; MOST_HOPS],
-    n: usize,
-    flags: &mut [u8; MOST_HOPS],
+    graph: Marked<'_>,
+    dirty: &[bool; MOST_STATES],
+    worklist: &mut Worklist<'_>,
     fallen: &mut [u16; MOST_HOPS],
 ) -> usize
-    requires given { TestInput hops.now starts.now marks.now queue.now n fallen.old }
-    requires clean { SkipsClean hops.now marks.now dirty.now queue.now n }
-    requires flags { count hops.now ≤ length flags.old }
-    ensures tested { Tested hops.now marks.now queue.now n fallen.new result }
-    ensures cleared { Cleared hops.now queue.now n flags.old flags.new }
+    requires most { worklist.old.len ≤ most_hops }
+    requires capacity { worklist.old.len ≤ length worklist.old.places.now }
+    requires places { PlacesBelow graph.index.hops.now (queued worklist.old) }
+    requires clean { SkipsClean graph.index.hops.now graph.marks.now dirty.now (queued worklist.old) }
+    requires flags { count graph.index.hops.now ≤ length worklist.old.flags.now }
+    ensures tested { Tested graph.entry.index.hops.now graph.entry.marks.now (queued worklist.old) (take result fallen.new) }
+    ensures within { result ≤ worklist.old.len }
+    ensures cleared { Cleared graph.entry.index.hops.now (queued worklist.old) worklist.old.flags.now worklist.new.flags.now }
+    ensures emptied { Emptied worklist.old worklist.new }
 {
     let mut lost = 0;
-    let mut k = 0;
-    while k < n {
-        let i = place_at(queue, k);
-        flags[i] = 0;
-        let closes = closes_again(hops, starts, marks, dirty, i);
-        lost = list_unless(fallen, lost, i, closes);
-        k += 1;
+    for k in 0..worklist.len {
+        let i = worklist.places[k];
+        worklist.flags[usize::from(i)] = false;
+        lost = list_unless(fallen, lost, i, closes_again(graph, dirty, usize::from(i)));
     }
+    worklist.len = 0;
     lost
 }
 
-// Takes the marks of the first n fallen hops.
-pub fn unmark_fallen(marks: &mut [u8], fallen: &[u16; MOST_HOPS], n: usize)
-    requires most { n ≤ most_hops }
-    requires inside { (k : ℕ) → k < n → get_or fallen.now k 0 < length marks.old }
-    ensures { Unmarked marks.old fallen.now n marks.new }
+// Takes the marks of the fallen hops.
+pub fn unmark_fallen(marks: &mut [u8], fallen: &[u16])
+    requires { All (λ p. p < length marks.old) fallen.now }
+    ensures { Unmarked marks.old fallen.now marks.new }
 {
-    let mut k = 0;
-    while k < n {
-        let i = place_at(fallen, k);
-        marks[i] = 0;
-        k += 1;
+    for &p in fallen {
+        marks[usize::from(p)] = 0;
     }
 }

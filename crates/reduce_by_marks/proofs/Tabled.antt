@@ -18,7 +18,7 @@ use Rattle.graph_check.specs.Check.{Admitted}
 use Rattle.base_fixpoint.specs.Pairs.{Pairs}
 use Rattle.reduce_representatives.specs.Internal.Representative.{Terminating}
 use Rattle.reduce_representatives.specs.Representative.{is_normal, map_of}
-use Rattle.reduce_representatives.specs.Internal.Tables.{NextTable, NewNumbers, new_number}
+use Rattle.reduce_representatives.specs.Internal.Tables.{FromIn, NextTable, NewNumbers, new_number}
 use Rattle.reduce_representatives.proofs.Mapped.{map_in}
 use Rattle.reduce_representatives.proofs.Tabled.{tabled_new}
 use Rattle.reduce_short_graph.specs.Short.{short_hops, short_shape, map_list}
@@ -27,6 +27,11 @@ use Rattle.reduce_short_graph.proofs.Tabled.{tabled_list, tabled_short}
 use Rattle.reduce_by_marks.specs.Internal.ByMarks.{short_graph, shape_by}
 use Rattle.reduce_by_marks.specs.declared.ShortGraph.{ShortGraph}
 use Rattle.reduce_by_marks.proofs.Along.{map_at}
+
+-- the states that hops leave have a place in a table of the states that can be
+pub tabled_from : {sh : Shape} {hs : List ℕ} → Admitted sh hs → FromIn hs
+unfolding FromIn
+tabled_from adm i l = omega (arith, adm.range.from_in i l, adm.states_most)
 
 -- the table of next states, the new numbers, the map from old to new and the short hops are at hand
 module _ {sh : Shape} {hs : List ℕ} {u : Pairs} (adm : Admitted sh hs) (sett : Terminating sh hs u) (next : List ℕ) (on : NextTable hs u next) (news : List ℕ)

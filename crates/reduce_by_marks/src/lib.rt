@@ -28,13 +28,6 @@ pub struct ShortGraph {
     pub hops: usize,
 }
 
-// A number of a table, as a shape has it.
-fn long(x: u16) -> u32
-    ensures { result ≡ x }
-{
-    x as u32
-}
-
 // The counts and the initial state of the short graph, by the tables.
 fn short_shape(shape: Shape, news: &[u16; NUMBERS], map: &[u16]) -> Shape
     requires few { shape.states ≤ most_states }
@@ -42,12 +35,10 @@ fn short_shape(shape: Shape, news: &[u16; NUMBERS], map: &[u16]) -> Shape
     requires mapped { shape.states ≤ length map.now }
     ensures { result ≡ shape_by shape news.now map.now }
 {
-    let states = shape.states as usize;
-    let initial = map_at(map, OldState(shape.initial as u16));
     Shape {
-        states: long(news[states]),
+        states: u32::from(news[shape.states as usize]),
         labels: shape.labels,
-        initial: long(initial.0),
+        initial: u32::from(map_at(map, OldState(shape.initial as u16)).0),
     }
 }
 
@@ -68,14 +59,12 @@ pub fn reduce_marked(
     ensures mapped { map.new ≡ map_after shape hops.now marks.now map.old }
     ensures shortened { short.new ≡ short_after shape hops.now marks.now short.old }
 {
-    let states = shape.states as usize;
     let next = next_states(hops, marks);
     let news = new_numbers(&next);
-    fill_map(states, next, &news, map);
+    fill_map(shape.states as usize, next, &news, map);
     let n = shorten(hops, &next, map, short);
-    let made = short_shape(shape, &news, map);
     ShortGraph {
-        shape: made,
+        shape: short_shape(shape, &news, map),
         hops: n,
     }
 }

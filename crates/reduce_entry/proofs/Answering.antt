@@ -1,21 +1,18 @@
 -- The answer of `reduce` row by row, what follows from acceptance, and what is returned and written
 -- in either case. Assumes nothing.
-use Prim.Native.Nat.{ℕ, ◌<◌, ◌≤◌}
-use mathlib.Core.Path.{◌≡◌, refl, sym, ap, ◌∙◌}
-use mathlib.Core.Bool.{Bool, true, false, ◌||◌}
+use Prim.Native.Nat.{ℕ, ◌≤◌}
+use mathlib.Core.Path.{◌≡◌, sym, ap, ◌∙◌}
+use mathlib.Core.Bool.{false}
 use mathlib.Core.List.{List}
-use mathlib.Core.Logic.{◌⊎◌, inl, inr}
-use native.Mathlib.Omega.{arith}
-use borrow.Author.Tests.{ne_eqb, le-leb, lt-leb, ltb-true, ltb-false}
+use borrow.Author.Tests.{ne_eqb, le-leb}
 use lib.ListN.{length}
-use lib.Dec.{eqb, ltb}
+use lib.Dec.{eqb}
 use Rattle.base_outputs.specs.Output.{on_front, written}
-use Rattle.graph.specs.Answers.{accepted, refused, and_then, capacity_answer}
+use Rattle.graph.specs.Answers.{accepted, and_then, capacity_answer}
 use Rattle.graph_check.specs.Check.{check_of}
 use Rattle.graph.specs.Hops.{flat}
 use Rattle.graph.specs.declared.Shape.{Shape}
 use Rattle.graph.specs.declared.Answer.{Answer}
-use Rattle.base_bounded.proofs.Bools.{clash, or_yes, lt_or_le}
 use Rattle.graph_check.proofs.Checked.{check_admitted}
 use Rattle.walk_silent.specs.Silent.{ring_answer}
 use Rattle.graph.proofs.Accepts.{then_first, then_next, both_accept, capacity_accepts}
@@ -43,31 +40,6 @@ module _ (sh : Shape) (hs : List ℕ) (k m n : ℕ) {c : Answer} (g : c ≡ sens
 
     pub later_ringed : (d.number ≡ 0 → ⊥) → d ≡ later_answer sh hs k m n
     later_ringed x = f ∙ sym (then_first (ring_answer sh hs) (capacity sh hs m n) (rw f at x)) ∙ next
-
-    module _ (y : d.number ≡ 0) where
-      last : capacity sh hs m n ≡ later_answer sh hs k m n
-      last = sym (then_next (ring_answer sh hs) (capacity sh hs m n) (rw f at y)) ∙ next
-
-      pub later_narrow : (ltb m sh.states || ltb n (length hs)) ≡ true → refused 6 0 ≡ later_answer sh hs k m n
-      later_narrow t = both (lt_or_le m sh.states) (or_yes (ltb m sh.states) (ltb n (length hs)) t) ∙ last where
-        both : (m < sh.states) ⊎ (sh.states ≤ m) → (ltb m sh.states ≡ true) ⊎ (ltb n (length hs) ≡ true) → refused 6 0 ≡ capacity sh hs m n
-        both (inl l) w = rw (lt-leb sh.states m l)
-        both (inr l) (inl w) = absurd (omega (arith, ltb-true m sh.states w))
-        both (inr l) (inr w) = rw (le-leb sh.states m l, lt-leb (length hs) n (ltb-true n (length hs) w))
-
-      pub later_accepts : (ltb m sh.states || ltb n (length hs)) ≡ false → accepted ≡ later_answer sh hs k m n
-      later_accepts t = wide ∙ last where
-        or_no_left : (a b : Bool) → (a || b) ≡ false → a ≡ false
-        or_no_left true b q = q
-        or_no_left false b q = refl
-
-        or_no_right : (a b : Bool) → (a || b) ≡ false → b ≡ false
-        or_no_right true b q = clash refl q
-        or_no_right false b q = q
-
-        wide : accepted ≡ capacity sh hs m n
-        wide =
-            rw (le-leb sh.states m (ltb-false m sh.states (or_no_left (ltb m sh.states) (ltb n (length hs)) t)), le-leb (length hs) n (ltb-false n (length hs) (or_no_right (ltb m sh.states) (ltb n (length hs)) t)))
 
 module _ (sh : Shape) (hs : List ℕ) (k m n : ℕ) where
   -- the ways out of the entry: rows 1 to 4, and the later ones

@@ -5,15 +5,14 @@ use mathlib.Core.Path.{◌≡◌}
 use mathlib.Core.Bool.{true}
 use mathlib.Core.List.{List}
 use mathlib.Core.Logic.{◌↔◌}
-use lib.Dec.{eqb}
 use Rattle.graph.specs.declared.Shape.{Shape}
 use Rattle.lts.specs.Sense.{Normal}
 use Rattle.lts.specs.Closes.{Sense}
 use Rattle.base_fixpoint.specs.Pairs.{In}
 use Rattle.mark_senses.specs.Senses.{marked_in}
-use Rattle.reduce_representatives.specs.Representative.{IsRepresentative, is_normal, next_state, new_of, rep_of, map_of}
+use Rattle.reduce_representatives.specs.Representative.{IsRepresentative, is_normal, new_of, rep_of, map_of}
 use Rattle.reduce_representatives.specs.Reducible.{Reducible}
-use Rattle.reduce_representatives.proofs.NormalForm.{is_normal_iff, is_normal_stays, rep_is_representative}
+use Rattle.reduce_representatives.proofs.NormalForm.{is_normal_iff, rep_is_representative}
 use Rattle.reduce_representatives.proofs.Mapped.{map_own}
 use Rattle.reduce_entry.proofs.Marked.{marked_terminating, marked_weakly}
 
@@ -21,10 +20,6 @@ module _ {sh : Shape} {hs : List ℕ} (red : Reducible sh hs) (sense : Sense) wh
   -- a state is normal exactly when no marked hop leaves it
   pub normal_iff : (s : ℕ) → (is_normal hs (marked_in sense sh hs) s ≡ true) ↔ Normal (In (marked_in sense sh hs)) s
   normal_iff = is_normal_iff (marked_terminating red sense)
-
-  -- and exactly when the walk stays there
-  pub normal_fixed : (s : ℕ) → is_normal hs (marked_in sense sh hs) s ≡ eqb (next_state hs (marked_in sense sh hs) s) s
-  normal_fixed = is_normal_stays (marked_terminating red sense)
 
   -- "each class has exactly one state that no marked hop leaves: its representative"
   pub representative_unique : (s : ℕ) → IsRepresentative (marked_in sense sh hs) s (rep_of sh hs (marked_in sense sh hs) s)

@@ -1,17 +1,19 @@
 -- The entry `reduce`: what it returns and what it leaves in its two outputs. Here the map and the
 -- short graph, which are of any set of silent hops, are those of the marked set (the greatest
 -- tau-confluent set) of the sense with the number k. Assumes nothing: these are definitions.
-use Rattle.std.specs.Prelude.{ℕ, cond, List, length, eqb}
+use Rattle.std.specs.Prelude.{ℕ, cond, List, length, eqb, Result, Ok, Err}
 use Rattle.base_outputs.specs.Output.{written}
 use Rattle.graph.specs.Hops.{flat}
-use Rattle.graph.specs.Answers.{and_then, capacity_answer}
+use Rattle.graph.specs.Answers.{accepted, and_then, capacity_answer, refusal_answer}
 use Rattle.graph_check.specs.Check.{check_of}
 use Rattle.graph.specs.declared.Hop.{Hop}
 use Rattle.graph.specs.declared.Shape.{Shape}
 use Rattle.graph.specs.declared.Answer.{Answer}
+use Rattle.graph.specs.declared.Refusal.{Refusal}
 use Rattle.walk_silent.specs.Silent.{ring_answer}
 use Rattle.mark_senses.specs.Senses.{marked_by, sense_answer}
 use Rattle.reduce_short_graph.specs.Short.{short_hops, short_shape, map_list}
+use Rattle.reduce_by_marks.specs.declared.ShortGraph.{ShortGraph}
 use Rattle.reduce_entry.specs.declared.Reduction.{Reduction}
 
 abbrev pub reduced_map : Shape → List ℕ → ℕ → List ℕ
@@ -36,6 +38,14 @@ reduce_answer sh hs k map-capacity short_capacity =
 -- "with any number but 0 every other figure in the answer is 0"
 abbrev pub no_shape : Shape
 no_shape = record { states = 0; labels = 0; initial = 0 }
+
+-- the figures of what `reduce` returns: the short graph, or a refusal
+abbrev pub made_reduction : ShortGraph → Reduction
+made_reduction made = record { answer = accepted; shape = made.shape; hops = made.hops }
+
+abbrev pub reduction_of : Result ShortGraph Refusal → Reduction
+reduction_of (Ok made) = made_reduction made
+reduction_of (Err r) = record { answer = refusal_answer r; shape = no_shape; hops = 0 }
 
 abbrev pub reduction : Shape → List ℕ → ℕ → Answer → Reduction
 reduction sh hs k a =

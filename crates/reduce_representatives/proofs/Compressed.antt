@@ -7,7 +7,7 @@ use mathlib.Core.Logic.{◌⊎◌, inl, inr, ⊎_elim}
 use native.Mathlib.Omega.{arith}
 use lib.ListN.{length, get_or, set, length-set}
 use lib.Seq.{get_or-set_same, get_or-set_other}
-use Rattle.base_bounded.proofs.Bools.{eq_or_not}
+use Rattle.std.proofs.lemmas.Bool.{cases_eq}
 use Rattle.reduce_representatives.specs.Internal.Tables.{ClosedTable, RankFalls, TerminatingTable, Compressed, table_steps}
 use Rattle.reduce_representatives.proofs.Nexts.{table_steps_rest, table_steps_in}
 
@@ -18,9 +18,6 @@ compressed_none n next closed = record { long = refl; closed = closed; same = λ
 -- one compression after another
 pub compressed_then : {n : ℕ} {next known more : List ℕ} → Compressed n next known → Compressed n known more → Compressed n next more
 compressed_then a b = record { long = b.long ∙ a.long; closed = b.closed; same = λ s l. b.same s l ∙ a.same s l; falls = λ rank f. b.falls rank (a.falls rank f) }
-
-pub compressed_terminating : {n : ℕ} {next known : List ℕ} → Compressed n next known → TerminatingTable n next → TerminatingTable n known
-compressed_terminating a k = record { rank = k.rank; bound = k.bound; falls = a.falls k.rank k.falls }
 
 -- a table in which some states have their representative
 pub record Way (n : ℕ) (next known : List ℕ) : Type 0 where
@@ -71,17 +68,17 @@ module _ (n : ℕ) (next : List ℕ) (closed : ClosedTable n next) where
       there {s} q = get_or-set_other known at s rep 0 q
 
       within_more : (s : ℕ) → s < n → get_or (set known at rep) s 0 < n
-      within_more s k = ⊎_elim (λ q. rw (here q) (table_steps_in next n closed n s k)) (λ q. rw (there q) (w.within s k)) (eq_or_not s at)
+      within_more s k = ⊎_elim (λ q. rw (here q) (table_steps_in next n closed n s k)) (λ q. rw (there q) (w.within s k)) (cases_eq s at)
 
       leads_more : (s : ℕ) → s < n → table_steps next n (get_or (set known at rep) s 0) ≡ table_steps next n s
-      leads_more s k = ⊎_elim (λ q. rw (here q) (way_leads n s k)) (λ q. rw (there q) (w.leads s k)) (eq_or_not s at)
+      leads_more s k = ⊎_elim (λ q. rw (here q) (way_leads n s k)) (λ q. rw (there q) (w.leads s k)) (cases_eq s at)
 
       rests_more : (s : ℕ) → s < n → get_or (set known at rep) s 0 ≡ s → table_steps next n s ≡ s
-      rests_more s k d = ⊎_elim (λ q. sym (here q) ∙ d) (λ q. w.rests s k (sym (there q) ∙ d)) (eq_or_not s at)
+      rests_more s k d = ⊎_elim (λ q. sym (here q) ∙ d) (λ q. w.rests s k (sym (there q) ∙ d)) (cases_eq s at)
 
       falling_more : (rank : ℕ → ℕ) → ((s : ℕ) → s < n → (get_or next s 0 ≡ s) ⊎ (rank (get_or next s 0) < rank s)) →
           (s : ℕ) → s < n → (get_or (set known at rep) s 0 ≡ s) ⊎ (rank (get_or (set known at rep) s 0) < rank s)
-      falling_more rank f s k = ⊎_elim (λ q. rw (here q) (own q)) (λ q. rw (there q) (w.falling rank f s k)) (eq_or_not s at) where
+      falling_more rank f s k = ⊎_elim (λ q. rw (here q) (own q)) (λ q. rw (there q) (w.falling rank f s k)) (cases_eq s at) where
         own : s ≡ at → (table_steps next n s ≡ s) ⊎ (rank (table_steps next n s) < rank s)
         own q =
             ⊎_elim (λ r. inl (table_steps_rest next n s r))

@@ -1,17 +1,16 @@
 -- Marks of a set in a list: any list of marks without a mark at a visible hop is that of the set of
 -- its marked hops; and that set is terminating where the graph has no ring. Assumes nothing.
 use Prim.Native.Nat.{ℕ, ◌<◌, ◌≤◌}
-use mathlib.Core.Path.{◌≡◌, refl, sym, ◌∙◌}
-use mathlib.Core.Bool.{Bool, true, false, ◌&&◌}
+use mathlib.Core.Path.{◌≡◌, refl}
+use mathlib.Core.Bool.{◌&&◌}
 use mathlib.Core.List.{List}
 use mathlib.Core.Logic.{◌⊎◌, inl, inr}
 use borrow.Author.Tests.{eq-eqb, ne_eqb}
-use lib.ListN.{length}
 use lib.Dec.{eqb}
+use Rattle.std.proofs.lemmas.Bool.{cases_eq, false_from_ne_true}
 use Rattle.graph.specs.Hops.{count, from, label, to, is, has}
 use Rattle.graph.specs.Order.{Ascending}
 use Rattle.graph.specs.declared.Shape.{Shape}
-use Rattle.base_bounded.proofs.Bools.{no_test, eq_or_not}
 use Rattle.base_bounded.proofs.Quantifiers.{any_found, tally_within}
 use Rattle.graph.proofs.Places.{is_yes}
 use Rattle.walk_silent.specs.Silent.{HopOf, leads}
@@ -27,10 +26,10 @@ use Rattle.reduce_representatives.specs.Internal.Tables.{Marks, SilentMarks}
 pub mark_set_marks : {hs ms : List ℕ} → Ascending hs → SilentMarks hs ms → Marks hs (mark_set hs ms) ms
 mark_set_marks {hs} {ms} up m = record { capacity = m.capacity; marks = mark } where
   mark : (i : ℕ) → i < count hs → is_marked ms i ≡ (eqb (label hs i) 0 && mark_set hs ms (from hs i) (to hs i))
-  mark i l = go (eq_or_not (label hs i) 0) where
+  mark i l = go (cases_eq (label hs i) 0) where
     go : (label hs i ≡ 0) ⊎ (label hs i ≡ 0 → ⊥) → is_marked ms i ≡ (eqb (label hs i) 0 && mark_set hs ms (from hs i) (to hs i))
     go (inl z) = rw (eq-eqb (label hs i) 0 z) (mark_set_at_lem hs ms up (from hs i) (to hs i) l (is_yes hs (from hs i) 0 (to hs i) i refl z refl))
-    go (inr n) = rw (ne_eqb (label hs i) 0 n) (no_test (is_marked ms i) (λ o. n (m.silent i l o)))
+    go (inr n) = rw (ne_eqb (label hs i) 0 n) (false_from_ne_true (is_marked ms i) (λ o. n (m.silent i l o)))
 
 -- in a graph without rings every set of silent hops is terminating
 module _ {sh : Shape} {hs : List ℕ} (red : Reducible sh hs) where

@@ -5,14 +5,14 @@ use mathlib.Core.Path.{◌≡◌, refl, sym, ap, ◌∙◌, subst}
 use mathlib.Core.Bool.{Bool, true, false, cond, ◌&&◌}
 use mathlib.Core.List.{List}
 use mathlib.Core.Logic.{⊎_elim}
-use native.Mathlib.Nat.{eq-or-lt_of_le, sub-zero}
+use native.Mathlib.Nat.{eq-or-lt_of_le}
 use native.Mathlib.Omega.{arith}
 use borrow.Author.Tests.{eq-eqb, ne_eqb}
 use lib.ListN.{length, get_or, set, length-set}
 use lib.Seq.{get_or-set_same, get_or-set_other}
 use lib.Dec.{eqb}
+use Rattle.std.proofs.lemmas.Bool.{and_from, and_left, and_right, cases_eq, not_from_false, not_from_true}
 use Rattle.graph.specs.Hops.{count, from, label, to}
-use Rattle.base_bounded.proofs.Bools.{eq_or_not, not_yes, not_no, and_yes, and_no_left, and_no_right}
 use Rattle.base_bounded.proofs.Quantifiers.{any_no, any_found, least_is}
 use Rattle.base_fixpoint.specs.Pairs.{Pairs}
 use Rattle.mark_confluence.specs.Internal.MarkSet.{is_marked}
@@ -36,9 +36,9 @@ module _ (hs : List ℕ) (u : Pairs) where
   pub ends_next_state : {s v : ℕ} → Ends hs u s 0 v → v ≡ next_state hs u s
   unfolding is_normal
   ends_next_state {s} (none f e) =
-      e ∙ sym (rests_next_state hs u s (not_no (any_no (marked_from hs u s) (count hs) (λ j l. f j (omega arith) l))))
+      e ∙ sym (rests_next_state hs u s (not_from_false _ (any_no (marked_from hs u s) (count hs) (λ j l. f j (omega arith) l))))
   ends_next_state {s} (some k l m p f e) =
-      e ∙ sym (moves_next_state hs u s (not_yes (any_found (marked_from hs u s) (count hs) m p)) ∙
+      e ∙ sym (moves_next_state hs u s (not_from_true _ (any_found (marked_from hs u s) (count hs) m p)) ∙
       ap (to hs) (least_is (marked_from hs u s) (count hs) k (omega arith) (λ j i. f j (omega arith) i) (λ _. p)))
 
   module _ (i : ℕ) (inside : i < count hs) where
@@ -58,17 +58,17 @@ module _ (hs : List ℕ) (u : Pairs) where
       unfolding with_next marked_from
       entered_ends s old = go (eqb (label hs i) 0 && u (from hs i) (to hs i)) refl where
         go : (x : Bool) → (eqb (label hs i) 0 && u (from hs i) (to hs i)) ≡ x → Ends hs u s i (get_or (cond (is_marked ms i) (set next (from hs i) (to hs i)) next) s 0)
-        go false e = rw (mark, e) (ends_skip old (and_no_right (eqb (from hs i) s) e))
-        go true e = rw (mark, e) (⊎_elim here there (eq_or_not s (from hs i))) where
+        go false e = rw (mark, e) (ends_skip old (and_right (eqb (from hs i) s) _ e))
+        go true e = rw (mark, e) (⊎_elim here there (cases_eq s (from hs i))) where
           here : s ≡ from hs i → Ends hs u s i (get_or (set next (from hs i) (to hs i)) s 0)
           here q =
               subst (λ (v : ℕ). Ends hs u s i v) (sym (ap (λ (x : ℕ). get_or (set next (from hs i) (to hs i)) x 0) q ∙ get_or-set_same next (from hs i) (to hs i) 0 capacity))
-              (ends_take (and_yes (eq-eqb _ _ (sym q)) e))
+              (ends_take (and_from _ _ (eq-eqb _ _ (sym q)) e))
 
           there : (s ≡ from hs i → ⊥) → Ends hs u s i (get_or (set next (from hs i) (to hs i)) s 0)
           there q =
               subst (λ (v : ℕ). Ends hs u s i v) (sym (get_or-set_other next (from hs i) s (to hs i) 0 q))
-              (ends_skip old (and_no_left _ (ne_eqb _ _ (λ p. q (sym p)))))
+              (ends_skip old (and_left _ _ (ne_eqb _ _ (λ p. q (sym p)))))
 
 -- the table stays as long as it is
 pub length_entered : (hs ms : List ℕ) (i : ℕ) (next : List ℕ) {new : List ℕ} {n : ℕ} → new ≡ with_next hs ms i next → length next ≡ n → length new ≡ n
@@ -90,9 +90,6 @@ module _ (next : List ℕ) where
   table_steps_on n k s l = ap (λ (m : ℕ). table_steps next m s) one_less where
     one_less : n - k ≡ suc (n - (k + 1))
     one_less = omega arith
-
-  pub table_steps_start : (n s : ℕ) → table_steps next (n - 0) s ≡ table_steps next n s
-  table_steps_start n s = rw (sub-zero n)
 
   pub table_steps_done : (n k s : ℕ) → n ≤ k → table_steps next (n - k) s ≡ s
   unfolding table_steps

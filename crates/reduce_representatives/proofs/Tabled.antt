@@ -7,12 +7,12 @@ use mathlib.Core.List.{List}
 use mathlib.Core.Logic.{inl, inr, ⊎_elim}
 use native.Mathlib.Omega.{arith}
 use lib.ListN.{get_or}
+use Rattle.std.proofs.lemmas.Bool.{cases_Bool}
 use Rattle.base_bounded.specs.Quantifiers.{tally}
 use Rattle.graph.specs.Answers.{most_states}
 use Rattle.graph_check.specs.Check.{Admitted}
 use Rattle.graph.specs.declared.Shape.{Shape}
 use Rattle.base_fixpoint.specs.Pairs.{Pairs}
-use Rattle.base_bounded.proofs.Bools.{decided}
 use Rattle.base_bounded.proofs.Quantifiers.{tally_same}
 use Rattle.reduce_representatives.specs.Internal.Representative.{Terminating}
 use Rattle.reduce_representatives.specs.Representative.{is_normal, next_state, after_steps, new_of, rep_of, map_of}
@@ -41,7 +41,7 @@ module _ {sh : Shape} {hs : List ℕ} {u : Pairs} (adm : Admitted sh hs) (sett :
   tabled_terminating = record { rank = sett.rank; bound = λ s l. sett.bound s; falls = falling } where
     falling : RankFalls sh.states sett.rank next
     falling s l =
-        ⊎_elim (λ e. inl (at_next s l ∙ rests_next_state hs u s e)) (λ e. inr (rw (at_next s l) (next_state_falls sett s e))) (decided (is_normal hs u s))
+        ⊎_elim (λ e. inl (at_next s l ∙ rests_next_state hs u s e)) (λ e. inr (rw (at_next s l) (next_state_falls sett s e))) (cases_Bool (is_normal hs u s))
 
   tabled_steps : (k s : ℕ) → s < sh.states → table_steps next k s ≡ after_steps hs u k s
   unfolding table_steps after_steps

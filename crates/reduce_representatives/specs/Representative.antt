@@ -1,7 +1,7 @@
 -- Classes and representatives (normal forms; document 01 "Reducing"; SEN-R0123, section 4), along
 -- any set u of silent hops; document 01's is the marked set. Assumes nothing: these are
 -- definitions.
-use Rattle.std.specs.Prelude.{ℕ, zero, suc, ◌≡◌, Bool, true, cond, not, ◌&&◌, List, eqb}
+use Rattle.std.specs.Prelude.{ℕ, zero, suc, ◌≡◌, Bool, cond, not, ◌&&◌, List, eqb}
 use Rattle.base_bounded.specs.Quantifiers.{any, least, tally}
 use Rattle.graph.specs.Hops.{count, from, label, to}
 use Rattle.graph.specs.declared.Shape.{Shape}

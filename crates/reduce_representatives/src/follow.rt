@@ -1,6 +1,8 @@
 // Where the first marked hop of each state leads, and the representative that these hops lead to.
 // Path compression: a walk writes the representative into the table for every state that it passed,
 // so that later walks go from these states straight to it.
+// What is known of the table is clauses, and no type's: `TerminatingTable` holds a rank, so it is
+// no proposition, which a ghost field has to be.
 ghost use Rattle.std.specs.Prelude.{◌≡◌, ◌<◌, ◌≤◌, length};
 ghost use Rattle.graph.specs.Hops.{count, from};
 ghost use Rattle.graph.specs.Answers.{most_states};
@@ -13,19 +15,19 @@ use graph::hops::{from_at, hop_count, to_at};
 use graph::{MOST_STATES, OldState};
 
 // A table that leads from each state to itself.
+#[tactic(auto, unfolding(crate::specs::Internal::Tables::IdentityTable))]
 fn identity_table() -> [u16; MOST_STATES]
     ensures { IdentityTable result }
 {
     let mut next = [0u16; MOST_STATES];
-    let mut s = 0;
-    while s < MOST_STATES {
-        next[s] = s as u16;
-        s += 1;
+    for (s, to) in next.iter_mut().enumerate() {
+        *to = s as u16;
     }
     next
 }
 
 // Enters the hop at the place, if it is marked, as the first of its state.
+#[tactic(auto, unfolding(crate::specs::Internal::Tables::with_next, mark_confluence::specs::Internal::MarkSet::is_marked))]
 fn enter(hops: &[u16], marks: &[u8], next: &mut [u16; MOST_STATES], i: usize)
     requires inside { i < count hops.now }
     requires marked { i < length marks.now }
@@ -33,8 +35,7 @@ fn enter(hops: &[u16], marks: &[u8], next: &mut [u16; MOST_STATES], i: usize)
     ensures { next.new ≡ with_next hops.now marks.now i next.old }
 {
     if marks[i] == 1 {
-        let at = from_at(hops, i).0 as usize;
-        next[at] = to_at(hops, i).0;
+        next[usize::from(from_at(hops, i).0)] = to_at(hops, i).0;
     }
 }
 
@@ -45,24 +46,23 @@ pub fn next_states(hops: &[u16], marks: &[u8]) -> [u16; MOST_STATES]
     ensures { NextTable hops.now (mark_set hops.now marks.now) result }
 {
     let mut next = identity_table();
-    let mut i = hop_count(hops);
-    while 0 < i {
-        i -= 1;
+    for i in (0..hop_count(hops)).rev() {
         enter(hops, marks, &mut next, i);
     }
     next
 }
 
 // Whether the table leads from s to s.
+#[tactic(auto, unfolding(crate::specs::Internal::Tables::is_fixed))]
 pub fn is_fixed(next: &[u16; MOST_STATES], s: OldState) -> bool
     requires { s.0 < most_states }
     ensures { result ≡ is_fixed next.now s.0 }
 {
-    let at = s.0 as usize;
-    next[at] == s.0
+    next[usize::from(s.0)] == s.0
 }
 
 // The state that s comes to within as many steps as there are states.
+// It goes along the table's 16-bit numbers, where `OldState(..)` and `.0` would say nothing more.
 pub fn follow(next: &[u16; MOST_STATES], states: usize, s: OldState) -> OldState
     requires inside { s.0 < states }
     requires few { states ≤ most_states }
@@ -70,15 +70,12 @@ pub fn follow(next: &[u16; MOST_STATES], states: usize, s: OldState) -> OldState
     ensures { result.0 ≡ table_steps next.now states s.0 }
 {
     let mut at = s.0;
-    let mut k = 0;
-    while k < states {
-        let i = at as usize;
-        let to = next[i];
+    for _step in 0..states {
+        let to = next[usize::from(at)];
         if to == at {
-            return OldState(at);
+            break;
         }
         at = to;
-        k += 1;
     }
     OldState(at)
 }
@@ -94,15 +91,13 @@ pub fn compress_path(next: &mut [u16; MOST_STATES], states: usize, s: OldState, 
     ensures { Compressed states next.old next.new }
 {
     let mut at = s.0;
-    let mut passed = 0;
-    while passed < states {
-        let i = at as usize;
+    for _passed in 0..states {
+        let i = usize::from(at);
         let to = next[i];
         if to == rep.0 {
-            return;
+            break;
         }
         next[i] = rep.0;
         at = to;
-        passed += 1;
     }
 }

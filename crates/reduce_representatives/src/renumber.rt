@@ -17,13 +17,11 @@ pub fn new_numbers(next: &[u16; MOST_STATES]) -> [u16; NUMBERS]
 {
     let mut news = [0u16; NUMBERS];
     let mut found = 0u16;
-    let mut s = 0;
-    while s < MOST_STATES {
+    for s in 0..MOST_STATES {
         if is_fixed(next, OldState(s as u16)) {
             found += 1;
         }
-        s += 1;
-        news[s] = found;
+        news[s + 1] = found;
     }
     news
 }
@@ -38,12 +36,10 @@ pub fn fill_map(states: usize, mut next: [u16; MOST_STATES], news: &[u16], map: 
     requires terminating { TerminatingTable states next }
     ensures { map.new ≡ on_front (tabulate states (new_number next news.now states)) map.old }
 {
-    let mut s = 0;
-    while s < states {
-        let rep = follow(&next, states, OldState(s as u16));
-        compress_path(&mut next, states, OldState(s as u16), rep);
-        let new = map_at(news, rep);
-        map[s] = new.0;
-        s += 1;
+    for s in 0..states {
+        let old = OldState(s as u16);
+        let rep = follow(&next, states, old);
+        compress_path(&mut next, states, old, rep);
+        map[s] = map_at(news, rep).0;
     }
 }

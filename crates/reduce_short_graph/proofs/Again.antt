@@ -5,7 +5,7 @@ use mathlib.Core.Path.{◌≡◌, refl, ◌∙◌}
 use mathlib.Core.Bool.{true}
 use mathlib.Core.List.{List}
 use native.Mathlib.Omega.{arith}
-use Rattle.base_bounded.proofs.Bools.{no_test}
+use Rattle.std.proofs.lemmas.Bool.{false_from_ne_true}
 use Rattle.base_bounded.proofs.Quantifiers.{tally_within, tally_less}
 use Rattle.base_bounded.proofs.Tallies.{tally_full}
 use Rattle.graph.specs.Hops.{flat}
@@ -44,7 +44,7 @@ module _ {sh : Shape} {hs : List ℕ} {u : Pairs} (adm : Admitted sh hs) (sett :
       omega (
         arith,
         tally_within (λ (_ : ℕ). true) sh.states,
-        tally_less (is_normal hs u) (λ (_ : ℕ). true) sh.states (λ _ _ _. refl) l (no_test _ (λ e. is_normal_normal sett s e t m)) refl,
+        tally_less (is_normal hs u) (λ (_ : ℕ). true) sh.states (λ _ _ _. refl) l (false_from_ne_true _ (λ e. is_normal_normal sett s e t m)) refl,
       )
 
 pub short_all : (sh : Shape) (hs : List ℕ) (u : Pairs) → ((s t : ℕ) → In u s t → ⊥) → (short_shape sh hs u).states ≡ sh.states

@@ -2,13 +2,13 @@
 -- such line, so that it does not depend on their order. Assumes nothing.
 use Prim.Native.Nat.{ℕ, zero, suc, ◌<◌, ◌≤◌}
 use mathlib.Core.Path.{◌≡◌, refl, sym, ◌∙◌}
-use mathlib.Core.Bool.{Bool, true, false, cond}
-use mathlib.Core.Logic.{◌⊎◌, inl, inr, ⊎_elim}
+use mathlib.Core.Bool.{Bool, true, false}
+use mathlib.Core.Logic.{◌⊎◌, ⊎_elim}
 use native.Mathlib.Nat.{eq-or-lt_of_le, le_of_suc-le-suc, not-suc-le-zero}
 use native.Mathlib.Omega.{arith}
-use borrow.Author.Tests.{eq-eqb, ne_eqb, lt-ltb, le-ltb}
-use lib.Dec.{ltb}
-use Rattle.base_bounded.proofs.Bools.{clash, decided, lt_or_le, eq_or_not}
+use Rattle.std.proofs.lemmas.Bool.{cases_Bool, cases_eq}
+use Rattle.std.proofs.lemmas.Bool.Decides.{nat_tests}
+use Rattle.base_bounded.proofs.Bools.{clash}
 use Rattle.graph.specs.Hops.{Alike}
 use Rattle.graph.specs.declared.Hop.{Hop}
 use Rattle.reduce_smallest_line.specs.Lines.{lesser_line, merged_hop, Smallest}
@@ -27,18 +27,7 @@ pub record Lesser (a b l : ℕ) : Type 0 where
 
 pub lesser_is : (a b : ℕ) → Lesser a b (lesser_line a b)
 unfolding lesser_line
-lesser_is a b = ⊎_elim (λ e. rw (eq-eqb a 0 e) (no_first e)) (λ e. rw (ne_eqb a 0 e) (⊎_elim (λ f. rw (eq-eqb b 0 f) (no_second f)) (λ f. rw (ne_eqb b 0 f) (both e f)) (eq_or_not b 0)))
-    (eq_or_not a 0) where
-      no_first : a ≡ 0 → Lesser a b b
-      no_first e = record { which = inr refl; first = λ l. absurd (omega arith); second = λ l. (l, omega arith) }
-
-      no_second : b ≡ 0 → Lesser a b a
-      no_second e = record { which = inl refl; first = λ l. (l, omega arith); second = λ l. absurd (omega arith) }
-
-      both : (a ≡ 0 → ⊥) → (b ≡ 0 → ⊥) → Lesser a b (cond (ltb b a) b a)
-      both e f =
-          ⊎_elim (λ l. rw (lt-ltb b a l) (record { which = inr refl; first = λ k. (omega (arith, f), omega arith); second = λ k. (k, omega arith) }))
-          (λ l. rw (le-ltb b a l) (record { which = inl refl; first = λ k. (k, omega arith); second = λ k. (omega (arith, e), l) })) (lt_or_le b a)
+lesser_is a b = record { which = grind (arith, nat_tests); first = grind (arith, nat_tests); second = grind (arith, nat_tests) }
 
 -- what is kept of two hops is like the first
 pub merged_like : (x h : Hop) → Alike (merged_hop x h) x
@@ -49,7 +38,7 @@ module _ (pass : ℕ → Bool) (line : ℕ → ℕ) where
   pub smallest_is : (n : ℕ) → Smallest pass line n (smallest_line pass line n)
   unfolding smallest_line
   smallest_is zero = record { one_of_theirs = λ l. absurd (not-suc-le-zero l); none_smaller = λ i l. absurd (not-suc-le-zero l) }
-  smallest_is (suc n) = ⊎_elim (λ e. rw e (taken e (smallest_is n))) (λ e. rw e (skipped e (smallest_is n))) (decided (pass n)) where
+  smallest_is (suc n) = ⊎_elim (λ e. rw e (taken e (smallest_is n))) (λ e. rw e (skipped e (smallest_is n))) (cases_Bool (pass n)) where
     so_far : ℕ
     so_far = smallest_line pass line n
 
@@ -78,7 +67,7 @@ module _ {pass pass' : ℕ → Bool} {line line' : ℕ → ℕ} {n n' : ℕ} whe
   pub smallest_same : {l l' : ℕ} → Smallest pass line n l → Smallest pass' line' n' l' →
       ((i : ℕ) → i < n → pass i ≡ true → (j : ℕ) × (j < n') × (pass' j ≡ true) × (line' j ≡ line i)) →
       ((j : ℕ) → j < n' → pass' j ≡ true → (i : ℕ) × (i < n) × (pass i ≡ true) × (line i ≡ line' j)) → l ≡ l'
-  smallest_same {l} {l'} s t f g = ⊎_elim (λ e. none e) (λ e. some (omega (arith, e))) (eq_or_not l 0) where
+  smallest_same {l} {l'} s t f g = ⊎_elim (λ e. none e) (λ e. some (omega (arith, e))) (cases_eq l 0) where
     -- a line of the second is not below l, if it is not 0
     from_second : 0 < l' → (0 < l) × (l ≤ l')
     from_second k =
@@ -89,7 +78,7 @@ module _ {pass pass' : ℕ → Bool} {line line' : ℕ → ℕ} {n n' : ℕ} whe
         let (i, m, p, q) = s.one_of_theirs k in let (j, u, v, w) = f i m p in let (x, y) = t.none_smaller j u v (omega (arith, k, q, w)) in (x, omega (arith, y, q, w))
 
     none : l ≡ 0 → l ≡ l'
-    none e = ⊎_elim (λ d. e ∙ sym d) (λ d. absurd (omega (arith, e, (from_second (omega (arith, d))).0))) (eq_or_not l' 0)
+    none e = ⊎_elim (λ d. e ∙ sym d) (λ d. absurd (omega (arith, e, (from_second (omega (arith, d))).0))) (cases_eq l' 0)
 
     some : 0 < l → l ≡ l'
     some k = let (x, y) = from_first k in omega (arith, y, (from_second x).1)

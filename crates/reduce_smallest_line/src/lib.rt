@@ -11,19 +11,14 @@ use graph::Hop;
 use graph::hops::lined_hop;
 
 // The smaller of two lines that is not 0, or 0.
+#[tactic(auto, unfolding(crate::specs::Lines::lesser_line))]
 fn lesser_line(a: u16, b: u16) -> u16
     ensures { result ≡ lesser_line a b }
 {
-    if a == 0 {
-        return b;
+    match (a, b) {
+        (0, line) | (line, 0) => line,
+        _ => a.min(b),
     }
-    if b == 0 {
-        return a;
-    }
-    if b < a {
-        return b;
-    }
-    a
 }
 
 // What is kept of two hops that are alike.

@@ -32,6 +32,7 @@ use Rattle.reduce_short_graph.specs.Short.{short_hops, short_shape}
 use Rattle.reduce_short_graph.proofs.Images.{short_few}
 use Rattle.reduce_short_graph.proofs.Lines.{short_line_smallest}
 use Rattle.reduce_short_graph.proofs.Reduces.{shape_admitted, map_inside}
+use Rattle.report_text.proofs.Decimal.{limit}
 use Rattle.report_text.specs.Text.{digits, decimal, spaced, spaced_numbers, text_line, in_word, marked_word, map_word, out_word, hop_word, no_word}
 use Rattle.base_outputs.specs.Concat.{concat}
 use Rattle.report_rows.specs.Rows.{marked_line, map_line, hop_line, lines_of, refusal_of}
@@ -53,34 +54,27 @@ digits_most (suc k) n = go (ltb n 10) (digits_most k (n / 10)) where
   go true h = omega arith
   go false h = omega (arith, length-append (digits k (n / 10)) ((48 + n % 10) ∷ []))
 
-digits_one : (k n : ℕ) → n < 10 → length (digits (suc k) n) ≤ 1
-unfolding digits
-digits_one k n l = rw (lt-ltb n 10 l) (le_refl 1)
-
--- a digit more for a number ten times as large
-digits_step : (b j k : ℕ) → ((m : ℕ) → m < b → length (digits k m) ≤ j) → (n : ℕ) → n < 10 * b → length (digits (suc k) n) ≤ suc j
-unfolding digits
-digits_step b j k h n l = go (ltb n 10) where
-  go : (t : Bool) → length (cond t ((48 + n) ∷ []) (digits k (n / 10) ++ ((48 + n % 10) ∷ []))) ≤ suc j
-  go true = omega arith
-  go false = omega (arith, length-append (digits k (n / 10)) ((48 + n % 10) ∷ []), h (n / 10) (omega arith))
-
--- a number of up to four digits, where k digits more may be put
-digits_four : (k n : ℕ) → n < 10000 → length (digits (suc (suc (suc (suc k)))) n) ≤ 4
-digits_four k =
-    digits_step 1000 3 (suc (suc (suc k))) (digits_step 100 2 (suc (suc k)) (digits_step 10 1 (suc k) (digits_one k)))
+-- a number below 10 to the power of j, for j above 0, takes j digits at most
+digits_few : (j k n : ℕ) → n < limit (suc j) → length (digits k n) ≤ suc j
+unfolding digits limit
+digits_few j zero n l = omega arith
+digits_few zero (suc k) n l = rw (lt-ltb n 10 (omega arith)) (le_refl 1)
+digits_few (suc j) (suc k) n l = go (ltb n 10) (digits_few j k (n / 10) (omega arith)) where
+  go : (t : Bool) → length (digits k (n / 10)) ≤ suc j → length (cond t ((48 + n) ∷ []) (digits k (n / 10) ++ ((48 + n % 10) ∷ []))) ≤ suc (suc j)
+  go true h = omega arith
+  go false h = omega (arith, length-append (digits k (n / 10)) ((48 + n % 10) ∷ []))
 
 decimal_any : (n : ℕ) → length (decimal n) ≤ 20
 unfolding decimal
 decimal_any n = digits_most 20 n
 
 decimal_four : (n : ℕ) → n < 10000 → length (decimal n) ≤ 4
-unfolding decimal
-decimal_four = digits_four 16
+unfolding decimal limit
+decimal_four = digits_few 3 20
 
 decimal_five : (n : ℕ) → n < 100000 → length (decimal n) ≤ 5
-unfolding decimal
-decimal_five = digits_step 10000 4 19 (digits_four 15)
+unfolding decimal limit
+decimal_five = digits_few 4 20
 
 -- lines whose numbers take w digits at most
 module _ (w : ℕ) (word : List ℕ) (a b : ℕ) (p : length (decimal a) ≤ w) (q : length (decimal b) ≤ w) where

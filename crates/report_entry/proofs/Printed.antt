@@ -6,7 +6,7 @@ use mathlib.Core.Bool.{Bool, true, false, cond}
 use mathlib.Core.List.{List, []}
 use native.Mathlib.Omega.{arith}
 use borrow.Author.Tests.{eq-eqb, ne_eqb, eqb-true, le-leb, lt-leb, lt-ltb, le-ltb}
-use lib.ListN.{length, drop, length-append}
+use lib.ListN.{length, drop}
 use lib.Seq.{take_at}
 use lib.Dec.{eqb}
 use Rattle.base_outputs.specs.Output.{on_front}
@@ -33,7 +33,8 @@ use Rattle.file_fields.proofs.Laws.{length_hop_list, count_hop_list}
 use Rattle.file_format.specs.Rows.{format_answer}
 use Rattle.file_read.specs.Read.{read_answer, read_of, read_hops, contents_of, refused_contents}
 use Rattle.file_read.specs.declared.Contents.{Contents}
-use Rattle.report_text.specs.Internal.Text.{TextFits, TextPut}
+use Rattle.report_text.specs.declared.Text.{Text}
+use Rattle.report_text.specs.Internal.Text.{TextPut, HasCapacity}
 use Rattle.report_rows.specs.Rows.{refusal_of}
 use Rattle.report_rows.specs.Internal.Rows.{lent_lines}
 use Rattle.report_rows.proofs.Parts.{report_same}
@@ -194,7 +195,7 @@ module _ (capacity : ℕ) (t : List ℕ) where
   unfolding printed_in
   printed_whole l = rw (le-leb most_text capacity l)
 
--- a text put at the front
+-- a text written at the front
 module _ {old t new : List ℕ} {r : ℕ} (p : TextPut old 0 t r new) where
   pub front_length : r ≡ length t
   front_length = omega arith
@@ -202,8 +203,5 @@ module _ {old t new : List ℕ} {r : ℕ} (p : TextPut old 0 t r new) where
   pub front_stands : new ≡ on_front t old
   front_stands = let e : 0 + length t ≡ length t = omega arith in rw e at p.stands
 
-  pub front_within : r ≤ length new
-  front_within = rw front_stands (simp length-append (omega arith))
-
-pub text_capacity : {t out : List ℕ} → length t ≤ most_text → most_text ≤ length out → TextFits 0 t out
-text_capacity p q = record { fits = omega arith }
+pub text_capacity : {t : Text} {s : List ℕ} → length s ≤ most_text → t.at + most_text ≤ length t.out.now → HasCapacity t s
+text_capacity p q = record { capacity = record { fits = omega arith } }

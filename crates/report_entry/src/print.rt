@@ -1,20 +1,22 @@
 // What the program prints of a file.
-ghost use Rattle.std.specs.Prelude.{◌≡◌, ◌≤◌, length};
+ghost use Rattle.std.specs.Prelude.{◌≡◌, ◌+◌, ◌≤◌, length};
 ghost use Rattle.graph_check.specs.Check.{Admitted};
 ghost use Rattle.graph_successors.specs.Internal.SuccessorIndex.{SuccessorIndex};
 ghost use Rattle.reduce_representatives.specs.Reducible.{Reducible};
 ghost use Rattle.base_outputs.specs.Output.{on_front};
-ghost use Rattle.report_text.specs.Internal.Text.{TextPut};
-ghost use Rattle.report_entry.specs.Report.{most_text, report_of, printed_graph, printed_file, printed_of, printed_in};
+ghost use Rattle.report_text.specs.Internal.Text.{TextWritten};
+ghost use Rattle.report_entry.specs.Report.{most_text, report_of, printed_graph, printed_of, printed_in};
+ghost use Rattle.report_entry.specs.Internal.Printed.{PrintedOr};
 
 use file_read::reading::read;
-use graph::answers::refuse;
 use graph::hops::part;
-use graph::{MOST_HOPS, MOST_NUMBERS, MOST_STATES, Shape};
-use graph_successors::{STARTS, starts_of};
+use graph::{Answer, MOST_HOPS, MOST_NUMBERS, MOST_STATES, Refusal, Shape};
+use graph_index::{Index, Indexed};
+use graph_successors::{STARTS, put_starts};
 use reduce_strong::reduce_strong;
 use report_rows::{put_refusal, put_report};
-use walk_rings::ring_answer;
+use report_text::Text;
+use walk_rings::check_rings;
 
 // The longest input that is looked at.
 pub const MOST_INPUT: usize = 65536;
@@ -24,61 +26,69 @@ pub const MOST_INPUT: usize = 65536;
 pub const MOST_TEXT: usize = 13 + 14 * MOST_STATES + 19 + 25 * MOST_HOPS;
 
 // The report of a graph that every row lets pass.
-fn print_reduced(shape: Shape, hops: &[u16], starts: &[u16; STARTS], out: &mut [u8]) -> usize
+// `capacity` is a clause each time: a type that kept it would break with the first line written.
+// The hops are lent by themselves: of a list in a struct it is not known that numbers have 16 bits.
+fn print_reduced(text: &mut Text, shape: Shape, hops: &[u16], starts: &[u16; STARTS])
     requires reducible { Reducible shape hops.now }
     requires table { SuccessorIndex hops.now starts.now }
-    requires capacity { most_text ≤ length out.old }
-    ensures { TextPut out.old 0 (report_of shape hops.now) result out.new }
+    requires capacity { text.old.at + most_text ≤ length text.old.out.now }
+    ensures { TextWritten text.old (report_of shape hops.now) text.new }
 {
     let mut marks = [0u8; MOST_HOPS];
     let mut map = [0u16; MOST_STATES];
     let mut short = [0u16; MOST_NUMBERS];
-    let made = reduce_strong(shape, hops, starts, &mut marks, &mut map, &mut short);
-    let new = made.shape;
-    let n = made.hops;
-    put_report(shape, hops, &marks, &map, new, part(&short, 0, n), out)
+    let index = Index { hops, starts };
+    let made = reduce_strong(Indexed { shape, index }, &mut marks, &mut map, &mut short);
+    put_report(
+        text,
+        shape,
+        hops,
+        &marks,
+        &map,
+        made.shape,
+        part(&short, 0, made.hops),
+    );
 }
 
 // The report of an admitted graph, or its refusal by row 5.
-fn print_graph(shape: Shape, hops: &[u16], out: &mut [u8]) -> usize
+fn print_graph(text: &mut Text, shape: Shape, hops: &[u16]) -> Result<(), Refusal>
     requires admitted { Admitted shape hops.now }
-    requires capacity { most_text ≤ length out.old }
-    ensures { TextPut out.old 0 (printed_graph shape hops.now) result out.new }
+    requires capacity { text.old.at + most_text ≤ length text.old.out.now }
+    ensures { PrintedOr result text.old (printed_graph shape hops.now) text.new }
 {
-    let starts = starts_of(hops);
-    let answer = ring_answer(shape, hops, &starts);
-    if answer.number != 0 {
-        return put_refusal(out, 0, answer);
-    }
-    print_reduced(shape, hops, &starts, out)
+    let mut starts = [0u16; STARTS];
+    put_starts(hops, &mut starts);
+    let index = Index {
+        hops,
+        starts: &starts,
+    };
+    check_rings(Indexed { shape, index })?;
+    print_reduced(text, shape, hops, &starts);
+    Ok(())
 }
 
-// The same of a file. Reading has checked the graph, so that nothing is checked, searched for rings
-// or marked twice.
-fn print_contents(file: &[u8], out: &mut [u8]) -> usize
-    requires { most_text ≤ length out.old }
-    ensures { TextPut out.old 0 (printed_file file.now) result out.new }
-{
-    let mut hops = [0u16; MOST_NUMBERS];
-    let contents = read(file, &mut hops);
-    let answer = contents.answer;
-    if answer.number != 0 {
-        return put_refusal(out, 0, answer);
-    }
-    let shape = contents.shape;
-    let n = contents.hops;
-    print_graph(shape, part(&hops, 0, n), out)
-}
-
-// The same of whatever was read from standard input, which may be too long to be looked at.
-fn print_input(file: &[u8], out: &mut [u8]) -> usize
-    requires { most_text ≤ length out.old }
-    ensures { TextPut out.old 0 (printed_of file.now) result out.new }
+// The same of whatever was read from standard input, which may be too long to be looked at. Reading
+// has checked the graph, so that nothing is checked, searched for rings or marked twice.
+fn print_contents(text: &mut Text, file: &[u8]) -> Result<(), Refusal>
+    requires { text.old.at + most_text ≤ length text.old.out.now }
+    ensures { PrintedOr result text.old (printed_of file.now) text.new }
 {
     if MOST_INPUT < file.len() {
-        return put_refusal(out, 0, refuse(13, MOST_INPUT));
+        return Err(Refusal::FileTooLong(MOST_INPUT));
     }
-    print_contents(file, out)
+    let mut hops = [0u16; MOST_NUMBERS];
+    let contents = read(file, &mut hops)?;
+    print_graph(text, contents.shape, part(&hops, 0, contents.hops))
+}
+
+// What is printed of it: its report, or its refusal.
+fn print_input(text: &mut Text, file: &[u8])
+    requires { text.old.at + most_text ≤ length text.old.out.now }
+    ensures { TextWritten text.old (printed_of file.now) text.new }
+{
+    if let Err(refusal) = print_contents(text, file) {
+        put_refusal(text, Answer::from(refusal));
+    }
 }
 
 // The entry. What is printed stands at the front of the buffer, and its length is returned; a
@@ -91,5 +101,7 @@ pub fn print_file(file: &[u8], out: &mut [u8]) -> usize
     if out.len() < MOST_TEXT {
         return 0;
     }
-    print_input(file, out)
+    let mut text = Text { out, at: 0 };
+    print_input(&mut text, file);
+    text.at
 }

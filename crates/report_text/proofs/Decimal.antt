@@ -5,14 +5,14 @@ use mathlib.Core.Path.{◌≡◌, refl}
 use mathlib.Core.Bool.{Bool, true, false, cond}
 use mathlib.Core.List.{List, [], ◌∷◌, ◌++◌}
 use native.Mathlib.Omega.{arith}
-use borrow.Author.Tests.{ltb-false}
+use borrow.Author.Tests.{ltb-false, lt-ltb, le-ltb}
 use lib.ListN.{length, get_or, length-append, get_or-append}
 use lib.Dec.{ltb}
 use Rattle.report_text.specs.Text.{digits, decimal}
 use Rattle.report_text.specs.Internal.Text.{digits_value}
 
 -- what k digits hold
-limit : ℕ → ℕ
+unfoldable pub limit : ℕ → ℕ
 limit zero = 1
 limit (suc k) = 10 * limit k
 
@@ -48,3 +48,27 @@ decimal_value n l = digits_show 20 n (omega arith)
 pub decimal_bare : (n : ℕ) → n < 2 ^ 64 → (n ≡ 0 → ⊥) → 48 < get_or (decimal n) 0 0
 unfolding decimal limit
 decimal_bare n l z = (digits_lead 20 n (omega arith) z).1
+
+-- a digit more that may be put changes nothing
+digits_enough : (k n : ℕ) → 0 < k → n < limit k → digits (suc k) n ≡ digits k n
+unfolding digits limit
+digits_enough zero n p l = absurd (omega arith)
+digits_enough (suc zero) n p l = rw (lt-ltb n 10 (omega arith))
+digits_enough (suc (suc k)) n p l = rw (digits_enough (suc k) (n / 10) (omega arith) (omega arith))
+
+digits_cut : (k n : ℕ) → 10 ≤ n → digits (suc k) n ≡ digits k (n / 10) ++ ((48 + n % 10) ∷ [])
+unfolding digits
+digits_cut k n l = rw (le-ltb n 10 l)
+
+digits_one : (k n : ℕ) → n < 10 → digits (suc k) n ≡ (48 + n) ∷ []
+unfolding digits
+digits_one k n l = rw (lt-ltb n 10 l)
+
+-- a decimal is its last digit, or that digit behind the decimal of the number without it
+pub decimal_one : (n : ℕ) → n < 10 → decimal n ≡ (48 + n) ∷ []
+unfolding decimal
+decimal_one n l = digits_one 19 n l
+
+pub decimal_more : (n : ℕ) → n < 2 ^ 64 → 10 ≤ n → decimal n ≡ decimal (n / 10) ++ ((48 + n % 10) ∷ [])
+unfolding decimal limit
+decimal_more n l m = rw (digits_cut 19 n m, digits_enough 19 (n / 10) (omega arith) (omega arith))

@@ -19,10 +19,8 @@ pub fn put_identity(map: &mut [u16])
     requires { length map.old ≤ most_states }
     ensures { map.new ≡ identity_map (length map.old) }
 {
-    let mut s: usize = 0;
-    while s < map.len() {
-        map[s] = s as u16;
-        s += 1;
+    for (s, to) in map.iter_mut().enumerate() {
+        *to = s as u16;
     }
 }
 
@@ -32,11 +30,7 @@ pub fn put_composed(map: &mut [u16], next: &[u16])
     requires into { Into map.old (length next.now) }
     ensures { map.new ≡ composed map.old next.now }
 {
-    let mut s: usize = 0;
-    while s < map.len() {
-        let between = map_at(map, OldState(s as u16));
-        let last = map_at(next, OldState(between.0));
-        map[s] = last.0;
-        s += 1;
+    for to in map.iter_mut() {
+        *to = map_at(next, OldState(*to)).0;
     }
 }

@@ -8,18 +8,16 @@ use lib.ListN.{length, drop}
 use lib.Seq.{take_at}
 use Rattle.base_outputs.specs.Output.{on_front}
 use Rattle.graph.specs.Hops.{count, between, number_place}
-use Rattle.graph.specs.Answers.{accepted}
 use Rattle.graph.specs.declared.Shape.{Shape}
-use Rattle.graph.specs.declared.Answer.{Answer}
 use Rattle.graph.proofs.Fronts.{between_count}
 use Rattle.graph_check.specs.Check.{Admitted}
 use Rattle.reduce_representatives.specs.Reducible.{Reducible}
 use Rattle.shrink_iterate.specs.Iterate.{Stage, last_stage}
 use Rattle.shrink_iterate.proofs.Last.{last_staged}
 use Rattle.shrink_step.specs.Internal.Progress.{stage_of}
-use Rattle.shrink_entry.specs.Shrink.{shrinking}
+use Rattle.shrink_entry.specs.Internal.Last.{last_graph}
 use Rattle.shrink_step.specs.declared.Progress.{Progress}
-use Rattle.shrink_entry.specs.declared.Shrinking.{Shrinking}
+use Rattle.shrink_entry.specs.declared.LastGraph.{LastGraph}
 
 -- the hops of an admitted graph at the front of a list are the front
 pub front_hops : {sh : Shape} {hs : List ℕ} → Admitted sh hs → (old : List ℕ) {new : List ℕ} {n : ℕ} → n ≡ count hs → new ≡ on_front hs old → between new 0 n ≡ hs
@@ -41,9 +39,8 @@ module _
     counted : r.hops ≡ count (last_stage k sh hs).hops
     counted = sym (between_count last l) ∙ ap count hops_are
 
-    pub returned : {a : Answer} → a ≡ accepted →
-        ◌≡◌ {A = Shrinking} (record { answer = a; shape = r.shape; hops = r.hops; reductions = r.reductions }) (shrinking sh hs k accepted)
-    returned p = λ d. record { answer = p d; shape = (is d).shape; hops = counted d; reductions = (is d).reductions }
+    pub returned : ◌≡◌ {A = LastGraph} (record { shape = r.shape; hops = r.hops; reductions = r.reductions }) (last_graph (last_stage k sh hs))
+    returned = λ d. record { shape = (is d).shape; hops = counted d; reductions = (is d).reductions }
 
     pub mapped : (old : List ℕ) {n : ℕ} → length map ≡ n → map ++ drop n old ≡ on_front (last_stage k sh hs).map old
     mapped old q = ap (λ (n : ℕ). map ++ drop n old) (sym q) ∙ ap (λ (g : Stage). on_front g.map old) is

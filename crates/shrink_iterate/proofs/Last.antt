@@ -7,7 +7,7 @@ use mathlib.Core.Bool.{true, false}
 use mathlib.Core.List.{List}
 use mathlib.Core.Logic.{◌⊎◌, inl, inr}
 use native.Mathlib.Omega.{arith}
-use Rattle.base_bounded.proofs.Bools.{decided}
+use Rattle.std.proofs.lemmas.Bool.{cases_Bool}
 use Rattle.graph.specs.declared.Shape.{Shape}
 use Rattle.base_fixpoint.specs.Pairs.{In}
 use Rattle.reduce_representatives.specs.Reducible.{Reducible}
@@ -31,7 +31,7 @@ module _ (k : ℕ) where
     enough : (n m : ℕ) {g : Stage} → Staged sh hs g → g.shape.states ≤ n → g.shape.states ≤ m → iterated k n g ≡ iterated k m g
     enough zero m st l w = absurd (omega (arith, st.reducible.admitted.states_some))
     enough (suc n) zero st l w = absurd (omega (arith, st.reducible.admitted.states_some))
-    enough (suc n) (suc m) {g} st l w = on (decided (marks_some k g)) (λ s x y. enough n m {g = next_stage k g} s x y) where
+    enough (suc n) (suc m) {g} st l w = on (cases_Bool (marks_some k g)) (λ s x y. enough n m {g = next_stage k g} s x y) where
       on : (marks_some k g ≡ true) ⊎ (marks_some k g ≡ false) →
           (Staged sh hs (next_stage k g) → (next_stage k g).shape.states ≤ n → (next_stage k g).shape.states ≤ m →
           iterated k n (next_stage k g) ≡ iterated k m (next_stage k g)) →
@@ -53,7 +53,7 @@ module _ (k : ℕ) where
 
     arrives : (n : ℕ) {g : Stage} → Staged sh hs g → g.shape.states ≤ n → EndsIn k g (iterated k n g) × Staged sh hs (iterated k n g)
     arrives zero st l = absurd (omega (arith, st.reducible.admitted.states_some))
-    arrives (suc n) {g} st l = on (decided (marks_some k g)) (λ s x. arrives n {g = next_stage k g} s x) where
+    arrives (suc n) {g} st l = on (cases_Bool (marks_some k g)) (λ s x. arrives n {g = next_stage k g} s x) where
       on : (marks_some k g ≡ true) ⊎ (marks_some k g ≡ false) →
           (Staged sh hs (next_stage k g) → (next_stage k g).shape.states ≤ n →
           EndsIn k (next_stage k g) (iterated k n (next_stage k g)) × Staged sh hs (iterated k n (next_stage k g))) →

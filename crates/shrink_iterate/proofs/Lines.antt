@@ -7,7 +7,7 @@ use mathlib.Core.Bool.{Bool, true, false, cond, ◌&&◌}
 use mathlib.Core.List.{List}
 use native.Mathlib.Nat.{le_refl}
 use native.Mathlib.Omega.{arith}
-use Rattle.base_bounded.proofs.Bools.{and_yes, and_left, and_right}
+use Rattle.std.proofs.lemmas.Bool.{and_from, and_parts}
 use Rattle.graph.specs.Hops.{count, from, line_at, hop_at, Alike, same, flat}
 use Rattle.graph.specs.Order.{Ascending}
 use Rattle.graph.specs.declared.Hop.{Hop}
@@ -40,8 +40,7 @@ through_alike k (suc n) g h {x} {y} e c = go (marks_some k g) (λ d. through_ali
       (comes_through k n (next_stage k g) h (becomes g.shape g.hops (stage_marked k g) x) ≡ true →
       comes_through k n (next_stage k g) h (becomes g.shape g.hops (stage_marked k g) y) ≡ true) → cond m (on x) (same x h) ≡ true → cond m (on y) (same y h) ≡ true
   go true ih d =
-      and_yes (ap (is_normal g.hops (stage_marked k g)) (sym e.same_from) ∙ and_left (is_normal g.hops (stage_marked k g) x.from) _ d)
-      (ih (and_right (is_normal g.hops (stage_marked k g) x.from) _ d))
+      and_from _ _ (ap (is_normal g.hops (stage_marked k g)) (sym e.same_from) ∙ (and_parts (is_normal g.hops (stage_marked k g) x.from) _ d).0) (ih (and_parts (is_normal g.hops (stage_marked k g) x.from) _ d).1)
   go false ih d = alike_same (alike_then (alike_back e) (same_alike x h d))
 
 -- a hop that comes from itself alone has its own line
@@ -72,14 +71,14 @@ module _ (sh : Shape) (hs : List ℕ) (u : Pairs) (on : Hop → Bool) (alike : (
         let (i, v, d, r) = (short_line_smallest sh hs u m).one_of_theirs (rw q k) in (
           i,
           v,
-          and_yes (and_left (is_normal hs u (from hs i)) _ d) (alike _ _ (alike_back (same_alike (image sh hs u i) (hop_at short j) (and_right (is_normal hs u (from hs i)) _ d))) c),
+          and_from _ _ (and_parts (is_normal hs u (from hs i)) _ d).0 (alike _ _ (alike_back (same_alike (image sh hs u i) (hop_at short j) (and_parts (is_normal hs u (from hs i)) _ d).1)) c),
           r ∙ q,
         );
     none_smaller = λ i m c k.
-        let e = and_left (is_normal hs u (from hs i)) _ c in
+        let e = (and_parts (is_normal hs u (from hs i)) _ c).0 in
         let (j, v, q) = place i m e in
-        let (x, y) = (short_line_smallest sh hs u v).none_smaller i m (and_yes e (alike_same (alike_back q))) k in
-        let (z, w) = s.none_smaller j v (alike _ _ (alike_back q) (and_right (is_normal hs u (from hs i)) _ c)) x in
+        let (x, y) = (short_line_smallest sh hs u v).none_smaller i m (and_from _ _ e (alike_same (alike_back q))) k in
+        let (z, w) = s.none_smaller j v (alike _ _ (alike_back q) (and_parts (is_normal hs u (from hs i)) _ c).1) x in
         (z, omega (arith, w, y));
   }
 

@@ -6,7 +6,7 @@ use mathlib.Core.Bool.{true, false}
 use mathlib.Core.List.{List}
 use mathlib.Core.Logic.{⊎_elim}
 use native.Mathlib.Omega.{arith}
-use Rattle.base_bounded.proofs.Bools.{decided, no_test}
+use Rattle.std.proofs.lemmas.Bool.{cases_Bool, false_from_ne_true}
 use Rattle.graph.specs.Hops.{flat}
 use Rattle.graph.specs.declared.Shape.{Shape}
 use Rattle.lts.specs.Closes.{r8}
@@ -43,11 +43,11 @@ module _ {sh : Shape} {hs : List ℕ} (red : Reducible sh hs) where
 -- so where a stage is reduced under R8 nothing is marked afterwards
 pub next_still : (g : Stage) → Reducible g.shape g.hops → marks_some 8 (next_stage 8 g) ≡ false
 unfolding sense_of
-next_still g red = no_test _ (λ e. let (n, m, w) = some_marked_lem 8 (next_stage 8 g) e in left_unmarked red n m w)
+next_still g red = false_from_ne_true _ (λ e. let (n, m, w) = some_marked_lem 8 (next_stage 8 g) e in left_unmarked red n m w)
 
 -- under R8 the number of reductions is 0 or 1
 pub r8_reductions_le_one : {sh : Shape} {hs : List ℕ} → Reducible sh hs → (last_stage 8 sh hs).reductions ≤ 1
-r8_reductions_le_one {sh} {hs} red = ⊎_elim moved (λ e. omega (arith, counted (last_still 8 first e))) (decided (marks_some 8 first)) where
+r8_reductions_le_one {sh} {hs} red = ⊎_elim moved (λ e. omega (arith, counted (last_still 8 first e))) (cases_Bool (marks_some 8 first)) where
   first : Stage
   first = first_stage sh hs
 

@@ -9,7 +9,8 @@ use native.Mathlib.Omega.{arith}
 use borrow.Author.Tests.{eq-eqb}
 use lib.ListN.{length}
 use lib.Dec.{eqb}
-use Rattle.base_bounded.proofs.Bools.{clash, and_yes, and_right}
+use Rattle.std.proofs.lemmas.Bool.{and_from, and_parts}
+use Rattle.base_bounded.proofs.Bools.{clash}
 use Rattle.base_bounded.proofs.Quantifiers.{any_at, any_found}
 use Rattle.graph.specs.Hops.{count, from, label, to}
 use Rattle.graph.specs.declared.Shape.{Shape}
@@ -18,7 +19,6 @@ use Rattle.base_fixpoint.specs.Pairs.{In}
 use Rattle.mark_senses.specs.Senses.{sense_of, in_set_at}
 use Rattle.mark_senses.proofs.Marked.{marked_confluent_in}
 use Rattle.reduce_representatives.specs.Reducible.{Reducible}
-use Rattle.reduce_short_graph.proofs.Again.{short_all}
 use Rattle.reduce_entry.specs.Reduce.{reduced_hops}
 use Rattle.reduce_entry.proofs.Marked.{marked_within}
 use Rattle.reduce_entry.proofs.Reduced.{short_again, short_fewer}
@@ -33,22 +33,18 @@ module _ (k : ℕ) (g : Stage) where
   unfolding some_marked in_set_at
   some_marked_lem e =
       let (i, l, p) = any_at (in_set_at g.hops (stage_marked k g)) (count g.hops) e in
-      (from g.hops i, to g.hops i, and_right (eqb (label g.hops i) 0) _ p)
+      (from g.hops i, to g.hops i, (and_parts (eqb (label g.hops i) 0) _ p).1)
 
   pub marked_some : (s t : ℕ) → In (stage_marked k g) s t → marks_some k g ≡ true
   unfolding some_marked in_set_at
   marked_some s t m =
       let p = has_place g.hops s 0 t ((marked_confluent_in (sense_of k) g.shape g.hops).silent s t m) in
-      any_found (in_set_at g.hops (stage_marked k g)) (count g.hops) p.within (and_yes (eq-eqb _ _ p.label_is) (rw (p.from_is, p.to_is) m))
+      any_found (in_set_at g.hops (stage_marked k g)) (count g.hops) p.within (and_from _ _ (eq-eqb _ _ p.label_is) (rw (p.from_is, p.to_is) m))
 
   pub none_marked : marks_some k g ≡ false → (s t : ℕ) → In (stage_marked k g) s t → ⊥
   none_marked e s t m = clash (marked_some s t m) e
 
-  -- where none is marked a reduction leaves as many states
-  pub still_states : marks_some k g ≡ false → (next_stage k g).shape.states ≡ g.shape.states
-  still_states e = short_all g.shape g.hops (stage_marked k g) (none_marked e)
-
-  -- and where some is, fewer
+  -- where some is marked a reduction leaves fewer states
   pub fewer_states : Reducible g.shape g.hops → marks_some k g ≡ true → (next_stage k g).shape.states < g.shape.states
   fewer_states red e = let (s, t, m) = some_marked_lem e in short_fewer red (sense_of k) s t m
 

@@ -1,9 +1,8 @@
 -- Marks of which one stands are those of a set that has a hop of the graph. Assumes nothing.
-use Prim.Native.Nat.{ℕ, ◌<◌}
-use mathlib.Core.Path.{◌≡◌, refl, sym, ap, ◌∙◌}
-use mathlib.Core.Bool.{Bool, true, false, cond, not, ◌&&◌}
-use mathlib.Core.List.{List}
-use lib.Dec.{eqb}
+use Rattle.std.proofs.Common.{◌≡◌, refl, sym, ap, ◌∙◌, ℕ, ◌<◌, ◌≤◌, zero, suc, Bool, true, false, cond, ◌&&◌, List, length, take, eqb, add-one, arith}
+use Rattle.std.specs.List.{list_any}
+use Rattle.std.proofs.Math.Bool.{or_comm}
+use Rattle.std.proofs.lemmas.List.Folds.{list_any_more}
 use Rattle.base_bounded.specs.Quantifiers.{any}
 use Rattle.base_bounded.proofs.Quantifiers.{any_same}
 use Rattle.base_outputs.specs.Output.{on_front}
@@ -16,6 +15,14 @@ use Rattle.mark_confluence.proofs.Marks.{marks_at}
 use Rattle.mark_senses.specs.Senses.{in_set_at, marked_by}
 use Rattle.reduce_representatives.specs.Reducible.{Reducible}
 use Rattle.shrink_iterate.specs.Iterate.{some_marked}
+
+-- one of the first n elements is 1, asked of the list and asked of the places below n
+pub any_first : (ms : List ℕ) (n : ℕ) → n ≤ length ms → list_any (λ (x : ℕ). eqb x 1) (take n ms) ≡ any n (is_marked ms)
+unfolding any is_marked
+any_first ms zero l = refl
+any_first ms (suc n) l =
+    let h : n < length ms = omega arith in
+    rw add-one at (list_any_more (λ (x : ℕ). eqb x 1) ms n 0 h) ∙ rw (any_first ms n (omega arith)) (or_comm (any n (is_marked ms)) (is_marked ms n))
 
 module _ (hs : List ℕ) (u : Pairs) (ms out : List ℕ) (e : ms ≡ on_front (marks_of hs u) out) where
   told : (b : Bool) → eqb (cond b 1 0) 1 ≡ b
@@ -41,7 +48,3 @@ seen_reducible p red = rw p red
 
 pub seen_some : (k : ℕ) (sh : Shape) {seen hs : List ℕ} → seen ≡ hs → {r x : Bool} → r ≡ some_marked k sh seen → r ≡ x → x ≡ some_marked k sh hs
 seen_some k sh p e d = sym d ∙ e ∙ ap (some_marked k sh) p
-
--- whether there may be more to do, by whether something was marked
-pub more_is : (k : ℕ) {b x : Bool} → b ≡ x → (b && not (eqb k 8)) ≡ (x && not (eqb k 8))
-more_is k e = ap (λ (y : Bool). y && not (eqb k 8)) e

@@ -7,12 +7,12 @@
 use graph::Shape;
 use graph_hops_of::hops_of;
 use std::io;
-use test_print::{number, numbers, shape_of, text};
+use test_print::{Spaced, shape_of};
 
 // One lifetime for both tables: the part may be of either.
 fn print_part<'a>(
     rt: &impl Print,
-    name: &[u8],
+    name: &str,
     side: u32,
     state: u32,
     shape1: Shape,
@@ -20,78 +20,60 @@ fn print_part<'a>(
     shape2: Shape,
     hops2: &'a [u16],
 ) -> io::Result<()> {
-    text(rt, name)?;
-    text(rt, b"side")?;
-    number(rt, side as u64)?;
-    text(rt, b" state")?;
-    number(rt, state as u64)?;
-    text(rt, b":")?;
-    numbers(rt, hops_of(side, state, shape1, hops1, shape2, hops2))?;
-    text(rt, b"\n")
-}
-
-// Both tables as they should be.
-fn good(rt: &impl Print, side: u32, state: u32) -> io::Result<()> {
-    let p1 = [0u16, 0, 1, 3, 0, 1, 2, 4, 1, 1, 3, 5, 2, 0, 3, 2];
-    let short = [0u16, 1, 1, 5];
-    print_part(
-        rt,
-        b"",
-        side,
-        state,
-        shape_of(4, 2, 0),
-        &p1,
-        shape_of(2, 2, 0),
-        &short,
-    )
-}
-
-fn bad_table_1(rt: &impl Print, side: u32) -> io::Result<()> {
-    let falling = [0u16, 0, 1, 3, 0, 1, 2, 4, 2, 0, 3, 2, 1, 1, 3, 5];
-    let short = [0u16, 1, 1, 5];
-    print_part(
-        rt,
-        b"table 1 bad, ",
-        side,
-        0,
-        shape_of(4, 2, 0),
-        &falling,
-        shape_of(2, 2, 0),
-        &short,
-    )
-}
-
-fn bad_table_2(rt: &impl Print, side: u32) -> io::Result<()> {
-    let p1 = [0u16, 0, 1, 3, 0, 1, 2, 4, 1, 1, 3, 5, 2, 0, 3, 2];
-    let short = [0u16, 1, 1, 5];
-    print_part(
-        rt,
-        b"table 2 bad, ",
-        side,
-        0,
-        shape_of(4, 2, 0),
-        &p1,
-        shape_of(2, 2, 2),
-        &short,
-    )
+    let part = Spaced(hops_of(side, state, shape1, hops1, shape2, hops2));
+    println!(rt; "{name}side {side} state {state}:{part}")
 }
 
 fn main(rt: HostRuntime) -> io::Result<()> {
-    good(&rt, 1, 0)?;
-    good(&rt, 1, 1)?;
-    good(&rt, 1, 2)?;
-    good(&rt, 1, 3)?;
-    good(&rt, 1, 4)?;
-    good(&rt, 1, 65536)?;
-    good(&rt, 2, 0)?;
-    good(&rt, 2, 1)?;
-    good(&rt, 2, 2)?;
-    good(&rt, 2, 4294967295)?;
-    good(&rt, 0, 0)?;
-    good(&rt, 3, 0)?;
-    good(&rt, 4294967295, 0)?;
-    bad_table_1(&rt, 1)?;
-    bad_table_1(&rt, 2)?;
-    bad_table_2(&rt, 1)?;
-    bad_table_2(&rt, 2)
+    let shape1 = shape_of(4, 2, 0);
+    let p1 = [0u16, 0, 1, 3, 0, 1, 2, 4, 1, 1, 3, 5, 2, 0, 3, 2];
+    let shape2 = shape_of(2, 2, 0);
+    let short = [0u16, 1, 1, 5];
+
+    // both tables as they should be
+    for (side, state) in [
+        (1, 0),
+        (1, 1),
+        (1, 2),
+        (1, 3),
+        (1, 4),
+        (1, 65536),
+        (2, 0),
+        (2, 1),
+        (2, 2),
+        (2, 4294967295),
+        (0, 0),
+        (3, 0),
+        (4294967295, 0),
+    ] {
+        print_part(&rt, "", side, state, shape1, &p1, shape2, &short)?;
+    }
+
+    let falling = [0u16, 0, 1, 3, 0, 1, 2, 4, 2, 0, 3, 2, 1, 1, 3, 5];
+    for side in [1, 2] {
+        print_part(
+            &rt,
+            "table 1 bad, ",
+            side,
+            0,
+            shape1,
+            &falling,
+            shape2,
+            &short,
+        )?;
+    }
+    let bad_shape2 = shape_of(2, 2, 2);
+    for side in [1, 2] {
+        print_part(
+            &rt,
+            "table 2 bad, ",
+            side,
+            0,
+            shape1,
+            &p1,
+            bad_shape2,
+            &short,
+        )?;
+    }
+    Ok(())
 }

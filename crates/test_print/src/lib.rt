@@ -1,40 +1,52 @@
-// How test programs print names, numbers, answers and shapes to standard output: each number behind
-// a space.
+// How test programs print lists, answers and shapes by a format: each number behind a space.
 // It serves `test_records`, `test_hops_of` and `test_round_trip`.
 // Uses `graph` for answers and shapes.
 #![tactic(auto)]
 
 use graph::{Answer, Shape};
-use std::io;
+use std::fmt;
 
-pub fn text(rt: &impl Print, bytes: &[u8]) -> io::Result<()> {
-    rt.write_all(bytes)
-}
+// The elements of a list.
+#[derive(Clone, Copy)]
+pub struct Spaced<'a, T>(pub &'a [T]);
 
-// Each number stands behind a space.
-pub fn number(rt: &impl Print, n: u64) -> io::Result<()> {
-    print!(rt; " {n}")
-}
-
-pub fn bytes(rt: &impl Print, list: &[u8]) -> io::Result<()> {
-    for n in list {
-        number(rt, *n as u64)?;
+impl<T: fmt::Display> fmt::Display for Spaced<'_, T> {
+    fn fmt<W: fmt::Write>(&self, f: &mut fmt::Formatter<W>) -> fmt::Result {
+        for x in self.0 {
+            write!(f, " {x}")?;
+        }
+        Ok(())
     }
-    Ok(())
-}
-
-pub fn numbers(rt: &impl Print, list: &[u16]) -> io::Result<()> {
-    for n in list {
-        number(rt, *n as u64)?;
-    }
-    Ok(())
 }
 
 // Number, table and place.
-pub fn answer(rt: &impl Print, a: Answer) -> io::Result<()> {
-    number(rt, a.number as u64)?;
-    number(rt, a.table as u64)?;
-    number(rt, a.place as u64)
+#[derive(Clone, Copy)]
+pub struct AnswerNumbers(pub Answer);
+
+impl fmt::Display for AnswerNumbers {
+    fn fmt<W: fmt::Write>(&self, f: &mut fmt::Formatter<W>) -> fmt::Result {
+        let Answer {
+            number,
+            table,
+            place,
+        } = self.0;
+        write!(f, " {number} {table} {place}")
+    }
+}
+
+// States, labels and initial state.
+#[derive(Clone, Copy)]
+pub struct ShapeNumbers(pub Shape);
+
+impl fmt::Display for ShapeNumbers {
+    fn fmt<W: fmt::Write>(&self, f: &mut fmt::Formatter<W>) -> fmt::Result {
+        let Shape {
+            states,
+            labels,
+            initial,
+        } = self.0;
+        write!(f, " {states} {labels} {initial}")
+    }
 }
 
 pub fn shape_of(states: u32, labels: u32, initial: u32) -> Shape {
@@ -43,11 +55,4 @@ pub fn shape_of(states: u32, labels: u32, initial: u32) -> Shape {
         labels,
         initial,
     }
-}
-
-// States, labels and initial state.
-pub fn shape(rt: &impl Print, s: Shape) -> io::Result<()> {
-    number(rt, s.states as u64)?;
-    number(rt, s.labels as u64)?;
-    number(rt, s.initial as u64)
 }

@@ -3,108 +3,143 @@
 // What they answer is printed and compared with the file stdout. An element of the output for marks
 // that was not written is 7.
 // Uses `mark_entry_records` for the entries and `test_print` for the printing.
+// What `as u16` narrows here is made from a place, and the check proves that it fits.
 #![tactic(auto)]
 
 ghost use Rattle.std.specs.Prelude.{◌+◌, ◌<◌, ◌≤◌};
 ghost use Rattle.graph.specs.Answers.{most_hops};
 ghost use Rattle.graph.specs.Hops.{count};
 
-use graph::hops::{hop_at, hop_count, lined_hop, part, put_hop};
-use graph::{Answer, Hop, MOST_HOPS, NUMBERS_A_HOP, Shape};
+use graph::answers::answer_of;
+use graph::hops::{hop_at, hop_count, hop_of, lined_hop, part, put_hop};
+use graph::{Hop, MOST_HOPS, NUMBERS_A_HOP, Shape};
 use mark_entry_records::{check_records, mark_records};
 use std::io;
-use test_print::{answer, bytes, number, shape_of, text};
+use test_print::{AnswerNumbers, Spaced, shape_of};
 
 // One record and one hop more than a graph has at most.
 const RECORDS: usize = MOST_HOPS + 1;
-
-fn print_both(rt: &impl Print, checked: Answer, marked: Answer) -> io::Result<()> {
-    text(rt, b": check")?;
-    answer(rt, checked)?;
-    text(rt, b", mark")?;
-    answer(rt, marked)?;
-    text(rt, b", marks")
-}
-
-// Both entries over the first n records, lent, marking in the sense given.
-fn ask(
-    rt: &impl Print,
-    shape: Shape,
-    hops: [Hop; RECORDS],
-    n: usize,
-    sense: u32,
-    marks: &mut [u8],
-) -> io::Result<()>
-    requires { n ≤ most_hops + 1 }
-{
-    let list = &hops[..n];
-    print_both(
-        rt,
-        check_records(shape, list),
-        mark_records(shape, list, sense, marks),
-    )
-}
 
 // The records of a flat list, and records of zeros behind them.
 fn records_of(nums: &[u16]) -> [Hop; RECORDS]
     requires { count nums.now ≤ most_hops + 1 }
 {
-    let mut hops = [Hop {
-        from: 0,
-        label: 0,
-        to: 0,
-        line: 0,
-    }; RECORDS];
+    let mut hops = [hop_of(0, 0, 0); RECORDS];
     for i in 0..hop_count(nums) {
         hops[i] = hop_at(nums, i);
     }
     hops
 }
 
-// Both entries over the records of a flat list, with the first `capacity` elements for marks.
-fn ask_list(
+// Both entries over the records of a flat list, marking in the sense given.
+fn ask(
     rt: &impl Print,
+    name: &str,
     shape: Shape,
     nums: &[u16],
     sense: u32,
     marks: &mut [u8],
-    capacity: usize,
-) -> io::Result<()> {
-    let n = hop_count(nums);
-    if RECORDS < n {
-        return Ok(());
-    }
-    if marks.len() < capacity {
-        return Ok(());
-    }
-    ask(
-        rt,
-        shape,
-        records_of(nums),
-        n,
-        sense,
-        &mut marks[..capacity],
-    )
+) -> io::Result<()>
+    requires { count nums.now ≤ most_hops + 1 }
+{
+    let hops = records_of(nums);
+    let list = &hops[..hop_count(nums)];
+    let checked = AnswerNumbers(answer_of(&check_records(shape, list)));
+    let marked = AnswerNumbers(answer_of(&mark_records(shape, list, sense, marks)));
+    print!(rt; "{name}: check{checked}, mark{marked}, marks")
 }
 
-// A list of few records, and six elements, of which the first `capacity` were lent.
-fn few(
-    rt: &impl Print,
-    name: &[u8],
+// A graph of few hops, the sense in which it is marked, and how many of six elements are lent for
+// the marks.
+#[derive(Clone, Copy)]
+struct Case<'a> {
+    name: &'a str,
     shape: Shape,
-    nums: &[u16],
+    nums: &'a [u16],
     sense: u32,
     capacity: usize,
-) -> io::Result<()> {
-    let mut marks = [7u8; 6];
-    text(rt, name)?;
-    ask_list(rt, shape, nums, sense, &mut marks, capacity)?;
-    bytes(rt, &marks)?;
-    text(rt, b"\n")
+    ghost few: { count nums.now ≤ most_hops + 1 },
+    ghost lent: { capacity ≤ 6 },
 }
 
-fn ones(marks: &[u8]) -> usize {
-    marks.iter().filter(|mark| **mark == 1).count()
+fn few<'a>(name: &'a str, shape: Shape, nums: &'a [u16], sense: u32, capacity: usize) -> Case<'a>
+    requires few { count nums.now ≤ most_hops + 1 }
+    requires lent { capacity ≤ 6 }
+{
+    Case {
+        name,
+        shape,
+        nums,
+        sense,
+        capacity,
+    }
+}
+
+fn print_few(rt: &impl Print, case: Case) -> io::Result<()> {
+    let mut marks = [7u8; 6];
+    ask(
+        rt,
+        case.name,
+        case.shape,
+        case.nums,
+        case.sense,
+        &mut marks[..case.capacity],
+    )?;
+    println!(rt; "{}", Spaced(&marks))
+}
+
+fn small(rt: &impl Print) -> io::Result<()> {
+    let p1 = [0u16, 0, 1, 3, 0, 1, 2, 4, 1, 1, 3, 5, 2, 0, 3, 2];
+    let none = [0u16; 0];
+    let p8 = [0u16, 0, 1, 0, 1, 0, 2, 6, 2, 0, 1, 0];
+    let falling = [0u16, 0, 1, 1, 1, 1, 3, 2, 0, 1, 2, 3];
+    let twice = [0u16, 0, 1, 0, 0, 0, 1, 9];
+    // the case of wish 7, in which 0 to 1 is marked by R8 alone
+    let wish_7 = [
+        0u16, 0, 1, 0, 0, 1, 2, 65535, 1, 1, 3, 0, 2, 0, 4, 7, 4, 0, 3, 7,
+    ];
+    for case in [
+        few("P1", shape_of(4, 2, 0), &p1, 1, 6),
+        few("P1, just capacity", shape_of(4, 2, 0), &p1, 1, 4),
+        few("P1, too short", shape_of(4, 2, 0), &p1, 1, 3),
+        few("no states", shape_of(0, 2, 0), &p1, 1, 6),
+        few("initial state at the count", shape_of(4, 2, 4), &p1, 1, 6),
+        few("a state out of range", shape_of(3, 2, 0), &p1, 1, 6),
+        few("no records", shape_of(1, 1, 0), &none, 1, 6),
+        few("P8", shape_of(3, 1, 0), &p8, 1, 6),
+        few(
+            "two hops that differ in the line",
+            shape_of(4, 2, 0),
+            &twice,
+            1,
+            6,
+        ),
+        few(
+            "a hop below the one before",
+            shape_of(4, 2, 0),
+            &falling,
+            1,
+            6,
+        ),
+        few("sense 1", shape_of(5, 2, 0), &wish_7, 1, 6),
+        few("sense 2", shape_of(5, 2, 0), &wish_7, 2, 6),
+        few("sense 3", shape_of(5, 2, 0), &wish_7, 3, 6),
+        few("sense 8", shape_of(5, 2, 0), &wish_7, 8, 6),
+        few("sense 0", shape_of(5, 2, 0), &wish_7, 0, 6),
+        few("sense 4, too short", shape_of(5, 2, 0), &wish_7, 4, 4),
+        few("P8, sense 7", shape_of(3, 1, 0), &p8, 7, 6),
+        few("P8, sense 8", shape_of(3, 1, 0), &p8, 8, 6),
+        few(
+            "a hop below the one before, sense 9",
+            shape_of(4, 2, 0),
+            &falling,
+            9,
+            6,
+        ),
+    ] {
+        print_few(rt, case)?;
+    }
+    Ok(())
 }
 
 // A list at the limit of 4,096 hops, five a state: the silent one leads to the next state, the
@@ -131,119 +166,32 @@ fn stairs() -> [u16; NUMBERS_A_HOP * RECORDS] {
     nums
 }
 
-fn ask_first(
-    rt: &impl Print,
-    nums: &[u16],
-    n: usize,
-    marks: &mut [u8],
-    capacity: usize,
-) -> io::Result<()> {
-    if hop_count(nums) < n {
-        return Ok(());
-    }
-    ask_list(
-        rt,
-        shape_of(1024, 5, 0),
-        part(nums, 0, n),
-        1,
-        marks,
-        capacity,
-    )
-}
-
 // The first n hops of the list at the limit, and of 4,098 elements, of which the first `capacity`
 // were lent: the first six, the last thirteen, and how many are 1.
-fn many(rt: &impl Print, name: &[u8], n: usize, capacity: usize) -> io::Result<()> {
+fn print_many(rt: &impl Print, name: &str, n: usize, capacity: usize) -> io::Result<()>
+    requires few { n ≤ most_hops + 1 }
+    requires lent { capacity ≤ most_hops + 2 }
+{
     let nums = stairs();
-    let mut marks = [7u8; 4098];
-    text(rt, name)?;
-    ask_first(rt, &nums, n, &mut marks, capacity)?;
-    bytes(rt, &marks[0..6])?;
-    text(rt, b" ..")?;
-    bytes(rt, &marks[4085..4098])?;
-    text(rt, b", ones")?;
-    number(rt, ones(&marks) as u64)?;
-    text(rt, b"\n")
-}
-
-fn p1(rt: &impl Print, name: &[u8], shape: Shape, capacity: usize) -> io::Result<()> {
-    let hops = [0u16, 0, 1, 3, 0, 1, 2, 4, 1, 1, 3, 5, 2, 0, 3, 2];
-    few(rt, name, shape, &hops, 1, capacity)
-}
-
-fn small(rt: &impl Print) -> io::Result<()> {
-    p1(rt, b"P1", shape_of(4, 2, 0), 6)?;
-    p1(rt, b"P1, just capacity", shape_of(4, 2, 0), 4)?;
-    p1(rt, b"P1, too short", shape_of(4, 2, 0), 3)?;
-    p1(rt, b"no states", shape_of(0, 2, 0), 6)?;
-    p1(rt, b"initial state at the count", shape_of(4, 2, 4), 6)?;
-    p1(rt, b"a state out of range", shape_of(3, 2, 0), 6)
-}
-
-fn others(rt: &impl Print) -> io::Result<()> {
-    let none = [0u16; 0];
-    let p8 = [0u16, 0, 1, 0, 1, 0, 2, 6, 2, 0, 1, 0];
-    let falling = [0u16, 0, 1, 1, 1, 1, 3, 2, 0, 1, 2, 3];
-    let twice = [0u16, 0, 1, 0, 0, 0, 1, 9];
-    few(rt, b"no records", shape_of(1, 1, 0), &none, 1, 6)?;
-    few(rt, b"P8", shape_of(3, 1, 0), &p8, 1, 6)?;
-    few(
+    let mut marks = [7u8; RECORDS + 1];
+    ask(
         rt,
-        b"two hops that differ in the line",
-        shape_of(4, 2, 0),
-        &twice,
+        name,
+        shape_of(1024, 5, 0),
+        part(&nums, 0, n),
         1,
-        6,
+        &mut marks[..capacity],
     )?;
-    few(
-        rt,
-        b"a hop below the one before",
-        shape_of(4, 2, 0),
-        &falling,
-        1,
-        6,
-    )
-}
-
-// The case of wish 7, in which 0 to 1 is marked by R8 alone.
-fn in_sense(rt: &impl Print, name: &[u8], sense: u32, capacity: usize) -> io::Result<()> {
-    let hops = [
-        0u16, 0, 1, 0, 0, 1, 2, 65535, 1, 1, 3, 0, 2, 0, 4, 7, 4, 0, 3, 7,
-    ];
-    few(rt, name, shape_of(5, 2, 0), &hops, sense, capacity)
-}
-
-fn senses(rt: &impl Print) -> io::Result<()> {
-    let p8 = [0u16, 0, 1, 0, 1, 0, 2, 6, 2, 0, 1, 0];
-    let falling = [0u16, 0, 1, 1, 1, 1, 3, 2, 0, 1, 2, 3];
-    in_sense(rt, b"sense 1", 1, 6)?;
-    in_sense(rt, b"sense 2", 2, 6)?;
-    in_sense(rt, b"sense 3", 3, 6)?;
-    in_sense(rt, b"sense 8", 8, 6)?;
-    in_sense(rt, b"sense 0", 0, 6)?;
-    in_sense(rt, b"sense 4, too short", 4, 4)?;
-    few(rt, b"P8, sense 7", shape_of(3, 1, 0), &p8, 7, 6)?;
-    few(rt, b"P8, sense 8", shape_of(3, 1, 0), &p8, 8, 6)?;
-    few(
-        rt,
-        b"a hop below the one before, sense 9",
-        shape_of(4, 2, 0),
-        &falling,
-        9,
-        6,
-    )
-}
-
-fn limits(rt: &impl Print) -> io::Result<()> {
-    many(rt, b"4096 records", 4096, 4098)?;
-    many(rt, b"4096 records, just capacity", 4096, 4096)?;
-    many(rt, b"4096 records, too short", 4096, 4095)?;
-    many(rt, b"4097 records", 4097, 4098)
+    let front = Spaced(&marks[..6]);
+    let end = Spaced(&marks[4085..]);
+    let ones = marks.iter().filter(|mark| **mark == 1).count();
+    println!(rt; "{front} ..{end}, ones {ones}")
 }
 
 fn main(rt: HostRuntime) -> io::Result<()> {
     small(&rt)?;
-    others(&rt)?;
-    senses(&rt)?;
-    limits(&rt)
+    print_many(&rt, "4096 records", 4096, 4098)?;
+    print_many(&rt, "4096 records, just capacity", 4096, 4096)?;
+    print_many(&rt, "4096 records, too short", 4096, 4095)?;
+    print_many(&rt, "4097 records", 4097, 4098)
 }

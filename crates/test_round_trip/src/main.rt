@@ -5,232 +5,151 @@
 // Uses `file_round_trip` for the two functions and `test_print` for the printing.
 #![tactic(auto)]
 
+ghost use Rattle.std.specs.Prelude.{◌≤◌};
+
 use file_read::Contents;
 use file_round_trip::round_trip::{copy_file, graph_back};
 use file_write::Written;
 use graph::Shape;
 use std::io;
-use test_print::{answer, bytes, number, numbers, shape, shape_of, text};
+use test_print::{AnswerNumbers, ShapeNumbers, Spaced, shape_of};
 
-fn print_written(rt: &impl Print, w: Written) -> io::Result<()> {
-    let a = w.answer;
-    text(rt, b": copy")?;
-    answer(rt, a)?;
-    text(rt, b", length")?;
-    number(rt, w.length as u64)?;
-    text(rt, b", bytes")
+// A file, and how many of 33 bytes are lent for its copy.
+#[derive(Clone, Copy)]
+struct Copied<'a> {
+    name: &'a str,
+    file: &'a [u8],
+    capacity: usize,
+    ghost lent: { capacity ≤ 33 },
 }
 
-fn copy_front(rt: &impl Print, file: &[u8], out: &mut [u8], capacity: usize) -> io::Result<()> {
-    if out.len() < capacity {
-        return Ok(());
+fn file<'a>(name: &'a str, file: &'a [u8], capacity: usize) -> Copied<'a>
+    requires { capacity ≤ 33 }
+{
+    Copied {
+        name,
+        file,
+        capacity,
     }
-    print_written(rt, copy_file(file, &mut out[..capacity]))
 }
 
-// What is answered and how many bytes were written, and 33 elements, of which the first `capacity`
-// were lent.
-fn copied(rt: &impl Print, name: &[u8], file: &[u8], capacity: usize) -> io::Result<()> {
+// What is answered and how many bytes were written, and the 33 bytes.
+fn print_copy(rt: &impl Print, case: Copied) -> io::Result<()> {
     let mut out = [7u8; 33];
-    text(rt, name)?;
-    copy_front(rt, file, &mut out, capacity)?;
-    bytes(rt, &out)?;
-    text(rt, b"\n")
+    let written = Written::from(copy_file(case.file, &mut out[..case.capacity]));
+    let name = case.name;
+    let answer = AnswerNumbers(written.answer);
+    let length = written.length;
+    let bytes = Spaced(&out);
+    println!(rt; "{name}: copy{answer}, length {length}, bytes{bytes}")
 }
 
-fn print_contents(rt: &impl Print, c: Contents) -> io::Result<()> {
-    let a = c.answer;
-    let s = c.shape;
-    text(rt, b": back")?;
-    answer(rt, a)?;
-    text(rt, b", shape")?;
-    shape(rt, s)?;
-    text(rt, b", hops")?;
-    number(rt, c.hops as u64)?;
-    text(rt, b", names")?;
-    number(rt, c.names_place as u64)?;
-    number(rt, c.names_len as u64)?;
-    text(rt, b", bytes")
-}
-
-fn back_front(
-    rt: &impl Print,
-    shape1: Shape,
-    hops: &[u16],
-    names: &[u8],
-    file: &mut [u8],
-    capacity: usize,
-    again: &mut [u16],
-    hop_capacity: usize,
-) -> io::Result<()> {
-    if file.len() < capacity {
-        return Ok(());
-    }
-    if again.len() < hop_capacity {
-        return Ok(());
-    }
-    print_contents(
-        rt,
-        graph_back(
-            shape1,
-            hops,
-            names,
-            &mut file[..capacity],
-            &mut again[..hop_capacity],
-        ),
-    )
-}
-
-// What is answered, and 46 bytes and 18 numbers, of which the first `capacity` and the first
-// `hop_capacity` were lent.
-fn back(
-    rt: &impl Print,
-    name: &[u8],
-    shape1: Shape,
-    hops: &[u16],
-    names: &[u8],
+// A graph and its names, and how many of 46 bytes and of 18 numbers are lent for its file and for
+// what is read back.
+#[derive(Clone, Copy)]
+struct Graph<'a> {
+    name: &'a str,
+    shape: Shape,
+    hops: &'a [u16],
+    names: &'a [u8],
     capacity: usize,
     hop_capacity: usize,
-) -> io::Result<()> {
-    let mut file = [7u8; 46];
-    let mut again = [7u16; 18];
-    text(rt, name)?;
-    back_front(
-        rt,
-        shape1,
+    ghost lent_bytes: { capacity ≤ 46 },
+    ghost lent_numbers: { hop_capacity ≤ 18 },
+}
+
+fn case_of<'a>(
+    name: &'a str,
+    shape: Shape,
+    hops: &'a [u16],
+    names: &'a [u8],
+    capacity: usize,
+    hop_capacity: usize,
+) -> Graph<'a>
+    requires lent_bytes { capacity ≤ 46 }
+    requires lent_numbers { hop_capacity ≤ 18 }
+{
+    Graph {
+        name,
+        shape,
         hops,
         names,
-        &mut file,
         capacity,
-        &mut again,
         hop_capacity,
-    )?;
-    bytes(rt, &file)?;
-    text(rt, b", numbers")?;
-    numbers(rt, &again)?;
-    text(rt, b"\n")
+    }
 }
 
-// P1 as a file.
-fn p1(rt: &impl Print, name: &[u8], capacity: usize) -> io::Result<()> {
-    copied(
-        rt,
-        name,
-        b"\x02\x04\x00\x02\x00\x04\x00\x00\x00\x00\x00\x01\x00\x00\x00\x01\x00\x02\x00\x01\x00\x01\x00\x03\x00\x02\x00\x00\x00\x03\x00",
-        capacity,
-    )
+// What is answered, and the 46 bytes and 18 numbers.
+fn print_back(rt: &impl Print, case: Graph) -> io::Result<()> {
+    let mut file = [7u8; 46];
+    let mut again = [7u16; 18];
+    let back = Contents::from(graph_back(
+        case.shape,
+        case.hops,
+        case.names,
+        &mut file[..case.capacity],
+        &mut again[..case.hop_capacity],
+    ));
+    let name = case.name;
+    let answer = AnswerNumbers(back.answer);
+    let shape = ShapeNumbers(back.shape);
+    let hops = back.hops;
+    let names_place = back.names_place;
+    let names_len = back.names_len;
+    let bytes = Spaced(&file);
+    let numbers = Spaced(&again);
+    print!(rt; "{name}: back{answer}, shape{shape}, hops {hops}, names {names_place} {names_len}")?;
+    println!(rt; ", bytes{bytes}, numbers{numbers}")
 }
 
 fn copies(rt: &impl Print) -> io::Result<()> {
-    p1(rt, b"P1 as a file", 33)?;
-    p1(rt, b"P1 as a file, just capacity", 31)?;
-    p1(rt, b"P1 as a file, too short", 30)
-}
-
-fn other_copies(rt: &impl Print) -> io::Result<()> {
-    copied(
-        rt,
-        b"the first 30 bytes",
-        b"\x02\x04\x00\x02\x00\x04\x00\x00\x00\x00\x00\x01\x00\x00\x00\x01\x00\x02\x00\x01\x00\x01\x00\x03\x00\x02\x00\x00\x00\x03",
-        33,
-    )?;
-    copied(rt, b"an empty file", b"", 33)?;
-    copied(
-        rt,
-        b"initial state, a hop and names",
-        b"\x07\x03\x00\x03\x00\x02\x00\x01\x00\x02\x00\x01\x00\x00\x00\x01a\x02bc",
-        33,
-    )
-}
-
-// A hop with a line, which stands behind the names, and the same cut; and lines all 0, which no
-// file has.
-fn lined_copies(rt: &impl Print) -> io::Result<()> {
-    copied(
-        rt,
-        b"a hop with a line behind the names",
-        b"\x0e\x02\x00\x02\x00\x01\x00\x00\x00\x01\x00\x01\x00\x01a\x09\x01",
-        33,
-    )?;
-    copied(
-        rt,
-        b"the line cut",
-        b"\x0e\x02\x00\x02\x00\x01\x00\x00\x00\x01\x00\x01\x00\x01a\x09",
-        33,
-    )?;
-    copied(
-        rt,
-        b"bit 3 over a line of 0",
-        b"\x0a\x02\x00\x02\x00\x01\x00\x00\x00\x01\x00\x01\x00\x00\x00",
-        33,
-    )?;
-    copied(rt, b"bit 3 over no hops", b"\x08\x01\x00\x01\x00", 33)
-}
-
-// P1 with lines and a name, into a file output of the given capacity.
-fn lined_back(rt: &impl Print, name: &[u8], capacity: usize) -> io::Result<()> {
-    let hops = [0u16, 0, 1, 3, 0, 1, 2, 4, 1, 1, 3, 5, 2, 0, 3, 2];
-    back(
-        rt,
-        name,
-        shape_of(4, 2, 0),
-        &hops,
-        b"\x04open",
-        capacity,
-        18,
-    )
-}
-
-// P1 with an initial state and a block of names.
-fn p1_back(
-    rt: &impl Print,
-    name: &[u8],
-    initial: u32,
-    names: &[u8],
-    capacity: usize,
-    hop_capacity: usize,
-) -> io::Result<()> {
-    let hops = [0u16, 0, 1, 0, 0, 1, 2, 0, 1, 1, 3, 0, 2, 0, 3, 0];
-    back(
-        rt,
-        name,
-        shape_of(4, 2, initial),
-        &hops,
-        names,
-        capacity,
-        hop_capacity,
-    )
+    let p1 =
+        b"\x02\x04\x00\x02\x00\x04\x00\x00\x00\x00\x00\x01\x00\x00\x00\x01\x00\x02\x00\x01\x00\x01\x00\x03\x00\x02\x00\x00\x00\x03\x00";
+    let names = b"\x07\x03\x00\x03\x00\x02\x00\x01\x00\x02\x00\x01\x00\x00\x00\x01a\x02bc";
+    // a hop with a line, which stands behind the names; and a line of 0 alone, which no file has
+    let line = b"\x0e\x02\x00\x02\x00\x01\x00\x00\x00\x01\x00\x01\x00\x01a\x09\x01";
+    let line_0 = b"\x0a\x02\x00\x02\x00\x01\x00\x00\x00\x01\x00\x01\x00\x00\x00";
+    for case in [
+        file("P1 as a file", p1, 33),
+        file("P1 as a file, just capacity", p1, 31),
+        file("P1 as a file, too short", p1, 30),
+        file("the first 30 bytes", &p1[..30], 33),
+        file("an empty file", b"", 33),
+        file("initial state, a hop and names", names, 33),
+        file("a hop with a line behind the names", line, 33),
+        file("the line cut", &line[..16], 33),
+        file("bit 3 over a line of 0", line_0, 33),
+        file("bit 3 over no hops", b"\x08\x01\x00\x01\x00", 33),
+    ] {
+        print_copy(rt, case)?;
+    }
+    Ok(())
 }
 
 fn backs(rt: &impl Print) -> io::Result<()> {
-    p1_back(rt, b"P1 with a name", 0, b"\x04open", 46, 18)?;
-    p1_back(rt, b"P1 with no names", 0, b"", 46, 18)?;
-    p1_back(rt, b"an initial state", 3, b"\x04open", 46, 18)?;
-    p1_back(rt, b"just capacity", 0, b"\x04open", 36, 16)?;
-    lined_back(rt, b"P1 with lines", 46)?;
-    lined_back(rt, b"P1 with lines, too short", 43)
-}
-
-fn bad_backs(rt: &impl Print) -> io::Result<()> {
+    let p1 = [0u16, 0, 1, 0, 0, 1, 2, 0, 1, 1, 3, 0, 2, 0, 3, 0];
+    let lined = [0u16, 0, 1, 3, 0, 1, 2, 4, 1, 1, 3, 5, 2, 0, 3, 2];
     let falling = [0u16, 0, 1, 0, 0, 1, 2, 0, 2, 0, 3, 0, 1, 1, 3, 0];
-    p1_back(rt, b"the file too short", 0, b"\x04open", 35, 18)?;
-    p1_back(rt, b"the hops too short", 0, b"\x04open", 46, 15)?;
-    p1_back(rt, b"a name too many", 0, b"\x01a\x01b", 46, 18)?;
-    back(
-        rt,
-        b"a hop below the one before",
-        shape_of(4, 2, 0),
-        &falling,
-        b"\x04open",
-        46,
-        18,
-    )
+    let shape = shape_of(4, 2, 0);
+    let open = b"\x04open";
+    for case in [
+        case_of("P1 with a name", shape, &p1, open, 46, 18),
+        case_of("P1 with no names", shape, &p1, b"", 46, 18),
+        case_of("an initial state", shape_of(4, 2, 3), &p1, open, 46, 18),
+        case_of("just capacity", shape, &p1, open, 36, 16),
+        case_of("P1 with lines", shape, &lined, open, 46, 18),
+        case_of("P1 with lines, too short", shape, &lined, open, 43, 18),
+        case_of("the file too short", shape, &p1, open, 35, 18),
+        case_of("the hops too short", shape, &p1, open, 46, 15),
+        case_of("a name too many", shape, &p1, b"\x01a\x01b", 46, 18),
+        case_of("a hop below the one before", shape, &falling, open, 46, 18),
+    ] {
+        print_back(rt, case)?;
+    }
+    Ok(())
 }
 
 fn main(rt: HostRuntime) -> io::Result<()> {
     copies(&rt)?;
-    other_copies(&rt)?;
-    lined_copies(&rt)?;
-    backs(&rt)?;
-    bad_backs(&rt)
+    backs(&rt)
 }

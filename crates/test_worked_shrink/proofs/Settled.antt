@@ -7,8 +7,8 @@ use mathlib.Core.Bool.{Bool, true, cond, ◌&&◌}
 use mathlib.Core.List.{List}
 use borrow.Author.Tests.{eq-eqb, eqb-true}
 use lib.Dec.{eqb}
+use Rattle.std.proofs.lemmas.Bool.{and_from, and_parts}
 use Rattle.base_bounded.specs.Quantifiers.{all}
-use Rattle.base_bounded.proofs.Bools.{and_yes, and_left, and_right}
 use Rattle.base_bounded.proofs.Quantifiers.{all_at}
 use Rattle.graph.specs.Hops.{count, from, label, to}
 use Rattle.graph.specs.declared.Shape.{Shape}
@@ -35,7 +35,7 @@ module _ (sense : Sense) (sh : Shape) (hs ms : List ℕ) where
   module _ (c : all (count hs) closes_at ≡ true) (l : all (count hs) left_at ≡ true) where
     closed : (i : ℕ) → is_marked ms i ≡ true → closes_at i ≡ true → (label hs i ≡ 0) × (closes_in sense sh hs (mark_set hs ms) (from hs i) (to hs i) ≡ true)
     unfolding closes_at
-    closed i m e = let p = rw m at e in (eqb-true _ _ (and_left (eqb (label hs i) 0) _ p), and_right (eqb (label hs i) 0) _ p)
+    closed i m e = let p = rw m at e in (eqb-true _ _ (and_parts (eqb (label hs i) 0) _ p).0, (and_parts (eqb (label hs i) 0) _ p).1)
 
     held_silent : Subset (In (mark_set hs ms)) (In (silent_hops hs))
     held_silent s t e =
@@ -49,7 +49,7 @@ module _ (sense : Sense) (sh : Shape) (hs ms : List ℕ) where
 
     left : (i : ℕ) → label hs i ≡ 0 → approximant (closes_in sense sh hs) (silent_hops hs) 1 (from hs i) (to hs i) ≡ true → left_at i ≡ true → is_marked ms i ≡ true
     unfolding left_at
-    left i z m e = rw (and_yes (eq-eqb _ _ z) m) at e
+    left i z m e = rw (and_from _ _ (eq-eqb _ _ z) m) at e
 
     marked_held : Subset (In (marked_in sense sh hs)) (In (mark_set hs ms))
     marked_held s t e =

@@ -1,1 +1,2 @@
-pub mod Ranks  -- ranked states, and how many are gained
+pub mod Ranks  -- ranked states, none of which is on a ring
+pub mod Ranking  -- how many are gained

@@ -2,7 +2,7 @@
 -- cut before its last hop instead of after its first. Assumes nothing.
 use Prim.Native.Nat.{ℕ, ◌<◌}
 use mathlib.Core.Path.{◌≡◌, refl, sym, ◌∙◌}
-use mathlib.Core.Bool.{true, ◌&&◌}
+use mathlib.Core.Bool.{Bool, true, ◌&&◌}
 use mathlib.Core.List.{List, ◌++◌}
 use borrow.Author.Tests.{eq-eqb, eqb-true}
 use lib.Dec.{eqb}
@@ -17,7 +17,7 @@ use Rattle.lts.specs.Star.{stay, go}
 use Rattle.lts.proofs.Star.{one, join}
 use Rattle.walk_silent.specs.Silent.{SilentOf, Leads, OnRing, silent_at, leads, on_ring}
 use Rattle.walk_reach.specs.Internal.Reach.{chosen_in, Chooses}
-use Rattle.walk_reach.specs.Internal.Frontier.{visited, reached_bytes}
+use Rattle.walk_reach.specs.Internal.Frontier.{visited, reached_flags}
 use Rattle.walk_rings.specs.Internal.Ring.{leads_back_at}
 use Rattle.walk_silent.proofs.Leads.{leads_walk, walk_leads, visited_leads}
 use Rattle.walk_silent.proofs.Rings.{ring_walk, walk_ring}
@@ -34,10 +34,10 @@ module _ (hs : List ℕ) where
   ring_first s u stay r = (s, r, stay)
   ring_first s u (go {m} a p) r = (m, a, join p (one r))
 
-module _ {sh : Shape} {hs : List ℕ} (ranged : InRange sh hs) (bytes : List ℕ) (silent : Chooses hs (silent_at hs) bytes) (s : ℕ) (seen rest : List ℕ)
-    (e : seen ≡ reached_bytes hs (chosen_in bytes) sh.states s ++ rest) where
+module _ {sh : Shape} {hs : List ℕ} (ranged : InRange sh hs) (flags : List Bool) (silent : Chooses hs (silent_at hs) flags) (s : ℕ) (seen rest : List Bool)
+    (e : seen ≡ reached_flags hs (chosen_in flags) sh.states s ++ rest) where
   visited_is : (t : ℕ) → t < sh.states → visited seen t ≡ leads hs sh.states s t
-  visited_is t l = rw e (visited_leads hs bytes silent sh.states s rest l)
+  visited_is t l = rw e (visited_leads hs flags silent sh.states s rest l)
 
   -- after a search from s, some hop leads silently from a visited state to s exactly when s is on a
   -- ring

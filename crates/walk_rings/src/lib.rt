@@ -3,52 +3,46 @@
 // states can be ranked there is no ring, and no further search is made. Else a breadth-first search
 // along the silent (tau) hops from each state without a rank, in ascending order, asks whether it
 // leads back.
-// Uses `walk_acyclic` for the ranks, `walk_reach` and `walk_silent` for the search.
+// Uses `graph_index` for the graph with its table of first places, `walk_acyclic` for the ranks,
+// `walk_reach` and `walk_silent` for the search.
 #![tactic(auto)]
 
 ghost use Rattle.std.specs.Prelude.{◌≡◌, ◌<◌, ◌≤◌, length};
 ghost use Rattle.base_bounded.specs.Quantifiers.{any};
 ghost use Rattle.graph.specs.Hops.{count};
-ghost use Rattle.graph_check.specs.Check.{Admitted};
-ghost use Rattle.graph_successors.specs.Internal.SuccessorIndex.{Indexed};
+ghost use Rattle.graph.specs.Answers.{answer_of};
 ghost use Rattle.walk_reach.specs.Internal.Frontier.{Space};
-ghost use Rattle.walk_silent.specs.Silent.{on_ring, lowest_on_ring, ring_answer};
-ghost use Rattle.walk_silent.specs.Internal.SilentBytes.{SilentChosen};
-ghost use Rattle.walk_acyclic.specs.Internal.Ranks.{Ranks};
-ghost use Rattle.walk_rings.specs.Internal.Ring.{leads_back_at};
+ghost use Rattle.walk_reach.specs.Internal.Reach.{Chooses};
+ghost use Rattle.walk_silent.specs.Silent.{silent_at, on_ring, ring_answer};
+ghost use Rattle.walk_rings.specs.Internal.Ring.{leads_back_at, IsLowest};
 
-use graph::answers::{accept, refuse};
 use graph::hops::{from_at, hop_count, label_at, to_at};
-use graph::{Answer, MOST_STATES, OldState, Shape};
-use graph_successors::STARTS;
-use walk_acyclic::rank_all;
+use graph::{MOST_STATES, OldState, Refusal};
+use graph_index::Indexed;
+use walk_acyclic::Ranking;
 use walk_reach::reach;
-use walk_silent::chosen::silent_bytes;
+use walk_silent::chosen::silent_flags;
 
 // Whether the hop at the place leads silently from a visited state to s.
-fn returns_at(shape: Shape, hops: &[u16], i: usize, s: OldState, seen: &[u8]) -> bool
-    requires admitted { Admitted shape hops.now }
-    requires capacity { shape.states ≤ length seen.now }
-    requires place { i < count hops.now }
-    ensures { result ≡ leads_back_at hops.now seen.now s.0 i }
+#[tactic(auto, unfolding(crate::specs::Internal::Ring::leads_back_at, walk_reach::specs::Internal::Frontier::visited))]
+fn returns_at(graph: Indexed<'_>, i: usize, s: OldState, seen: &[bool]) -> bool
+    requires capacity { graph.shape.states ≤ length seen.now }
+    requires place { i < count graph.index.hops.now }
+    ensures { result ≡ leads_back_at graph.entry.index.hops.now seen.now s.0 i }
 {
-    let at = from_at(hops, i).0 as usize;
-    ((label_at(hops, i).0 == 0) & (to_at(hops, i).0 == s.0)) & (seen[at] == 1)
+    let hops = graph.index.hops;
+    label_at(hops, i).0 == 0 && to_at(hops, i) == s && seen[usize::from(from_at(hops, i).0)]
 }
 
 // Whether some hop does.
-fn returns(shape: Shape, hops: &[u16], s: OldState, seen: &[u8]) -> bool
-    requires admitted { Admitted shape hops.now }
-    requires capacity { shape.states ≤ length seen.now }
-    ensures { result ≡ any (count hops.now) (leads_back_at hops.now seen.now s.0) }
+fn returns(graph: Indexed<'_>, s: OldState, seen: &[bool]) -> bool
+    requires { graph.shape.states ≤ length seen.now }
+    ensures { result ≡ any (count graph.entry.index.hops.now) (leads_back_at graph.entry.index.hops.now seen.now s.0) }
 {
-    let n = hop_count(hops);
-    let mut i = 0;
-    while i < n {
-        if returns_at(shape, hops, i, s, seen) {
+    for i in 0..hop_count(graph.index.hops) {
+        if returns_at(graph, i, s, seen) {
             return true;
         }
-        i += 1;
     }
     false
 }
@@ -56,80 +50,62 @@ fn returns(shape: Shape, hops: &[u16], s: OldState, seen: &[u8]) -> bool
 // Whether s is on a ring: no ranked state is; any other is if it leads to a state that has a silent
 // hop to it.
 fn is_on_ring(
-    shape: Shape,
-    hops: &[u16],
-    starts: &[u16; STARTS],
-    silent: &[u8],
+    ranking: &Ranking<'_>,
+    silent: &[bool],
     s: OldState,
-    ranked: &[u8],
-    seen: &mut [u8],
+    seen: &mut [bool],
     queue: &mut [u16],
 ) -> bool
-    requires silent { SilentChosen shape hops.now starts.now silent.now }
-    requires state { s.0 < shape.states }
-    requires ranks { Ranks hops.now shape.states ranked.now }
-    requires space { Space shape.states seen.old queue.old }
-    ensures { result ≡ on_ring hops.now shape.states s.0 }
+    requires flags { count ranking.now.graph.index.hops.now ≤ length silent.now }
+    requires silent { Chooses ranking.now.graph.index.hops.now (silent_at ranking.now.graph.index.hops.now) silent.now }
+    requires state { s.0 < ranking.now.graph.shape.states }
+    requires space { Space ranking.now.graph.shape.states seen.old queue.old }
+    ensures { result ≡ on_ring ranking.now.graph.index.hops.now ranking.now.graph.shape.states s.0 }
 {
-    let at = s.0 as usize;
-    if ranked[at] == 1 {
+    if ranking.ranked[usize::from(s.0)] {
         return false;
     }
-    reach(shape, hops, starts, silent, s, seen, queue);
-    returns(shape, hops, s, seen)
+    reach(ranking.graph, silent, s, seen, queue);
+    returns(ranking.graph, s, seen)
 }
 
-// The lowest state on a ring, or the state count: by a search from each state that is not ranked.
-fn lowest_unranked(shape: Shape, hops: &[u16], starts: &[u16; STARTS], ranked: &[u8]) -> usize
-    requires tabled { Indexed shape hops.now starts.now }
-    requires ranks { Ranks hops.now shape.states ranked.now }
-    ensures { result ≡ lowest_on_ring shape hops.now }
+// The lowest state on a ring: by a search from each state that is not ranked.
+fn lowest_unranked(ranking: &Ranking<'_>) -> Option<OldState>
+    ensures { IsLowest ranking.now.graph.shape ranking.now.graph.index.hops.now result }
 {
-    let silent = silent_bytes(hops);
-    let mut seen = [0u8; MOST_STATES];
+    let graph = ranking.graph;
+    let silent = silent_flags(graph.index.hops);
+    let mut seen = [false; MOST_STATES];
     let mut queue = [0u16; MOST_STATES];
-    let n = shape.states as usize;
-    let mut s = 0;
-    while s < n {
-        if is_on_ring(
-            shape,
-            hops,
-            starts,
-            &silent,
-            OldState(s as u16),
-            ranked,
-            &mut seen,
-            &mut queue,
-        ) {
-            return s;
+    for s in 0..graph.shape.states as u16 {
+        if is_on_ring(ranking, &silent, OldState(s), &mut seen, &mut queue) {
+            return Some(OldState(s));
         }
-        s += 1;
     }
-    n
+    None
 }
 
-// The lowest state on a ring, or the state count. In a graph without rings all states are ranked,
-// so that no search is made.
-pub fn lowest_on_ring(shape: Shape, hops: &[u16], starts: &[u16; STARTS]) -> usize
-    requires { Indexed shape hops.now starts.now }
-    ensures { result ≡ lowest_on_ring shape hops.now }
+// The lowest state on a ring. In a graph without rings all states are ranked, so that no search is
+// made.
+pub fn lowest_on_ring(graph: Indexed<'_>) -> Option<OldState>
+    ensures { IsLowest graph.entry.shape graph.entry.index.hops.now result }
 {
-    let mut ranked = [0u8; MOST_STATES];
-    let n = shape.states as usize;
-    if rank_all(shape, hops, starts, &mut ranked) == n {
-        return n;
+    let mut ranking = Ranking {
+        graph,
+        ranked: [false; MOST_STATES],
+    };
+    if ranking.rank_all() == graph.shape.states as usize {
+        return None;
     }
-    lowest_unranked(shape, hops, starts, &ranked)
+    lowest_unranked(&ranking)
 }
 
-// The answer of row 5, by the table of first places, which the caller has made and needs again.
-pub fn ring_answer(shape: Shape, hops: &[u16], starts: &[u16; STARTS]) -> Answer
-    requires { Indexed shape hops.now starts.now }
-    ensures { result ≡ ring_answer shape hops.now }
+// Row 5, by the table of first places, which the caller has made and needs again.
+pub fn check_rings(graph: Indexed<'_>) -> Result<(), Refusal>
+    ensures { answer_of result ≡ ring_answer graph.entry.shape graph.entry.index.hops.now }
 {
-    let s = lowest_on_ring(shape, hops, starts);
-    if s < shape.states as usize {
-        return refuse(5, s);
+    match lowest_on_ring(graph) {
+        Some(s) => Err(Refusal::Ring(usize::from(s.0))),
+        None => Ok(()),
     }
-    accept()
 }

@@ -2,10 +2,9 @@
 -- set. Assumes nothing.
 use Prim.Native.Nat.{ℕ, ◌<◌}
 use mathlib.Core.Path.{◌≡◌, refl}
-use mathlib.Core.Bool.{Bool, true, false, cond}
+use mathlib.Core.Bool.{true}
 use mathlib.Core.List.{List}
 use borrow.Author.Tests.{eq-eqb, eqb-true}
-use lib.Dec.{eqb}
 use Rattle.graph.specs.Hops.{count, to, labelled}
 use Rattle.graph_check.specs.Check.{InRange}
 use Rattle.graph.specs.declared.Shape.{Shape}
@@ -36,11 +35,6 @@ module _ (hs : List ℕ) where
   pub chosen_silent : (s t : ℕ) → ChosenOf hs (silent_at hs) s t → SilentOf hs s t
   chosen_silent s t p =
       place_has hs s 0 t (record { at = p.at; within = p.within; from_is = p.from_is; label_is = eqb-true _ _ p.chosen; to_is = p.to_is })
-
--- the byte of a test is 1 exactly when the test passes
-pub byte_result : {n : ℕ} (x : Bool) → n ≡ cond x 1 0 → eqb n 1 ≡ x
-byte_result true e = eq-eqb _ _ e
-byte_result false e = rw e
 
 -- both ends of a silent hop are states
 module _ {sh : Shape} {hs : List ℕ} (ranged : InRange sh hs) (s t : ℕ) (h : SilentOf hs s t) where

@@ -1,7 +1,7 @@
 -- The bounded test `leads` and the walk `Leads` agree once the bound is the state count, as they do
 -- for every chosen set. Assumes nothing.
 use Prim.Native.Nat.{ℕ, ◌<◌}
-use mathlib.Core.Path.{◌≡◌, ap, ◌∙◌}
+use mathlib.Core.Path.{◌≡◌, ◌∙◌}
 use mathlib.Core.Bool.{Bool, true}
 use mathlib.Core.List.{List, ◌++◌}
 use mathlib.Core.Logic.{◌↔◌}
@@ -9,7 +9,7 @@ use Rattle.graph_check.specs.Check.{InRange}
 use Rattle.graph.specs.declared.Shape.{Shape}
 use Rattle.lts.proofs.Star.{star_mono}
 use Rattle.walk_reach.specs.Internal.Reach.{chosen_in, Chooses}
-use Rattle.walk_reach.specs.Internal.Frontier.{visited, reached_bytes}
+use Rattle.walk_reach.specs.Internal.Frontier.{visited, reached_flags}
 use Rattle.walk_reach.proofs.Leads as by
 use Rattle.walk_reach.proofs.Search.{visited_reached}
 use Rattle.walk_silent.specs.Silent.{Leads, silent_at, leads}
@@ -23,12 +23,12 @@ module _ (hs : List ℕ) where
   pub leads_walk : (k s t : ℕ) → leads hs k s t ≡ true → Leads hs s t
   leads_walk k s t e = star_mono (chosen_silent hs) (by.leads_walk hs (silent_at hs) k s t e)
 
-  -- what the bytes say of a state that a search along the silent hops leaves
-  pub visited_leads : (bytes : List ℕ) → Chooses hs (silent_at hs) bytes → (n s : ℕ) (rest : List ℕ) {t : ℕ} → t < n →
-      visited (reached_bytes hs (chosen_in bytes) n s ++ rest) t ≡ leads hs n s t
+  -- what the flags say of a state that a search along the silent hops leaves
+  pub visited_leads : (flags : List Bool) → Chooses hs (silent_at hs) flags → (n s : ℕ) (rest : List Bool) {t : ℕ} → t < n →
+      visited (reached_flags hs (chosen_in flags) n s ++ rest) t ≡ leads hs n s t
   unfolding Chooses
-  visited_leads bytes e n s rest {t} l =
-      visited_reached hs (chosen_in bytes) n s rest t l ∙ by.leads_same hs (chosen_in bytes) (silent_at hs) e n s t
+  visited_leads flags e n s rest {t} l =
+      visited_reached hs (chosen_in flags) n s rest t l ∙ by.leads_same hs (chosen_in flags) (silent_at hs) e n s t
 
 module _ {sh : Shape} {hs : List ℕ} (ranged : InRange sh hs) where
   pub walk_leads : {s t : ℕ} → Leads hs s t → leads hs sh.states s t ≡ true

@@ -1,2 +1,1 @@
 pub mod Silent  -- silent hops, what they lead to, rings, and the answer of row 5
-pub mod Internal  -- what only private functions and proofs cite

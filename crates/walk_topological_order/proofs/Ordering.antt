@@ -1,7 +1,7 @@
 -- Laws of the order while it is made: no state placed, one state more, a pass that places none, and
 -- the whole order. Assumes nothing.
-use Prim.Native.Nat.{ℕ, zero, suc, ◌+◌, ◌-◌, ◌<◌, ◌≤◌}
-use mathlib.Core.Path.{◌≡◌, refl, sym, ap, subst, ◌∙◌}
+use Prim.Native.Nat.{ℕ, zero, suc, ◌+◌, ◌<◌, ◌≤◌}
+use mathlib.Core.Path.{◌≡◌, refl, sym, ap, ◌∙◌}
 use mathlib.Core.Bool.{Bool, true, false, not, ◌||◌}
 use mathlib.Core.List.{List}
 use mathlib.Core.Logic.{◌⊎◌, inl, inr, ⊎_elim}
@@ -22,15 +22,15 @@ use Rattle.walk_silent.specs.Silent.{ring_answer}
 use Rattle.walk_silent.proofs.Hops.{silent_here}
 use Rattle.walk_silent.proofs.Rings.{rank, rank_falls_accepted}
 use Rattle.walk_reach.specs.Internal.Frontier.{visited}
-use Rattle.walk_reach.proofs.Frontier.{visited_no, visited_set, visited_set_same, visited_set_back, visited_set_other}
+use Rattle.walk_reach.proofs.Frontier.{visited_set, visited_set_same, visited_set_back, visited_set_other}
 use Rattle.walk_acyclic.specs.Internal.Ranks.{ends_visited}
 use Rattle.walk_acyclic.proofs.Ranks.{ends_at}
 use Rattle.walk_topological_order.specs.Internal.TopologicalOrder.{TopologicalOrder}
-use Rattle.walk_topological_order.specs.Internal.Ordering.{pass_state, RowAppended, is_ordered, OrderedSoFar, Stuck, PlacedOrStuck, more, none, OnlyState}
-use Rattle.walk_topological_order.specs.declared.Counts.{Counts}
+use Rattle.walk_topological_order.specs.Internal.Ordering.{RowAppended, is_ordered, OrderedSoFar, Stuck, PlacedOrStuck, more, none, OnlyState}
+use Rattle.walk_topological_order.specs.declared.Progress.{Progress}
 
 -- a silent hop of a placed state
-module _ (hs placed : List ℕ) (i : ℕ) where
+module _ (hs : List ℕ) (placed : List Bool) (i : ℕ) where
   pub ordered_yes : label hs i ≡ 0 → visited placed (from hs i) ≡ true → is_ordered hs placed i ≡ true
   unfolding is_ordered
   ordered_yes q e = and_yes (eq-eqb (label hs i) 0 q) e
@@ -45,36 +45,40 @@ module _ (hs placed : List ℕ) (i : ℕ) where
 
 -- no state is placed
 pub ordered_none : {sh : Shape} {hs sorted : List ℕ} → InRange sh hs → count hs ≤ length sorted → (m : ℕ) → sh.states ≤ m →
-    OrderedSoFar hs sh.states (replicate m 0) sorted (record { states = 0; places = 0 })
+    OrderedSoFar hs sh.states sorted (record { placed = replicate m false; states = 0; places = 0 })
+unfolding visited
 ordered_none {sh} {hs} {sorted} ranged capacity m w = record {
-  bytes = rw (length-replicate {A = ℕ} m 0) w;
+  flags = rw (length-replicate {A = Bool} m false) w;
   capacity = capacity;
-  counted = sym (tally_zero (visited (replicate m 0)) sh.states off);
+  counted = sym (tally_zero (visited (replicate m false)) sh.states off);
   few = omega arith;
-  ends = λ i l e. clash (ordered_from hs (replicate m 0) i e) (off (from hs i) (ranged.from_in i l));
+  ends = λ i l e. clash (ordered_from hs (replicate m false) i e) (off (from hs i) (ranged.from_in i l));
   own = λ k l. absurd (not-suc-le-zero l);
-  every = λ i l e. clash (ordered_from hs (replicate m 0) i e) (off (from hs i) (ranged.from_in i l));
+  every = λ i l e. clash (ordered_from hs (replicate m false) i e) (off (from hs i) (ranged.from_in i l));
   order = λ j k l. absurd (not-suc-le-zero l);
 } where
-  off : (j : ℕ) → j < sh.states → visited (replicate m 0) j ≡ false
-  off j l = visited_no (replicate m 0) j (λ d. let z : ◌≡◌ {A = ℕ} 0 1 = sym (get_or-replicate m j 0 0 (omega arith)) ∙ d in omega arith)
+  off : (j : ℕ) → j < sh.states → visited (replicate m false) j ≡ false
+  off j l = get_or-replicate m j false false (omega arith)
 
-pub ordered_states : {hs : List ℕ} {n : ℕ} {placed sorted : List ℕ} {at : Counts} → OrderedSoFar hs n placed sorted at → at.states ≤ n
-ordered_states {n = n} {placed} x = omega (arith, x.counted, tally_within (visited placed) n)
+pub ordered_states : {hs : List ℕ} {n : ℕ} {sorted : List ℕ} {p : Progress} → OrderedSoFar hs n sorted p → p.states ≤ n
+ordered_states {n = n} {p = p} x = omega (arith, x.counted, tally_within (visited p.placed) n)
 
 -- one more state is placed, all of whose silent hops lead to placed states
-module _ {hs : List ℕ} {n : ℕ} {placed sorted : List ℕ} {at : Counts} (x : OrderedSoFar hs n placed sorted at) (v : ℕ) (l : v < n) (off : visited placed v ≡ false) where
-  abbrev after : List ℕ
-  after = set placed v 1
+module _ {hs : List ℕ} {n : ℕ} {sorted : List ℕ} {at : Progress} (x : OrderedSoFar hs n sorted at) (v : ℕ) (l : v < n) (off : visited at.placed v ≡ false) where
+  abbrev placed : List Bool
+  placed = at.placed
 
-  byte : v < length placed
-  byte = omega (arith, x.bytes)
+  abbrev after : List Bool
+  after = set placed v true
+
+  in_placed : v < length placed
+  in_placed = omega (arith, x.flags)
 
   still : (i : ℕ) → is_ordered hs placed i ≡ true → is_ordered hs after i ≡ true
-  still i e = ordered_yes hs after i (ordered_silent hs placed i e) (visited_set placed v (from hs i) byte (ordered_from hs placed i e))
+  still i e = ordered_yes hs after i (ordered_silent hs placed i e) (visited_set placed v (from hs i) in_placed (ordered_from hs placed i e))
 
   new : (i : ℕ) → labelled hs v 0 i ≡ true → is_ordered hs after i ≡ true
-  new i d = let (f, a) = labelled_parts hs v 0 i d in ordered_yes hs after i a (rw f (visited_set_same placed v byte))
+  new i d = let (f, a) = labelled_parts hs v 0 i d in ordered_yes hs after i a (rw f (visited_set_same placed v in_placed))
 
   back : (i : ℕ) → is_ordered hs after i ≡ true → (is_ordered hs placed i ≡ true) ⊎ (labelled hs v 0 i ≡ true)
   back i e =
@@ -106,13 +110,13 @@ module _ {hs : List ℕ} {n : ℕ} {placed sorted : List ℕ} {at : Counts} (x :
       go (inr c) (inl d) = omega arith
       go c (inr d) = clash (ap (visited placed) (sym (q ∙ (labelled_parts hs v 0 _ (p.own k d b).1).0)) ∙ leads_back j a) off
 
-    pub ordered_one : OrderedSoFar hs n after sorted' (record { states = at.states + 1; places = r })
+    pub ordered_one : OrderedSoFar hs n sorted' (record { placed = after; states = at.states + 1; places = r })
     ordered_one = record {
-      bytes = simp length-set x.bytes;
+      flags = simp length-set x.flags;
       capacity = rw p.long x.capacity;
-      counted = ap (λ (k : ℕ). k + 1) x.counted ∙ tally_one (visited placed) (visited after) n l off (visited_set_same placed v byte) (visited_set_other placed v);
+      counted = ap (λ (k : ℕ). k + 1) x.counted ∙ tally_one (visited placed) (visited after) n l off (visited_set_same placed v in_placed) (visited_set_other placed v);
       few = omega (arith, x.few, p.few, grown);
-      ends = λ i k d. visited_set placed v (to hs i) byte (⊎_elim (λ o. x.ends i k o) (λ o. ends_at hs placed v e (to hs i) (silent_here hs v i k o)) (back i d));
+      ends = λ i k d. visited_set placed v (to hs i) in_placed (⊎_elim (λ o. x.ends i k o) (λ o. ends_at hs placed v e (to hs i) (silent_here hs v i k o)) (back i d));
       own = λ k m. own k m (lt_or_le k at.places);
       every = λ i k d. every i k (back i d);
       order = ordered;
@@ -126,7 +130,7 @@ module _ {hs : List ℕ} {n : ℕ} {placed sorted : List ℕ} {at : Counts} (x :
       every i m (inr d) = let (k, a, b, q) = p.every i m d in (k, b, q)
 
 -- without rings all states are placed where each is placed or cannot be: by the rank
-module _ {sh : Shape} {hs : List ℕ} (ranged : InRange sh hs) (free : (ring_answer sh hs).number ≡ 0) (placed : List ℕ) (stuck : (u : ℕ) → u < sh.states → Stuck hs placed u) where
+module _ {sh : Shape} {hs : List ℕ} (ranged : InRange sh hs) (free : (ring_answer sh hs).number ≡ 0) (placed : List Bool) (stuck : (u : ℕ) → u < sh.states → Stuck hs placed u) where
   low : (b u : ℕ) → u < sh.states → rank sh hs u < b → visited placed u ≡ true
   unfolding ends_visited
   low zero u l h = absurd (not-suc-le-zero h)
@@ -141,68 +145,37 @@ module _ {sh : Shape} {hs : List ℕ} (ranged : InRange sh hs) (free : (ring_ans
   pub stuck_all : (u : ℕ) → u < sh.states → visited placed u ≡ true
   stuck_all u l = low (suc (rank sh hs u)) u l (omega arith)
 
--- v was tried, and nothing was done
-module _ (hs placed : List ℕ) (v m : ℕ) where
-  pub placed_or_stuck_placed : visited placed v ≡ true → PlacedOrStuck hs (OnlyState v) placed m placed m
-  placed_or_stuck_placed e = none refl refl (λ u q d. rw q e)
+-- v was tried, and is placed already
+pub placed_or_stuck_placed : (hs : List ℕ) (p : Progress) (v : ℕ) → visited p.placed v ≡ true → PlacedOrStuck hs (OnlyState v) p p
+placed_or_stuck_placed hs p v e = none refl refl (λ u q d. rw q e)
 
-  pub placed_or_stuck_unready : ends_visited hs placed v ≡ false → PlacedOrStuck hs (OnlyState v) placed m placed m
-  placed_or_stuck_unready e = none refl refl (λ u q d. clash (rw q at d) e)
+-- a pass downward has come to v, and a pass upward: the states that it has tried
+abbrev pub From : ℕ → ℕ → ℕ → Type 0
+From n v u = (v ≤ u) × (u < n)
 
--- tries one after the other
-pub placed_or_stuck_join : {hs : List ℕ} {W X Y : ℕ → Type 0} {a b c : List ℕ} {m m' m'' : ℕ} → ((u : ℕ) → Y u → W u ⊎ X u) → PlacedOrStuck hs W a m b m' → PlacedOrStuck hs X b m' c m'' →
-    PlacedOrStuck hs Y a m c m''
-placed_or_stuck_join h (more k) (more l) = more (omega arith)
-placed_or_stuck_join h (more k) (none q d g) = more (omega arith)
-placed_or_stuck_join h (none p e f) (more l) = more (omega arith)
-placed_or_stuck_join {hs} h (none p e f) (none q d g) = none (q ∙ p) (d ∙ e) (λ u x. ⊎_elim (f u) (λ w. subst (λ (l : List ℕ). Stuck hs l u) p (g u w)) (h u x))
-
--- a pass so far has tried the first k states, in its order
-abbrev pub PassState : ℕ → Bool → ℕ → ℕ → Type 0
-PassState n down k u = (j : ℕ) × (j < k) × (u ≡ pass_state n down j)
-
-pub placed_or_stuck_none : (hs : List ℕ) (n : ℕ) (down : Bool) (placed : List ℕ) (m : ℕ) → PlacedOrStuck hs (PassState n down 0) placed m placed m
-placed_or_stuck_none hs n down placed m = none refl refl (λ u (j, l, q). absurd (not-suc-le-zero l))
-
-pub placed_or_stuck_more : {hs : List ℕ} (n : ℕ) (down : Bool) {a b c : List ℕ} {m m' m'' : ℕ} (k : ℕ) {v : ℕ} → v ≡ pass_state n down k → PlacedOrStuck hs (PassState n down k) a m b m' →
-    PlacedOrStuck hs (OnlyState v) b m' c m'' → PlacedOrStuck hs (PassState n down (k + 1)) a m c m''
-placed_or_stuck_more n down k {v} e x y = placed_or_stuck_join (λ u (j, l, q). go u j l q (lt_or_le j k)) x y where
-  go : (u j : ℕ) → j < k + 1 → u ≡ pass_state n down j → (j < k) ⊎ (k ≤ j) → PassState n down k u ⊎ OnlyState v u
-  go u j l q (inl h) = inl (j, h, q)
-  go u j l q (inr h) = let d : j ≡ k = omega arith in inr (q ∙ (ap (pass_state n down) d ∙ sym e))
-
-pub pass_state_below : (n : ℕ) (down : Bool) {k v : ℕ} → v ≡ pass_state n down k → k < n → v < n
-pass_state_below n true e l = omega arith
-pass_state_below n false e l = omega arith
-
--- every state is tried
-pass_state_back : (n : ℕ) (down : Bool) (u : ℕ) → u < n → (j : ℕ) × (j < n) × (u ≡ pass_state n down j)
-pass_state_back n true u l = (n - 1 - u, omega arith, omega arith)
-pass_state_back n false u l = (u, l, refl)
+abbrev pub Below : ℕ → ℕ → Type 0
+Below v u = u < v
 
 -- a whole pass
-pub pass_more : {sh : Shape} {hs placed sorted : List ℕ} {at : Counts} {placed' : List ℕ} {m : ℕ} → InRange sh hs → (ring_answer sh hs).number ≡ 0 →
-    OrderedSoFar hs sh.states placed sorted at → (down : Bool) {k : ℕ} → PlacedOrStuck hs (PassState sh.states down k) placed at.states placed' m → sh.states ≤ k →
-    at.states < sh.states → at.states < m
-pass_more ranged free x down (more h) w l = h
-pass_more {sh} {hs} {placed} ranged free x down (none q c f) w l =
-    absurd (omega (arith, x.counted, tally_full (visited placed) sh.states (stuck_all ranged free placed each))) where
-      each : (u : ℕ) → u < sh.states → Stuck hs placed u
-      each u m = let (j, h, e) = pass_state_back sh.states down u m in f u (j, omega arith, e)
+pub pass_more : {sh : Shape} {hs sorted : List ℕ} {p p' : Progress} → InRange sh hs → (ring_answer sh hs).number ≡ 0 → OrderedSoFar hs sh.states sorted p →
+    {W : ℕ → Type 0} → PlacedOrStuck hs W p p' → ((u : ℕ) → u < sh.states → W u) → p.states < sh.states → p.states < p'.states
+pass_more ranged free x (more h) w l = h
+pass_more {sh} {hs} {p = p} ranged free x (none q c f) w l =
+    absurd (omega (arith, x.counted, tally_full (visited p.placed) sh.states (stuck_all ranged free p.placed (λ u m. f u (w u m)))))
 
 -- all states are placed: the order is whole
-pub ordered_whole : {sh : Shape} {hs placed sorted : List ℕ} {at : Counts} → InRange sh hs → OrderedSoFar hs sh.states placed sorted at → sh.states ≤ at.states →
-    TopologicalOrder hs sorted at.places
-ordered_whole {sh} {hs} {placed} {sorted} {at} ranged x w = record {
-  capacity = omega (arith, x.few, tally_within (is_ordered hs placed) (count hs), x.capacity);
+pub ordered_whole : {sh : Shape} {hs sorted : List ℕ} {p : Progress} → InRange sh hs → OrderedSoFar hs sh.states sorted p → sh.states ≤ p.states →
+    TopologicalOrder hs sorted p.places
+ordered_whole {sh} {hs} {sorted} {p} ranged x w = record {
+  capacity = omega (arith, x.few, tally_within (is_ordered hs p.placed) (count hs), x.capacity);
   within = λ k l. (x.own k l).0;
-  silent = λ k l. ordered_silent hs placed (get_or sorted k 0) (x.own k l).1;
-  every = λ i l q. x.every i l (ordered_yes hs placed i q (all_placed (from hs i) (ranged.from_in i l)));
+  silent = λ k l. ordered_silent hs p.placed (get_or sorted k 0) (x.own k l).1;
+  every = λ i l q. x.every i l (ordered_yes hs p.placed i q (all_placed (from hs i) (ranged.from_in i l)));
   order = x.order;
 } where
-  all_placed : (t : ℕ) → t < sh.states → visited placed t ≡ true
-  all_placed t l = go (decided (visited placed t)) where
-    go : (visited placed t ≡ true) ⊎ (visited placed t ≡ false) → visited placed t ≡ true
+  all_placed : (t : ℕ) → t < sh.states → visited p.placed t ≡ true
+  all_placed t l = go (decided (visited p.placed t)) where
+    go : (visited p.placed t ≡ true) ⊎ (visited p.placed t ≡ false) → visited p.placed t ≡ true
     go (inl e) = e
     go (inr e) =
-        absurd (omega (arith, x.counted, tally_less (visited placed) (λ (j : ℕ). true) sh.states (λ j k d. refl) l e refl, tally_within (λ (j : ℕ). true) sh.states))
+        absurd (omega (arith, x.counted, tally_less (visited p.placed) (λ (j : ℕ). true) sh.states (λ j k d. refl) l e refl, tally_within (λ (j : ℕ). true) sh.states))

@@ -5,53 +5,38 @@
 // Uses `report_entry` for the report.
 #![tactic(auto)]
 
-ghost use Rattle.std.specs.Prelude.{◌≤◌, length};
+ghost use Rattle.std.specs.Prelude.{◌≤◌, length, IfOk};
 
 use report_entry::print::{MOST_INPUT, MOST_TEXT, print_file};
+use std::io;
 use std::io::Read;
 
-// What came of reading: how many bytes were taken, and whether a read failed before the end of the
-// input was seen.
-#[derive(Clone, Copy)]
-struct Input {
-    taken: usize,
-    failed: bool,
-}
-
-// Reads until the buffer is full, the input ends or a read fails. A read may take fewer bytes than
-// the buffer has left, as from a pipe, and only one that takes none is the end. A read that a
-// signal interrupted counts as one that failed; the program catches no signal.
-fn read_input(reader: &mut impl Read, buffer: &mut [u8]) -> Input
-    ensures { result.taken ≤ length buffer.new }
+// Reads until the buffer is full, the input ends or a read fails; how many bytes were taken. A read
+// may take fewer bytes than the buffer has left, as from a pipe, and only one that takes none is
+// the end. A read that a signal interrupted counts as one that failed; the program catches no
+// signal.
+fn read_input(reader: &mut impl Read, buffer: &mut [u8]) -> io::Result<usize>
+    ensures { IfOk result (λ taken. taken ≤ length buffer.new) }
 {
     let mut taken = 0;
+    // `while`: each read says how far it went.
     while taken < buffer.len() {
-        let Ok(more) = reader.read(&mut buffer[taken..]) else {
-            return Input {
-                taken,
-                failed: true,
-            };
-        };
+        let more = reader.read(&mut buffer[taken..])?;
         if more == 0 {
             break;
         }
         taken += more;
     }
-    Input {
-        taken,
-        failed: false,
-    }
+    Ok(taken)
 }
 
 fn main(rt: HostRuntime) {
     // one byte past the longest input that is looked at, which is enough to know that there is more
     let mut file = [0u8; MOST_INPUT + 1];
-    let input = read_input(&mut rt.stdin(), &mut file);
-    if input.failed {
+    let Ok(n) = read_input(&mut rt.stdin(), &mut file) else {
         let _ = eprintln!(rt; "zundrafipo: standard input could not be read");
         return;
-    }
-    let n = input.taken;
+    };
     let mut out = [0u8; MOST_TEXT];
     let length = print_file(&file[..n], &mut out);
     if rt.write_all(&out[..length]).is_err() {

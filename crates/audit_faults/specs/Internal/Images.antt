@@ -1,5 +1,6 @@
 -- Where the hops of graph 1 stand in graph 2 once they are mapped. Assumes nothing: these are
 -- definitions.
+use Rattle.std.specs.Prelude.{Result, Ok, Err}
 use Rattle.std.specs.Prelude.{ℕ, ◌<◌, ◌≡◌, List, length, get_or}
 use Rattle.graph.specs.Hops.{count, from, label, to, hop_of}
 use Rattle.graph.specs.Internal.Search.{placed}
@@ -7,8 +8,6 @@ use Rattle.graph.specs.Answers.{most_states, most_hops}
 use Rattle.graph.specs.Map.{mapped}
 use Rattle.graph.specs.declared.Hop.{Hop}
 use Rattle.graph.specs.declared.Shape.{Shape}
-use Rattle.graph.specs.declared.Found.{Found}
-use Rattle.graph.specs.declared.Found.TheVariants.{At, Gap}
 use Rattle.graph_check.specs.Check.{Admitted}
 use Rattle.graph_successors.specs.Internal.SuccessorIndex.{Indexable}
 
@@ -27,9 +26,9 @@ mapped_hop h1 m i = hop_of (mapped m (from h1 i)) (label h1 i) (mapped m (to h1 
 abbrev pub no_place : ℕ
 no_place = most_hops
 
-abbrev pub place_of : Found → ℕ
-place_of (At p) = p
-place_of (Gap p) = no_place
+abbrev pub place_of : Result ℕ ℕ → ℕ
+place_of (Ok p) = p
+place_of (Err p) = no_place
 
 -- where graph 2 has it
 unfoldable pub image_of : List ℕ → List ℕ → List ℕ → ℕ → ℕ

@@ -5,34 +5,24 @@ use Rattle.std.specs.Prelude.{ℕ, ◌<◌, ◌≡◌, Bool, cond, ◌&&◌, Lis
 use Rattle.base_bounded.specs.Quantifiers.{any}
 use Rattle.graph.specs.Hops.{count, from, label, to, is}
 use Rattle.graph.specs.Map.{mapped}
-use Rattle.graph.specs.declared.Shape.{Shape}
-use Rattle.graph_successors.specs.Internal.SuccessorIndex.{SuccessorIndex}
 use Rattle.walk_reach.specs.Internal.Frontier.{visited}
-use Rattle.audit_faults.specs.Internal.Images.{Auditable, Imaged}
-
--- what the stamping requires: the two graphs and the map, the first places of graph 1, and the
--- places of its hops in graph 2
-pub record StampInput (sh1 : Shape) (h1 st1 h2 m images : List ℕ) : Type 0 where
-  pub auditable : Auditable sh1 h1 h2 m
-  pub table : SuccessorIndex h1 st1
-  pub imaged : Imaged h1 h2 m images
 
 -- the hop at place i of graph 1 leaves a state that is visited, by `seen`, and whose map is r
-unfoldable pub seen_in_class : List ℕ → List ℕ → List ℕ → ℕ → ℕ → Bool
+unfoldable pub seen_in_class : List ℕ → List ℕ → List Bool → ℕ → ℕ → Bool
 seen_in_class h1 m seen r i = visited seen (from h1 i) && eqb (mapped m (from h1 i)) r
 
 -- .. and it is the hop at place j of graph 2
-unfoldable pub stamps_hop : List ℕ → List ℕ → List ℕ → List ℕ → ℕ → ℕ → ℕ → Bool
+unfoldable pub stamps_hop : List ℕ → List ℕ → List ℕ → List Bool → ℕ → ℕ → ℕ → Bool
 stamps_hop h1 h2 m seen r j i = seen_in_class h1 m seen r i && is h2 r (label h1 i) (mapped m (to h1 i)) j
 
 -- after the first n hops of graph 1 the stamp k stands at the places that they stamp, and every
 -- other stamp is as it was
-unfoldable pub StampedUpTo : List ℕ → List ℕ → List ℕ → List ℕ → ℕ → ℕ → ℕ → List ℕ → List ℕ → Type 0
+unfoldable pub StampedUpTo : List ℕ → List ℕ → List ℕ → List Bool → ℕ → ℕ → ℕ → List ℕ → List ℕ → Type 0
 StampedUpTo h1 h2 m seen r k n before after =
     (j : ℕ) → j < count h2 → get_or after j 0 ≡ cond (any n (stamps_hop h1 h2 m seen r j)) k (get_or before j 0)
 
 -- what the hops of graph 1 from place lo up to hi do: if the stamps before are those of all hops
 -- before lo, the stamps after are those of all hops before hi
-unfoldable pub StampedFrom : List ℕ → List ℕ → List ℕ → List ℕ → ℕ → ℕ → ℕ → ℕ → List ℕ → List ℕ → Type 0
+unfoldable pub StampedFrom : List ℕ → List ℕ → List ℕ → List Bool → ℕ → ℕ → ℕ → ℕ → List ℕ → List ℕ → Type 0
 StampedFrom h1 h2 m seen r k lo hi before after =
     (first : List ℕ) → StampedUpTo h1 h2 m seen r k lo first before → StampedUpTo h1 h2 m seen r k hi first after

@@ -13,7 +13,3 @@ bit_in ws s b = bit_at (get_or ws s 0) b
 -- how many bits a word has
 abbrev pub word_bits : ℕ
 word_bits = 64
-
--- and how many words a table
-abbrev pub table_words : ℕ
-table_words = 1024

@@ -3,5 +3,5 @@
 use Rattle.std.specs.Prelude.{ℕ, ◌+◌, List, ◌++◌, length, take, drop}
 
 -- the list new from place `at` on, and around it what was there
-abbrev pub over_at : ℕ → List ℕ → List ℕ → List ℕ
+abbrev pub over_at : {A : Type 0} → ℕ → List A → List A → List A
 over_at at new old = take at old ++ (new ++ drop (at + length new) old)

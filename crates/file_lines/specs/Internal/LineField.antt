@@ -1,9 +1,9 @@
 -- What only private functions and proofs cite beside `LineField`. Assumes nothing: this is a
 -- definition.
-use Rattle.std.specs.Prelude.{ℕ, ◌≤◌, ◌≡◌, true, List, length}
-use Rattle.file_lines.specs.declared.Lines.{Lines}
+use Rattle.std.specs.Prelude.{ℕ, ◌≤◌, List, Option, Some, None, length}
 use Rattle.file_lines.specs.LineField.{line_place}
 
 -- the first n lines of the list, if there is one, lie within the bytes
-abbrev pub LinesLie : List ℕ → Lines → ℕ → Type 0
-LinesLie b ls n = ls.stand ≡ true → line_place ls.at n ≤ length b
+abbrev pub LinesLie : List ℕ → Option ℕ → ℕ → Type 0
+LinesLie b None n = Unit {0}
+LinesLie b (Some at) n = line_place at n ≤ length b

@@ -2,8 +2,8 @@
 -- definitions.
 use Rattle.std.specs.Prelude.{ℕ, ◌+◌, ◌*◌, ◌<◌, ◌≤◌, ◌≡◌, true, List, length, get_or}
 use Rattle.file_numbers.specs.Numbers.{number_at}
-use Rattle.file_name_order.specs.declared.Order.{Order}
-use Rattle.file_name_order.specs.declared.Order.TheVariants.{Before, Same, After}
+use Rattle.std.specs.declared.cmp.Ordering.{Ordering}
+use Rattle.std.specs.declared.cmp.Ordering.TheVariants.{Less, Equal, Greater}
 use Rattle.file_name_order.specs.Pair.{same_name}
 
 -- the name with its length byte at p lies in the block
@@ -27,7 +27,7 @@ pub record NameBefore (ns : List ℕ) (p q : ℕ) : Type 0 where
   pub less : get_or ns (p + first) 0 < get_or ns (q + first) 0
 
 -- what a comparison of the names at p and q says
-abbrev pub Compared : List ℕ → ℕ → ℕ → Order → Type 0
-Compared ns p q Before = NameBefore ns p q
-Compared ns p q Same = same_name ns p q ≡ true
-Compared ns p q After = NameBefore ns q p
+abbrev pub Compared : List ℕ → ℕ → ℕ → Ordering → Type 0
+Compared ns p q Less = NameBefore ns p q
+Compared ns p q Equal = same_name ns p q ≡ true
+Compared ns p q Greater = NameBefore ns q p

@@ -2,7 +2,7 @@
 -- definitions.
 use Rattle.std.specs.Prelude.{ℕ, zero, suc, ◌+◌, List, [], ◌∷◌, ◌++◌, length, set, drop}
 use Rattle.graph.specs.declared.Hop.{Hop}
-use Rattle.graph.specs.Hops.{flat, from, hop_at, hop_of, label, number_place, to}
+use Rattle.graph.specs.Hops.{flat, hop_at, hop_of, number_place}
 
 -- what stands past the end of a list of hops
 abbrev pub no_hop : Hop

@@ -1,11 +1,9 @@
 -- What only private functions and proofs cite beside `Search`. Assumes nothing: these are
 -- definitions.
-use Rattle.std.specs.Prelude.{ℕ, ◌+◌, ◌<◌, ◌≤◌, ◌≡◌, Bool, true, false, ◌&&◌, List, ltb}
+use Rattle.std.specs.Prelude.{ℕ, ◌+◌, ◌<◌, ◌≤◌, ◌≡◌, Bool, true, false, ◌&&◌, List, ltb, Result, Ok, Err}
 use Rattle.graph.specs.Hops.{count, hop_of, hop_at, is}
 use Rattle.graph.specs.Order.{before}
 use Rattle.graph.specs.declared.Hop.{Hop}
-use Rattle.graph.specs.declared.Found.{Found}
-use Rattle.graph.specs.declared.Found.TheVariants.{At, Gap}
 use Rattle.graph.specs.Search.{lower}
 
 -- what is known of a search between the places lo and hi: the hops below lo are before h, and those
@@ -20,23 +18,23 @@ pub record Bracket (hs : List ℕ) (h : Hop) (lo hi : ℕ) : Type 0 where
 unfoldable pub AbsentFrom : List ℕ → Hop → ℕ → Type 0
 AbsentFrom hs h p = (j : ℕ) → p ≤ j → j < count hs → is hs h.from h.label h.to j ≡ false
 
-abbrev pub found : Bool → ℕ → Found
-found true i = At i
-found false i = Gap i
+abbrev pub found : Bool → ℕ → Result ℕ ℕ
+found true i = Ok i
+found false i = Err i
 
--- At: h stands at that place; Gap: it does not, and would stand there
-unfoldable pub placed : List ℕ → Hop → Found
+-- Ok: h stands at that place; Err: it does not, and would stand there
+unfoldable pub placed : List ℕ → Hop → Result ℕ ℕ
 placed hs h = found (ltb (lower hs h) (count hs) && is hs h.from h.label h.to (lower hs h)) (lower hs h)
 
 -- whether a search found the hop
-abbrev pub is_at : Found → Bool
-is_at (At i) = true
-is_at (Gap i) = false
+abbrev pub is_at : Result ℕ ℕ → Bool
+is_at (Ok i) = true
+is_at (Err i) = false
 
 -- the place that it came to
-abbrev pub found_place : Found → ℕ
-found_place (At i) = i
-found_place (Gap i) = i
+abbrev pub found_place : Result ℕ ℕ → ℕ
+found_place (Ok i) = i
+found_place (Err i) = i
 
 -- the places of its hops labelled a
 unfoldable pub labelled_from : List ℕ → ℕ → ℕ → ℕ

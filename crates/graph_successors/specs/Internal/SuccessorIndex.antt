@@ -1,12 +1,10 @@
 -- The successor index: the table of first places, by which a state's hops are found. Assumes
 -- nothing: these are definitions.
-use Rattle.std.specs.Prelude.{ℕ, ◌<◌, ◌≤◌, ◌≡◌, List, length, get_or}
+use Rattle.std.specs.Prelude.{ℕ, ◌<◌, ◌≤◌, ◌≡◌, List, get_or}
 use Rattle.graph.specs.Hops.{count, from, to}
 use Rattle.graph.specs.Order.{Ascending}
 use Rattle.graph.specs.Search.{first_of}
 use Rattle.graph.specs.Answers.{most_states, most_hops}
-use Rattle.graph_check.specs.Check.{Admitted}
-use Rattle.graph.specs.declared.Shape.{Shape}
 
 -- the table of first places, one for each state that can be and one past the last
 unfoldable pub SuccessorIndex : List ℕ → List ℕ → Type 0
@@ -19,14 +17,3 @@ pub record Indexable (hs : List ℕ) : Type 0 where
   pub hops_most : count hs ≤ most_hops
   pub from_in : (i : ℕ) → i < count hs → from hs i < most_states
   pub to_in : (i : ℕ) → i < count hs → to hs i < most_states
-
--- an admitted graph and its table
-pub record Indexed (sh : Shape) (hs st : List ℕ) : Type 0 where
-  pub admitted : Admitted sh hs
-  pub table : SuccessorIndex hs st
-
--- what a test of marks stands on: a hop list, its table, and a mark for each hop
-pub record MarkInput (hs st ms : List ℕ) : Type 0 where
-  pub ready : Indexable hs
-  pub table : SuccessorIndex hs st
-  pub capacity : count hs ≤ length ms

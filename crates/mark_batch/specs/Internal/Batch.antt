@@ -2,10 +2,6 @@
 -- them. Assumes nothing: these are definitions.
 use Rattle.std.specs.Prelude.{ℕ, ◌<◌, ◌≤◌, ◌≡◌, true, List}
 use Rattle.graph.specs.Hops.{count, from, label, to}
-use Rattle.graph.specs.declared.Shape.{Shape}
-use Rattle.graph_check.specs.Check.{Admitted}
-use Rattle.graph_successors.specs.Internal.SuccessorIndex.{Indexable}
-use Rattle.walk_topological_order.specs.Internal.TopologicalOrder.{TopologicalOrder}
 use Rattle.lts.specs.Closes.{Sense, Answered}
 use Rattle.walk_silent.specs.Silent.{HopOf}
 use Rattle.base_fixpoint.specs.Pairs.{In}
@@ -24,9 +20,3 @@ TriedIn sense hs lo hi ms =
 -- nothing is known of the marks
 abbrev pub NothingKnown : List ℕ → Type 0
 NothingKnown ms = Unit {0}
-
--- what a sweep needs: an admitted graph, and its silent hops in topological order
-pub record SweepInput (sh : Shape) (hs sorted : List ℕ) (n : ℕ) : Type 0 where
-  pub admitted : Admitted sh hs
-  pub ready : Indexable hs
-  pub ordered : TopologicalOrder hs sorted n

@@ -1,17 +1,8 @@
 -- A batch of hops tried together, as bitsets: bit b of a word stands for the hop at place base + b,
 -- for b below m. Assumes nothing: these are definitions.
 use Rattle.std.specs.Prelude.{ℕ, ◌+◌, ◌≡◌, true, ◌&&◌, List, ◌⊎◌, ◌↔◌, eqb, ltb}
-use Rattle.graph.specs.Hops.{from, label, to}
 use Rattle.walk_silent.specs.Silent.{HopOf}
 use Rattle.base_bitset.specs.Internal.Bits.{bit_in}
-use Rattle.mark_batch_tables.specs.declared.Key.{Key}
-use Rattle.mark_batch_tables.specs.declared.Key.TheVariants.{From, Label, To}
-
--- the number of the hop at a place that is its key
-abbrev pub number_by : Key → List ℕ → ℕ → ℕ
-number_by From = from
-number_by Label = label
-number_by To = to
 
 -- the table has bit b where the key of the hop at place base + b says, and nowhere else
 abbrev pub KeyTable : (ℕ → ℕ) → ℕ → ℕ → List ℕ → Type 0

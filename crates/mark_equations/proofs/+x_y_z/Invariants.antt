@@ -1,9 +1,9 @@
 -- One measure falls with each call: three times the rounds left, and what is left of the round. X's
 -- loop has passed only hops that are answered, Y's only hops that do not close; the table stays
 -- right.
-use Rattle.std.proofs.Common.{◌≡◌, ℕ, ◌+◌, ◌-◌, ◌*◌, ◌≤◌, length, true, false}
+use Rattle.std.proofs.Common.{◌≡◌, ℕ, ◌+◌, ◌-◌, ◌*◌, true, false}
 use Rattle.graph.specs.Hops.{from, to}
-use Rattle.graph.specs.Search.{first_of, past_of}
+use Rattle.graph.specs.Search.{first_of}
 use Rattle.graph.specs.Internal.Search.{labelled_from}
 use Rattle.mark_confluence.specs.Rounds.{closing, survives}
 use Rattle.mark_confluence.specs.Internal.Rounds.{answered}
@@ -23,24 +23,13 @@ decreases-z l = 3 * l.k + 1
 abbrev pub invariant-x-loop-j : goal.invariant-x-loop-j
 invariant-x-loop-j l =
     record {
-      past_is : l.past ≡ past_of l.hops (from l.hops l.i);
-      first_below : first_of l.hops (from l.hops l.i) ≤ l.j;
-      all_answered : Through (λ (q : ℕ). answered l.hops (survives l.hops (l.k - 1)) l.s2.0 q ≡ true) (first_of l.hops (from l.hops l.i)) l.j;
-      right : Right l.hops l.known;
-      as_long : length l.known ≡ length l.initial.known;
+      all_answered : Through (λ (q : ℕ). answered l.index.hops.now (survives l.index.hops.now (l.k - 1)) l.s2.0 q ≡ true) (first_of l.index.hops.now (from l.index.hops.now l.i)) l.j;
+      right : Right l.index.hops.now l.known;
     }
-
-abbrev pub decreases-x-loop-j : goal.decreases-x-loop-j
-decreases-x-loop-j l = l.past - l.j
 
 abbrev pub invariant-y-loop-j : goal.invariant-y-loop-j
 invariant-y-loop-j l =
     record {
-      first_below : labelled_from l.hops l.s2.0 l.a.0 ≤ l.j;
-      none_closes : Through (λ (q : ℕ). closing (survives l.hops l.k) l.s3.0 (to l.hops q) ≡ false) (labelled_from l.hops l.s2.0 l.a.0) l.j;
-      right : Right l.hops l.known;
-      as_long : length l.known ≡ length l.initial.known;
+      none_closes : Through (λ (q : ℕ). closing (survives l.index.hops.now l.k) l.s3.0 (to l.index.hops.now q) ≡ false) (labelled_from l.index.hops.now l.s2.0 l.a.0) l.j;
+      right : Right l.index.hops.now l.known;
     }
-
-abbrev pub decreases-y-loop-j : goal.decreases-y-loop-j
-decreases-y-loop-j l = l.past - l.j

@@ -1,16 +1,12 @@
 -- The worklist: the queue of the hops that the next round tests, and what is pushed on it for a hop
 -- that fell. No contract of an entry cites this. Assumes nothing: these are definitions.
-use Rattle.std.specs.Prelude.{ℕ, ◌<◌, ◌≤◌, ◌≡◌, Bool, true, false, List, ◌⊎◌, length, get_or}
+use Rattle.std.specs.Prelude.{ℕ, ◌<◌, ◌≤◌, ◌≡◌, Bool, true, false, List, ◌⊎◌, length, get_or, take, All, Contains}
 use Rattle.base_bounded.specs.Quantifiers.{tally}
 use Rattle.graph.specs.Hops.{count, from, label, to, has}
-use Rattle.graph_successors.specs.Internal.SuccessorIndex.{MarkInput}
 use Rattle.graph_predecessors.specs.Internal.PredecessorIndex.{PredecessorStarts, PredecessorPlaces}
 use Rattle.mark_confluence.specs.Rounds.{FirstPoint}
 use Rattle.mark_confluence.specs.Internal.MarkSet.{is_marked}
-
--- i is one of the first n elements of xs
-abbrev pub Among : List ℕ → ℕ → ℕ → Type 0
-Among xs n i = (k : ℕ) × (k < n) × (get_or xs k 0 ≡ i)
+use Rattle.mark_worklist_push.specs.declared.Worklist.{Worklist}
 
 -- the tables of a hop list by which the hops into a state are found: where they begin, and their
 -- places
@@ -18,28 +14,30 @@ pub record Tables (hs bs ps : List ℕ) : Type 0 where
   pub begins : PredecessorStarts hs bs
   pub filled : PredecessorPlaces hs (count hs) ps
 
--- the states that a marked hop leaves have their byte: none leaves another
-unfoldable pub Leaving : List ℕ → List ℕ → List ℕ → Type 0
-Leaving hs ms ls = (i : ℕ) → i < count hs → is_marked ms i ≡ true → is_marked ls (from hs i) ≡ true
+-- the flag at place i is set
+abbrev pub is_set : List Bool → ℕ → Bool
+is_set fs i = get_or fs i false
 
--- the queue is the first n of qs: places of hops, each once, and just those whose flag in fs is 1
-pub record Queue (hs fs qs : List ℕ) (n : ℕ) : Type 0 where
-  pub flags : count hs ≤ length fs
-  pub capacity : count hs ≤ length qs
-  pub counted : n ≡ tally (count hs) (is_marked fs)
-  pub each : (k : ℕ) → k < n → (get_or qs k 0 < count hs) × (is_marked fs (get_or qs k 0) ≡ true)
-  pub all : (i : ℕ) → i < count hs → is_marked fs i ≡ true → Among qs n i
+-- the states that a marked hop leaves are flagged: none leaves another
+unfoldable pub Leaving : List ℕ → List ℕ → List Bool → Type 0
+Leaving hs ms ls = (i : ℕ) → i < count hs → is_marked ms i ≡ true → is_set ls (from hs i) ≡ true
 
--- what pushing stands on: a hop list with its table and its marks, and the queue
-pub record PushInput (hs st ms fs qs : List ℕ) (n : ℕ) : Type 0 where
-  pub given : MarkInput hs st ms
-  pub queue : Queue hs fs qs n
+-- the queue of a worklist
+abbrev pub queued : Worklist → List ℕ
+queued w = take w.len w.places.now
 
--- the same, with the tables that lead from a fallen hop to the hops to push
-pub record NextInput (hs st bs ps ls ms fs qs : List ℕ) (n : ℕ) : Type 0 where
-  pub push : PushInput hs st ms fs qs n
-  pub tables : Tables hs bs ps
-  pub leaving : Leaving hs ms ls
+-- the queue is places of hops, each once, and just those whose flag is set
+pub record Queue (hs : List ℕ) (w : Worklist) : Type 0 where
+  pub flags : count hs ≤ length w.flags.now
+  pub capacity : count hs ≤ length w.places.now
+  pub counted : w.len ≡ tally (count hs) (is_set w.flags.now)
+  pub each : All (λ i. (i < count hs) × (is_set w.flags.now i ≡ true)) (queued w)
+  pub all : (i : ℕ) → i < count hs → is_set w.flags.now i ≡ true → Contains (queued w) i
+
+-- the arrays of a worklist are those of another
+pub record SameArrays (old new : Worklist) : Type 0 where
+  pub flags : new.flags.ghost_name ≡ old.flags.ghost_name
+  pub places : new.places.ghost_name ≡ old.places.ghost_name
 
 -- the hop at place i is silent, marked, and one of W
 pub record Wanted (hs ms : List ℕ) (W : ℕ → Type 0) (i : ℕ) : Type 0 where
@@ -47,12 +45,13 @@ pub record Wanted (hs ms : List ℕ) (W : ℕ → Type 0) (i : ℕ) : Type 0 whe
   pub marked : is_marked ms i ≡ true
   pub inside : W i
 
--- the wanted hops of W are pushed on the queue, which had the flags `old`, and no others
-pub record Pushed (hs ms : List ℕ) (W : ℕ → Type 0) (old new qs : List ℕ) (r : ℕ) : Type 0 where
-  pub queue : Queue hs new qs r
-  pub kept : (i : ℕ) → i < count hs → is_marked old i ≡ true → is_marked new i ≡ true
-  pub came : (i : ℕ) → i < count hs → is_marked new i ≡ true → (is_marked old i ≡ true) ⊎ Wanted hs ms W i
-  pub all : (i : ℕ) → i < count hs → Wanted hs ms W i → is_marked new i ≡ true
+-- the wanted hops of W are pushed on the queue, and no others
+pub record Pushed (hs ms : List ℕ) (W : ℕ → Type 0) (old new : Worklist) : Type 0 where
+  pub arrays : SameArrays old new
+  pub queue : Queue hs new
+  pub kept : (i : ℕ) → i < count hs → is_set old.flags.now i ≡ true → is_set new.flags.now i ≡ true
+  pub came : (i : ℕ) → i < count hs → is_set new.flags.now i ≡ true → (is_set old.flags.now i ≡ true) ⊎ Wanted hs ms W i
+  pub all : (i : ℕ) → i < count hs → Wanted hs ms W i → is_set new.flags.now i ≡ true
 
 -- the place i alone
 abbrev pub OnlyPlace : ℕ → ℕ → Type 0
@@ -81,9 +80,9 @@ Trying hs j p x = (from hs x ≡ from hs j) × FirstPoint hs (to hs x) (label hs
 abbrev pub ClosedBy : List ℕ → ℕ → ℕ → Type 0
 ClosedBy hs p x = (a : ℕ) × (has hs (from hs x) a (from hs p) ≡ true) × FirstPoint hs (to hs x) a (to hs p)
 
--- the same for one of the hops whose places are the first n of ps
-abbrev pub ClosedByAny : List ℕ → List ℕ → ℕ → ℕ → Type 0
-ClosedByAny hs ps n x = (p : ℕ) × Among ps n p × ClosedBy hs p x
+-- the same for one of the hops at the places ps
+abbrev pub ClosedByAny : List ℕ → List ℕ → ℕ → Type 0
+ClosedByAny hs ps x = (p : ℕ) × Contains ps p × ClosedBy hs p x
 
 -- the place i alone, if the end of the hop at place p is an s4 of its end for the label of the hop
 -- at place j
@@ -95,10 +94,10 @@ pub record DecidesPoint (hs : List ℕ) (s2 a s4 : ℕ) (r : Bool) : Type 0 wher
   pub yes : r ≡ true → FirstPoint hs s2 a s4
   pub no : r ≡ false → FirstPoint hs s2 a s4 → ⊥
 
--- the first n of ps are places of hops
-abbrev pub PlacesBelow : List ℕ → List ℕ → ℕ → Type 0
-PlacesBelow hs ps n = (k : ℕ) → k < n → get_or ps k 0 < count hs
+-- ps are places of hops
+abbrev pub PlacesBelow : List ℕ → List ℕ → Type 0
+PlacesBelow hs ps = All (λ p. p < count hs) ps
 
 -- no flag is set
-unfoldable pub Unset : List ℕ → List ℕ → Type 0
-Unset hs fs = (i : ℕ) → i < count hs → is_marked fs i ≡ false
+unfoldable pub Unset : List ℕ → List Bool → Type 0
+Unset hs fs = (i : ℕ) → i < count hs → is_set fs i ≡ false

@@ -1,47 +1,47 @@
 -- The five parts stand one behind the other.
-use Rattle.std.proofs.Common.{refl}
-use Rattle.graph.specs.Hops.{count}
-use Rattle.report_rows.proofs.Parts.{capacity_in, capacity_marks, capacity_map, capacity_out, capacity_hops, report_put}
+use Rattle.report_text.proofs.Puts.{capacity_first, capacity_rest, written_then}
+use Rattle.report_rows.specs.Rows.{lines_of}
 use Rattle.report_rows.proofs.put_report.Goals as goal
 
-pub put_line-first-requires : goal.put_line-first-requires
-put_line-first-requires c =
-    let a = c.args in
-    let h = c.hop_count-count in
-    capacity_in a.shape a.hops.now a.marks.now a.map.now a.new a.short.now a.out.now h.result (count a.short.now) h.ensures refl c.requires.capacity
+pub put_line-requires : goal.put_line-requires
+unfolding lines_of
+put_line-requires c = rw c.hop_count.ensures (capacity_first _ _ c.requires.capacity)
 
-pub put_marks-second-requires-clause-capacity : goal.put_marks-second-requires-clause-capacity
-put_marks-second-requires-clause-capacity c =
-    let a = c.args in
-    let h = c.hop_count-count in
-    capacity_marks a.shape a.hops.now a.marks.now a.map.now a.new a.short.now a.out.now h.result (count a.short.now) h.ensures refl c.requires.capacity c.put_line-first.ensures
+pub put_marks-requires-clause-capacity : goal.put_marks-requires-clause-capacity
+unfolding lines_of
+put_marks-requires-clause-capacity c =
+    let w1 = rw c.hop_count.ensures at c.put_line.ensures in
+    capacity_first _ _ (capacity_rest _ _ c.requires.capacity w1)
 
-pub put_map-third-requires-clause-capacity : goal.put_map-third-requires-clause-capacity
-put_map-third-requires-clause-capacity c =
-    let a = c.args in
-    let h = c.hop_count-count in
-    capacity_map a.shape a.hops.now a.marks.now a.map.now a.new a.short.now a.out.now h.result (count a.short.now) h.ensures refl c.requires.capacity c.put_line-first.ensures c.put_marks-second.ensures
+pub put_map-requires-clause-capacity : goal.put_map-requires-clause-capacity
+unfolding lines_of
+put_map-requires-clause-capacity c =
+    let w1 = rw c.hop_count.ensures at c.put_line.ensures in
+    capacity_first _ _ (capacity_rest _ _ (capacity_rest _ _ c.requires.capacity w1) c.put_marks.ensures)
 
-pub put_line-fourth-requires : goal.put_line-fourth-requires
-put_line-fourth-requires c =
-    let a = c.args in
-    let h = c.hop_count-count in
-    let h2 = c.hop_count-short_count in
-    capacity_out a.shape a.hops.now a.marks.now a.map.now a.new a.short.now a.out.now h.result h2.result h.ensures h2.ensures c.requires.capacity
-    c.put_line-first.ensures c.put_marks-second.ensures c.put_map-third.ensures
+pub put_line-requires-2 : goal.put_line-requires-2
+unfolding lines_of
+put_line-requires-2 c =
+    let w1 = rw c.hop_count.ensures at c.put_line.ensures in
+    rw c.hop_count-2.ensures
+    (capacity_first _ _ (capacity_rest _ _ (capacity_rest _ _ (capacity_rest _ _ c.requires.capacity w1) c.put_marks.ensures) c.put_map.ensures))
 
 pub put_hops-requires : goal.put_hops-requires
+unfolding lines_of
 put_hops-requires c =
-    let a = c.args in
-    let h = c.hop_count-count in
-    let h2 = c.hop_count-short_count in
-    capacity_hops a.shape a.hops.now a.marks.now a.map.now a.new a.short.now a.out.now h.result h2.result h.ensures h2.ensures c.requires.capacity
-    c.put_line-first.ensures c.put_marks-second.ensures c.put_map-third.ensures c.put_line-fourth.ensures
+    let w1 = rw c.hop_count.ensures at c.put_line.ensures in
+    let w4 = rw c.hop_count-2.ensures at c.put_line-2.ensures in
+    capacity_rest _ _ (capacity_rest _ _ (capacity_rest _ _ (capacity_rest _ _ c.requires.capacity w1) c.put_marks.ensures) c.put_map.ensures) w4
 
 pub returns : goal.returns
+unfolding lines_of
 returns c =
-    let a = c.args in
-    let h = c.hop_count-count in
-    let h2 = c.hop_count-short_count in
-    report_put a.shape a.hops.now a.marks.now a.map.now a.new a.short.now a.out.now h.result h2.result h.ensures h2.ensures c.requires.capacity
-    c.put_line-first.ensures c.put_marks-second.ensures c.put_map-third.ensures c.put_line-fourth.ensures c.put_hops.ensures
+    let w1 = rw c.hop_count.ensures at c.put_line.ensures in
+    let w4 = rw c.hop_count-2.ensures at c.put_line-2.ensures in
+    let r1 = c.requires.capacity in
+    let r2 = capacity_rest _ _ r1 w1 in
+    let r3 = capacity_rest _ _ r2 c.put_marks.ensures in
+    let r4 = capacity_rest _ _ r3 c.put_map.ensures in
+    written_then _ _ r1 w1
+    (written_then _ _ r2 c.put_marks.ensures
+    (written_then _ _ r3 c.put_map.ensures (written_then _ _ r4 w4 c.put_hops.ensures)))

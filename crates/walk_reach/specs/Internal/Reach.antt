@@ -1,6 +1,6 @@
 -- What only private functions and proofs cite beside `Reach`. Assumes nothing: these are
 -- definitions.
-use Rattle.std.specs.Prelude.{ℕ, ◌<◌, ◌≡◌, Bool, true, List, get_or, eqb}
+use Rattle.std.specs.Prelude.{ℕ, ◌<◌, ◌≡◌, Bool, true, false, List, get_or}
 use Rattle.graph.specs.Hops.{count, from, to}
 
 -- a hop of the set c leads from s to t: the one at some place
@@ -11,10 +11,10 @@ pub record ChosenOf (hs : List ℕ) (c : ℕ → Bool) (s t : ℕ) : Type 0 wher
   pub chosen : c at ≡ true
   pub to_is : to hs at ≡ t
 
--- the set whose hops have byte 1
-unfoldable pub chosen_in : List ℕ → ℕ → Bool
-chosen_in bytes i = eqb (get_or bytes i 0) 1
+-- the set whose hops have the flag
+unfoldable pub chosen_in : List Bool → ℕ → Bool
+chosen_in flags i = get_or flags i false
 
--- the bytes are those of the set c
-unfoldable pub Chooses : List ℕ → (ℕ → Bool) → List ℕ → Type 0
-Chooses hs c bytes = (i : ℕ) → i < count hs → chosen_in bytes i ≡ c i
+-- the flags are those of the set c
+unfoldable pub Chooses : List ℕ → (ℕ → Bool) → List Bool → Type 0
+Chooses hs c flags = (i : ℕ) → i < count hs → chosen_in flags i ≡ c i

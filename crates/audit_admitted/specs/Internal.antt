@@ -1,0 +1,1 @@
+pub mod Outcome  -- the answer of what a check returned

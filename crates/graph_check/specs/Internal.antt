@@ -1,0 +1,2 @@
+pub mod Facts  -- that being admitted is a proposition
+pub mod Places  -- a place, where there is one

@@ -1,0 +1,8 @@
+-- What the rounds leave is document 01's marked set, which is that of sense 1. Assumes nothing.
+use Rattle.mark_senses.proofs.Marked.{marked_by_1}
+use Rattle.mark_entry.proofs.mark.mark_in.Goals as goal
+
+pub returns-in-R1 : goal.returns-in-R1
+returns-in-R1 c =
+    let g = c.args.graph in
+    rw (c.in-R1.is, marked_by_1 g.shape g.index.hops.now g.admitted.range) c.mark_rounds.ensures.writes

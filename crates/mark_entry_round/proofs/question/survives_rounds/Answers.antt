@@ -1,0 +1,17 @@
+-- An admitted graph has labels in their range, and a table of unknowns is right. Assumes nothing.
+use Rattle.std.proofs.Common.{◌+◌, ◌*◌, arith}
+use Rattle.std.proofs.lemmas.List.{length-replicate}
+use Rattle.graph.specs.Answers.{most_hops}
+use Rattle.mark_equations.specs.declared.Known.{Known}
+use Rattle.mark_equations.specs.declared.Known.TheVariants.{Unknown}
+use Rattle.mark_equations.proofs.Table.{nothing_said}
+use Rattle.mark_entry_round.specs.Question.{most_rounds}
+use Rattle.mark_entry_round.proofs.question.survives_rounds.Goals as goal
+
+pub x-requires-clause-prepared : goal.x-requires-clause-prepared
+x-requires-clause-prepared c =
+    record {
+      label_in = λ i l. omega (arith, c.requires.admitted.range.label_in i l, c.requires.admitted.labels_most);
+      capacity = omega (arith, length-replicate {A = Known} ((most_rounds + 1) * most_hops) Unknown);
+      right = nothing_said _ ((most_rounds + 1) * most_hops);
+    }

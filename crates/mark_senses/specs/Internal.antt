@@ -1,0 +1,1 @@
+pub mod Numbers  -- the number of a sense of the code, its condition, and what a number gives

@@ -1,0 +1,9 @@
+-- What the fallen hops passed close is pushed. Assumes nothing.
+use Rattle.std.proofs.Common.{take}
+use Rattle.mark_worklist_push.specs.Internal.Queue.{Pushed, ClosedByAny}
+use Rattle.mark_worklist_next.proofs.next_queue.Given as goal
+
+abbrev pub invariant-loop-p : goal.invariant-loop-p
+invariant-loop-p l =
+    Pushed l.graph.marked.index.hops.now l.graph.marked.marks.now
+    (ClosedByAny l.graph.marked.index.hops.now (take l.p-index l.fallen)) l.initial.worklist l.worklist

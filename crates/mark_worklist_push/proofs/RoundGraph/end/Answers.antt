@@ -1,0 +1,13 @@
+-- The hops into s end where those into the next state begin. Assumes nothing.
+use Rattle.std.proofs.Common.{arith, ◌+◌}
+use Rattle.base_bounded.proofs.Slots.{key_start_within}
+use Rattle.graph.specs.Hops.{count, to}
+use Rattle.mark_worklist_push.proofs.Walks.{begin_is}
+use Rattle.mark_worklist_push.proofs.RoundGraph.end.Goals as goal
+
+pub returns-clause-is_next : goal.returns-clause-is_next
+returns-clause-is_next c =
+    begin_is _ _ c.args.self.tables.begins (c.args.s + 1) (omega (arith, c.from.ensures)) (omega (arith, c.requires)) c.place_at.ensures
+
+pub returns-clause-within : goal.returns-clause-within
+returns-clause-within c = rw (returns-clause-is_next c) (key_start_within (to c.args.self.marked.index.hops.now) (count c.args.self.marked.index.hops.now) (c.args.s + 1))

@@ -1,0 +1,9 @@
+-- `reduce_entry::entry::mark_in` meets its contract: what the rounds leave is document 01's marked
+-- set, which is that of sense 1. Assumes nothing.
+use Rattle.mark_senses.proofs.Marked.{marked_by_1}
+use Rattle.reduce_entry.proofs.entry.mark_in.Goals as goal
+
+pub returns-in-R1 : goal.returns-in-R1
+returns-in-R1 c =
+    let g = c.args.graph in
+    rw (c.in-R1.is, marked_by_1 g.shape g.index.hops.now g.admitted.range) c.mark_rounds.ensures.writes

@@ -1,0 +1,1 @@
+pub mod Printed  -- what was printed, or was not since it is a refusal

@@ -1,0 +1,8 @@
+use Rattle.report_text.specs.Internal.Text.{TextWritten}
+use Rattle.base_outputs.specs.Concat.{concat}
+use Rattle.report_rows.specs.Rows.{hop_line}
+use Rattle.report_rows.proofs.put_hops.Given as goal
+
+-- the lines of the hops before the index stand there
+abbrev pub invariant-loop-i : goal.invariant-loop-i
+invariant-loop-i l = TextWritten l.fn.text (concat l.i (hop_line l.short)) l.text

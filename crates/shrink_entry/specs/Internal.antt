@@ -1,0 +1,1 @@
+pub mod Last  -- the last graph as the code returns it

@@ -1,1 +1,0 @@
-pub mod SilentBytes  -- the silent hops as bytes
