@@ -39,6 +39,7 @@ pub fn check_into(states: u32, labels: u32, initial: u32, hops: &[u16], answer: 
 }
 
 // Where the answer slice is too short, only the answer is found, and nothing is marked.
+#[tactic(auto, using(c_answer::proofs::AnswerAfter::outputs))]
 pub fn mark_into(
     states: u32,
     labels: u32,
@@ -72,6 +73,7 @@ pub fn mark_into(
 }
 
 // The same in sense 1, with the number of tests.
+#[tactic(auto, using(c_answer::proofs::AnswerAfter::outputs), unfolding(mark_entry_fast::specs::Fast::mark_fast_of))]
 pub fn mark_fast_into(
     states: u32,
     labels: u32,
@@ -103,6 +105,7 @@ pub fn mark_fast_into(
     put_figure_answer(answer, counted.answer, counted.tests as u64)
 }
 
+#[tactic(auto, unfolding(mark_entry_round::specs::Question::question_of))]
 pub fn round_into(
     states: u32,
     labels: u32,

@@ -23,15 +23,16 @@ fn put_reduction(out: &mut [u64], reduction: Reduction) -> u32
 {
     let shape = reduction.shape;
     let figures = [
-        shape.states as u64,
-        shape.labels as u64,
+        u64::from(shape.states),
+        u64::from(shape.labels),
         reduction.hops as u64,
-        shape.initial as u64,
+        u64::from(shape.initial),
     ];
     put_answer(out, reduction.answer, &figures)
 }
 
 // Where the answer slice is too short, only the answer is found, and nothing is reduced.
+#[tactic(auto, using(c_answer::proofs::AnswerAfter::outputs, crate::proofs::Results::reduced_answer))]
 pub fn reduce_into(
     states: u32,
     labels: u32,

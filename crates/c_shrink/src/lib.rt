@@ -25,16 +25,17 @@ fn put_shrinking(out: &mut [u64], shrinking: Shrinking) -> u32
 {
     let shape = shrinking.shape;
     let figures = [
-        shape.states as u64,
-        shape.labels as u64,
+        u64::from(shape.states),
+        u64::from(shape.labels),
         shrinking.hops as u64,
-        shape.initial as u64,
+        u64::from(shape.initial),
         shrinking.reductions as u64,
     ];
     put_answer(out, shrinking.answer, &figures)
 }
 
 // Where the answer slice is too short, only the answer is found, and nothing is reduced.
+#[tactic(auto, using(c_answer::proofs::AnswerAfter::outputs, crate::proofs::Results::shrunk_answer))]
 pub fn shrink_into(
     states: u32,
     labels: u32,

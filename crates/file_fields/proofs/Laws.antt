@@ -15,6 +15,7 @@ use Rattle.std.specs.Prelude.{Option}
 use mathlib.Core.Logic.{⊎_elim}
 use Rattle.base_bounded.proofs.Bools.{decided}
 use Rattle.file_hops.specs.Field.{field_length}
+use Rattle.file_hops.specs.Internal.Field.{HopsLie}
 use Rattle.file_hops.proofs.Field.{length_in_field, count_in_field}
 use Rattle.graph.specs.Hops.{number_place, count}
 use Rattle.file_fields.specs.Format.{hop_list_in, initial_place, has_initial, has_hops, has_names, has_lines, labels_in, initial_in, hops_place, hops_in, names_place, names_in, rest_of, lines_place, line_bytes_in, lines_in, needed_length, block_place, block_length}
@@ -105,6 +106,15 @@ module _ (b : List ℕ) where
   pub names_before_end : names_place b ≤ needed_length b
   unfolding needed_length lines_place
   names_before_end = omega arith
+
+  -- the hops lie before the names, and these before the file's end
+  pub hops_lie : needed_length b ≡ length b → {p n : ℕ} → p ≡ hops_place b → n ≡ hops_in b → HopsLie b p n
+  hops_lie l {p} {n} e d = ⊎_elim on off (decided (has_hops b)) where
+    on : has_hops b ≡ true → HopsLie b p n
+    on t i m = omega (arith, (hops_on t).1, names_before_end)
+
+    off : has_hops b ≡ false → HopsLie b p n
+    off t i m = absurd (omega (arith, (hops_off t).0))
 
   pub hops_before_names : hops_place b ≤ names_place b
   unfolding names_place

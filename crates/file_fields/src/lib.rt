@@ -13,7 +13,7 @@ ghost use Rattle.file_fields.specs.Internal.Field.{bit_of, has_field};
 ghost use Rattle.file_fields.specs.Format.{has_lines, initial_in, hops_place, hops_in, names_place, names_in};
 ghost use Rattle.file_fields.specs.Format.{lines_place, line_bytes_in, lines_in, needed_length, shape_in, block_place, block_length, redundant_bit};
 
-use file_hops::hops::field_length;
+use file_hops::hops::{HopField, field_length};
 use file_lines::{are_zero, lines_length};
 use file_numbers::{byte_at, number_at};
 use graph::Shape;
@@ -175,6 +175,22 @@ impl<'a> ExactFile<'a> {
             Some(self.lines_place())
         } else {
             None
+        }
+    }
+
+    // Its hops, with their lines.
+    pub fn hop_field(self) -> HopField<'a>
+        ensures file { result.file.now ≡ self.entry.bytes.now }
+        ensures at { result.at ≡ hops_place self.entry.bytes.now }
+        ensures lines { result.lines ≡ lines_in self.entry.bytes.now }
+        ensures hops { result.hops ≡ hops_in self.entry.bytes.now }
+    {
+        let file = self.bytes;
+        HopField {
+            file,
+            at: hops_place(file),
+            lines: self.lines_in(),
+            hops: usize::from(hops_in(file)),
         }
     }
 

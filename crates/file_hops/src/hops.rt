@@ -1,12 +1,13 @@
-// The field as a whole, and one hop of it.
-ghost use Rattle.std.specs.Prelude.{◌≡◌, ◌+◌, ◌*◌, ◌≤◌, length};
+// The field as a whole, and its hops by place.
+ghost use Rattle.std.specs.Prelude.{◌≡◌, ◌+◌, ◌*◌, ◌<◌, ◌≤◌, length};
 ghost use Rattle.graph.specs.Hops.{count};
 ghost use Rattle.base_outputs.specs.Output.{on_front};
 ghost use Rattle.base_outputs.specs.Internal.Output.{over_at};
 ghost use Rattle.file_numbers.specs.Internal.Numbers.{most_number};
 ghost use Rattle.file_lines.specs.Internal.LineField.{LinesLie};
-ghost use Rattle.file_hops.specs.Field.{bytes_a_hop, hop_place, field_length, hop_in, hops_in_field, hop_bytes, each_hop, field_bytes};
+ghost use Rattle.file_hops.specs.Field.{bytes_a_hop, field_length, hop_in, hops_in_field, hop_bytes, each_hop, field_bytes};
 ghost use Rattle.file_hops.specs.Internal.Field.{HopsLie};
+ghost use Rattle.file_hops.specs.Internal.Facts.{hops_lie_prop, lines_lie_prop};
 
 use file_lines::line_in;
 use file_numbers::{number_in, put_number};
@@ -29,28 +30,42 @@ pub fn field_length(n: u16) -> usize
     COUNT_BYTES + BYTES_A_HOP * usize::from(n)
 }
 
-// The hop at place i of the field that begins at `at`, with its line.
-fn hop_in(file: &[u8], at: usize, lines: Option<usize>, i: usize) -> Hop
-    requires lies { hop_place at (i + 1) ≤ length file.now }
-    requires lined { LinesLie file.now lines (i + 1) }
-    ensures { result ≡ hop_in file.now at lines i }
-{
-    let p = at + COUNT_BYTES + BYTES_A_HOP * i;
-    let from = number_in(file, p);
-    let label = number_in(file, p + 2);
-    let to = number_in(file, p + 4);
-    lined_hop(from, label, to, line_in(file, lines, i))
+// The first so many hops of a field that begins at `at`, whose lines stand in a list that begins at
+// `lines`, if there is one. They lie within the file, and so do their lines: who makes such a value
+// proves it, and who gets one asks nothing.
+#[derive(Clone, Copy)]
+pub struct HopField<'a> {
+    pub file: &'a [u8],
+    pub at: usize,
+    pub lines: Option<usize>,
+    pub hops: usize,
+    ghost lie: { HopsLie file.now at hops } by { hops_lie_prop _ _ _ },
+    ghost lined: { LinesLie file.now lines hops } by { lines_lie_prop _ _ _ },
 }
 
-// The first n hops of the field with their lines, to the front of a hop list.
-pub fn take_hops(file: &[u8], at: usize, lines: Option<usize>, n: usize, hops: &mut [u16])
-    requires lie { HopsLie file.now at n }
-    requires lined { LinesLie file.now lines n }
-    requires capacity { n ≤ count hops.old }
-    ensures { hops.new ≡ on_front (hops_in_field file.now at lines n) hops.old }
-{
-    for i in 0..n {
-        put_hop(hops, i, hop_in(file, at, lines, i));
+impl HopField<'_> {
+    // The hop at place i, with its line.
+    fn hop_in(self, i: usize) -> Hop
+        requires { i < self.hops }
+        ensures { result ≡ hop_in self.entry.file.now self.entry.at self.entry.lines i }
+    {
+        let file = self.file;
+        let p = self.at + COUNT_BYTES + BYTES_A_HOP * i;
+        let from = number_in(file, p);
+        let label = number_in(file, p + 2);
+        let to = number_in(file, p + 4);
+        lined_hop(from, label, to, line_in(file, self.lines, i))
+    }
+
+    // All its hops with their lines, to the front of a hop list.
+    pub fn take(self, hops: &mut [u16])
+        requires { self.hops ≤ count hops.old }
+        ensures { hops.new ≡
+            on_front (hops_in_field self.entry.file.now self.entry.at self.entry.lines self.entry.hops) hops.old }
+    {
+        for i in 0..self.hops {
+            put_hop(hops, i, self.hop_in(i));
+        }
     }
 }
 

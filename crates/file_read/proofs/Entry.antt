@@ -2,7 +2,7 @@
 -- length; where none refuses, all that the file holds is returned. Assumes nothing.
 use Prim.Native.Nat.{ℕ, ◌<◌, ◌≤◌}
 use mathlib.Core.Path.{◌≡◌, refl, sym, ap, ◌∙◌}
-use mathlib.Core.Bool.{true, false, ◌&&◌}
+use mathlib.Core.Bool.{false, ◌&&◌}
 use mathlib.Core.List.{List}
 use mathlib.Core.Logic.{⊎_elim}
 use native.Mathlib.Omega.{arith}
@@ -15,14 +15,13 @@ use Rattle.graph.specs.Answers.{most_states, most_labels, most_hops, accepted, r
 use Rattle.graph_check.specs.Check.{counts_fit, check_of}
 use Rattle.graph.specs.declared.Shape.{Shape}
 use Rattle.graph.specs.declared.Answer.{Answer}
-use Rattle.base_bounded.proofs.Bools.{and_no_left, and_no_right, not_no, decided, eq_or_not}
+use Rattle.base_bounded.proofs.Bools.{and_no_left, and_no_right, not_no, eq_or_not}
 use Rattle.graph_check.proofs.Checked.{check_counts, check_admitted}
 use Rattle.graph.proofs.Accepts.{both_accept, second_accepts, capacity_accepts}
 use Rattle.std.specs.Prelude.{Option}
-use Rattle.file_hops.specs.Internal.Field.{HopsLie}
 use Rattle.file_hops.specs.Field.{hops_in_field}
-use Rattle.file_fields.specs.Format.{has_hops, hops_place, hops_in, names_place, lines_in, shape_in, hop_list_in}
-use Rattle.file_fields.proofs.Laws.{hops_on, hops_off, length_hop_list, count_hop_list}
+use Rattle.file_fields.specs.Format.{hops_place, hops_in, lines_in, shape_in, hop_list_in}
+use Rattle.file_fields.proofs.Laws.{length_hop_list, count_hop_list}
 use Rattle.file_format.specs.Rows.{format_answer}
 use Rattle.file_format.proofs.Sound.{Sound, format_sound}
 use Rattle.file_format.proofs.Cut.{front_refused}
@@ -47,15 +46,6 @@ module _ (b : List ℕ) where
   -- a list with the hops in front, and its part that has just them
   pub hops_part : (copy old : List ℕ) {n : ℕ} → copy ≡ on_front (hop_list_in b) old → n ≡ number_place (hops_in b) → take n copy ≡ hop_list_in b
   hops_part copy old {n} h d = rw h (take_at (hop_list_in b) (drop (length (hop_list_in b)) old) n (omega (arith, length_hop_list b)))
-
-  -- where the names begin within the file, so do the hops lie
-  pub hops_lie : names_place b ≤ length b → {p n : ℕ} → p ≡ hops_place b → n ≡ hops_in b → HopsLie b p n
-  hops_lie l {p} {n} e d = ⊎_elim on off (decided (has_hops b)) where
-    on : has_hops b ≡ true → HopsLie b p n
-    on t i m = omega (arith, (hops_on b t).1)
-
-    off : has_hops b ≡ false → HopsLie b p n
-    off t i m = absurd (omega (arith, (hops_off b t).0))
 
   -- the hops as they were taken from the field
   module _ {p n : ℕ} {ls : Option ℕ} (e : p ≡ hops_place b) (q : ls ≡ lines_in b) (d : n ≡ hops_in b) (copy old : List ℕ) (h : copy ≡ on_front (hops_in_field b p ls n) old) where

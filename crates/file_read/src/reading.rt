@@ -6,9 +6,8 @@ ghost use Rattle.file_fields.specs.Format.{shape_in, hop_list_in};
 ghost use Rattle.file_read.specs.Read.{read_answer, read_of, read_hops, contents_record};
 
 use super::Decoded;
-use file_fields::{ExactFile, block_place, hops_in, hops_place, shape_in};
+use file_fields::{ExactFile, block_place, hops_in, shape_in};
 use file_format::check_format;
-use file_hops::hops::take_hops;
 use graph::hops::number_place;
 use graph::{MOST_HOPS, MOST_NUMBERS, Refusal};
 use graph_check::check;
@@ -17,15 +16,14 @@ use graph_check::check;
 fn check_hops(exact: ExactFile<'_>) -> Result<(), Refusal>
     ensures { answer_of result ≡ check_of (shape_in exact.entry.bytes.now) (hop_list_in exact.entry.bytes.now) }
 {
-    let file = exact.bytes;
-    let count = usize::from(hops_in(file));
-    if MOST_HOPS < count {
+    let field = exact.hop_field();
+    if MOST_HOPS < field.hops {
         return Err(Refusal::Counts);
     }
     let mut copy = [0u16; MOST_NUMBERS];
-    take_hops(file, hops_place(file), exact.lines_in(), count, &mut copy);
-    let end = number_place(count);
-    check(shape_in(file), &copy[..end])
+    field.take(&mut copy);
+    let end = number_place(field.hops);
+    check(shape_in(exact.bytes), &copy[..end])
 }
 
 // The checks, before anything is written: the format, then 1 to 4, then 6.
@@ -55,11 +53,11 @@ pub fn read(file: &[u8], hops: &mut [u16]) -> Result<Decoded, Refusal>
     ensures writes { hops.new ≡ read_hops file.now hops.old }
 {
     let exact = check_file(file, hops.len())?;
-    let count = usize::from(hops_in(file));
-    take_hops(file, hops_place(file), exact.lines_in(), count, hops);
+    let field = exact.hop_field();
+    field.take(hops);
     Ok(Decoded {
         shape: shape_in(file),
-        hops: count,
+        hops: field.hops,
         names_place: block_place(file),
         names_len: exact.block_length(),
     })

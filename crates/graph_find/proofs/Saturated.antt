@@ -17,12 +17,12 @@ use Rattle.base_bounded.proofs.Quantifiers.{any_same, tally_same}
 use Rattle.graph_find.specs.Find.{hops_before}
 use Rattle.graph_find.specs.Internal.Find.{saturated}
 
--- the ways out of `saturate`
-pub saturate_fits : (x : ℕ) → x < 65535 → x ≡ saturated x
+-- a number below 65,535 stands for itself, and 65,535 for any other
+saturate_fits : (x : ℕ) → x < 65535 → x ≡ saturated x
 unfolding saturated
 saturate_fits x l = rw (lt-ltb _ _ l)
 
-pub saturate_large : (x : ℕ) → 65535 ≤ x → 65535 ≡ saturated x
+saturate_large : (x : ℕ) → 65535 ≤ x → 65535 ≡ saturated x
 unfolding saturated
 saturate_large x l = rw (le-ltb _ _ l)
 

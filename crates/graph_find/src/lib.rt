@@ -41,18 +41,13 @@ impl From<Result<Result<usize, usize>, Refusal>> for Finding {
     }
 }
 
-// The largest number of 16 bits. No hop of an admitted graph has it, so it may stand for all that
-// are larger.
-const LARGEST: u32 = 65535;
-
-// The number in 16 bits: as it is, or the largest for one that does not fit.
+// The number in 16 bits: as it is, or the largest for one that does not fit. No hop of an admitted
+// graph has the largest, so it may stand for all that are larger.
+#[tactic(auto, unfolding(crate::specs::Internal::Find::saturated))]
 fn saturate(x: u32) -> u16
     ensures { result ≡ saturated x }
 {
-    if x < LARGEST {
-        return x as u16;
-    }
-    LARGEST as u16
+    u16::try_from(x).unwrap_or(u16::MAX)
 }
 
 // The entry: `Ok` of a place where the hop stands, `Err` of one where it would stand.

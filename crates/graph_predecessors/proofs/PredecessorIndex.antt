@@ -1,11 +1,11 @@
 -- The table of places by where their hops end: that a sort by the targets makes it, and what stands
 -- in it among the hops into a state. Assumes nothing.
 use Prim.Native.Nat.{ℕ, ◌+◌, ◌<◌, ◌≤◌}
-use mathlib.Core.Path.{◌≡◌, subst, ◌∙◌}
+use mathlib.Core.Path.{◌≡◌, subst}
 use mathlib.Core.List.{List}
 use native.Mathlib.Omega.{arith}
-use borrow.Author.Tests.{le-ltb}
-use lib.ListN.{length, get_or}
+use lib.ListN.{get_or}
+use Rattle.std.specs.Prelude.{None}
 use Rattle.base_bounded.specs.Internal.Slots.{slot}
 use Rattle.base_bounded.proofs.Slots.{slot_of}
 use Rattle.graph.specs.Hops.{count, to, numbers_a_hop}
@@ -20,10 +20,9 @@ module _ (hs : List ℕ) {n : ℕ} where
       record { most = omega (arith, r.hops_most); within = λ j l. omega arith; below = λ j l. r.to_in j (omega arith) }
 
   -- the places sorted by them
-  pub places_filled : n ≡ count hs → (ord ps : List ℕ) → length ord ≡ 0 → SlotsFilledBy (to hs) n ord ps → PredecessorPlaces hs (count hs) ps
+  pub places_filled : n ≡ count hs → (ps : List ℕ) → SlotsFilledBy (to hs) n None ps → PredecessorPlaces hs (count hs) ps
   unfolding SlotsFilledBy PredecessorPlaces
-  places_filled e ord ps z f j l =
-      subst (λ (m : ℕ). get_or ps (slot (to hs) m j) 0 ≡ j) e (f j (omega arith) ∙ rw (le-ltb j (length ord) (omega arith)))
+  places_filled e ps f j l = subst (λ (m : ℕ). get_or ps (slot (to hs) m j) 0 ≡ j) e (f j (omega arith))
 
 -- what stands among the hops into a state
 pub place_in : (hs ps : List ℕ) → PredecessorPlaces hs (count hs) ps → (s : ℕ) {k : ℕ} → predecessor_start hs s ≤ k → k < predecessor_start hs (s + 1) →

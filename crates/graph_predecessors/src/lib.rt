@@ -30,7 +30,7 @@ pub fn predecessor_starts(hops: &[u16]) -> [u16; STARTS]
     targets.key_starts()
 }
 
-// Each place in its slot: with an empty order the sort puts the places themselves.
+// Each place in its slot: with no order the sort puts the places themselves.
 pub fn places_of(hops: &[u16], begins: &[u16; STARTS]) -> [u16; MOST_HOPS]
     requires ready { Indexable hops.now }
     requires begins { PredecessorStarts hops.now begins.now }
@@ -42,5 +42,5 @@ pub fn places_of(hops: &[u16], begins: &[u16; STARTS]) -> [u16; MOST_HOPS]
         column: TO_COLUMN,
         n: hop_count(hops),
     };
-    targets.fill(&hops[..0], *begins)
+    targets.fill(None, *begins)
 }

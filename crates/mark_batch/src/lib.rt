@@ -10,11 +10,12 @@
 
 pub mod input; // input.rt: what a sweep needs
 
-ghost use Rattle.std.specs.Prelude.{◌≡◌, ◌+◌, ◌<◌, ◌≤◌, length};
+ghost use Rattle.std.specs.Prelude.{◌≡◌, ◌+◌, ◌-◌, ◌<◌, ◌≤◌, min};
 ghost use Rattle.graph.specs.Hops.{count};
 ghost use Rattle.base_fixpoint.specs.Pairs.{In};
 ghost use Rattle.mark_confluence.specs.Internal.MarkSet.{mark_set};
 ghost use Rattle.mark_senses.specs.Internal.Numbers.{condition_of};
+ghost use Rattle.base_bitset.specs.Internal.Bits.{word_bits};
 ghost use Rattle.mark_batch_spread.specs.Internal.Spread.{SpreadBack, SpreadForth};
 ghost use Rattle.mark_batch.specs.Internal.Batch.{TriedIn};
 ghost use Rattle.mark_batch.specs.Internal.Sweeping.{MarkingIn, SweptIn};
@@ -23,7 +24,7 @@ use base_bitset::WORD_BITS;
 use graph::{Key, MOST_LABELS, MOST_STATES};
 use input::SweepInput;
 use mark_batch_filter::{Tables, filter};
-use mark_batch_spread::{SilentHops, gather, pass_on, pass_once};
+use mark_batch_spread::{MarkedHops, gather, pass_on, pass_once};
 use mark_batch_tables::{Batch, clear, put_answers, put_keys};
 use mark_senses::Sense;
 
@@ -31,40 +32,37 @@ use mark_senses::Sense;
 // of its own.
 // The closing: who is s4 for an end s3, by at most one marked hop or by a walk.
 #[tactic(auto, unfolding(mark_senses::specs::Senses::sense_of))]
-fn closing_table(silent: SilentHops, sense: Sense, marks: &[u8], words: &mut [u64; MOST_STATES])
-    requires { count silent.hops.now ≤ length marks.now }
-    ensures { SpreadForth (In (mark_set silent.entry.hops.now marks.now)) (condition_of sense).closing
+fn closing_table(marked: MarkedHops, sense: Sense, words: &mut [u64; MOST_STATES])
+    ensures { SpreadForth (In (mark_set marked.entry.silent.hops.now marked.entry.marks.now)) (condition_of sense).closing
         words.old words.new }
 {
     match sense {
-        Sense::R1 | Sense::R2 | Sense::R3 => pass_once(silent, marks, words),
-        Sense::R8 => pass_on(silent, marks, words),
+        Sense::R1 | Sense::R2 | Sense::R3 => pass_once(marked, words),
+        Sense::R8 => pass_on(marked, words),
     }
 }
 
 // After the answering hop: who is s4 or leads to it.
 #[tactic(auto, unfolding(mark_senses::specs::Senses::sense_of))]
-fn after_table(silent: SilentHops, sense: Sense, marks: &[u8], words: &mut [u64; MOST_STATES])
-    requires { count silent.hops.now ≤ length marks.now }
-    ensures { SpreadBack (In (mark_set silent.entry.hops.now marks.now)) (condition_of sense).after
+fn after_table(marked: MarkedHops, sense: Sense, words: &mut [u64; MOST_STATES])
+    ensures { SpreadBack (In (mark_set marked.entry.silent.hops.now marked.entry.marks.now)) (condition_of sense).after
         words.old words.new }
 {
     match sense {
         Sense::R1 | Sense::R3 => {}
-        Sense::R2 | Sense::R8 => gather(silent, marks, words),
+        Sense::R2 | Sense::R8 => gather(marked, words),
     }
 }
 
 // Before the answering hop: who has it or leads to one that has.
 #[tactic(auto, unfolding(mark_senses::specs::Senses::sense_of))]
-fn before_table(silent: SilentHops, sense: Sense, marks: &[u8], words: &mut [u64; MOST_STATES])
-    requires { count silent.hops.now ≤ length marks.now }
-    ensures { SpreadBack (In (mark_set silent.entry.hops.now marks.now)) (condition_of sense).before
+fn before_table(marked: MarkedHops, sense: Sense, words: &mut [u64; MOST_STATES])
+    ensures { SpreadBack (In (mark_set marked.entry.silent.hops.now marked.entry.marks.now)) (condition_of sense).before
         words.old words.new }
 {
     match sense {
         Sense::R1 | Sense::R2 => {}
-        Sense::R3 | Sense::R8 => gather(silent, marks, words),
+        Sense::R3 | Sense::R8 => gather(marked, words),
     }
 }
 
@@ -112,15 +110,16 @@ pub fn try_batch(
         ..
     } = input;
     let hops = silent.hops;
+    let marked = MarkedHops { silent, marks };
     let mut ends = [0u64; MOST_STATES];
     let mut labels = [0u64; MOST_LABELS];
     let mut answers = [0u64; MOST_STATES];
     put_keys(shape, hops, Key::To, batch, &mut ends);
-    closing_table(silent, sense, marks, &mut ends);
-    after_table(silent, sense, marks, &mut ends);
+    closing_table(marked, sense, &mut ends);
+    after_table(marked, sense, &mut ends);
     put_keys(shape, hops, Key::Label, batch, &mut labels);
     put_answers(shape, hops, &labels, &ends, &mut answers);
-    before_table(silent, sense, marks, &mut answers);
+    before_table(marked, sense, &mut answers);
     record_touched(&ends, &answers, bit, touched);
     clear(&mut ends);
     put_keys(shape, hops, Key::From, batch, &mut ends);
@@ -137,6 +136,7 @@ pub fn batch_at(base: usize, n: usize) -> Batch
     ensures base { result.base ≡ base }
     ensures within { base + result.m ≤ n }
     ensures some { 0 < result.m }
+    ensures full { result.m ≡ min word_bits (n - base) }
 {
     Batch {
         base,

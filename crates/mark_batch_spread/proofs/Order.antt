@@ -1,5 +1,6 @@
 -- The topological order that a struct holds: from the mere fact its parts, since each is a fact of
--- its own or found by trying the places. Assumes nothing.
+-- its own or found by trying the places. And the order in the slice that the struct lends. Assumes
+-- nothing.
 use Rattle.std.proofs.Common.{ℕ, List, ◌≡◌, ◌<◌, Bool, true, eqb, eqb-true, eq-eqb, get_or, length, take, ◌∙◌, arith, length-take-le}
 use Rattle.std.proofs.lemmas.List.{get_or-take}
 use Rattle.std.proofs.Props.{props}
@@ -26,14 +27,19 @@ module _ {hs sorted : List ℕ} {n : ℕ} (t : ∥ TopologicalOrder hs sorted n 
     order = ∥∥₁_elim t (hlevel props) (λ o. o.order);
   }
 
-  -- the first n of the order are n
-  pub first_many : length (take n sorted) ≡ n
-  first_many = length-take-le n sorted in_order.capacity
+-- the order stands in the slice of its places alone
+module _ {hs sorted : List ℕ} {n : ℕ} (o : TopologicalOrder hs sorted n) where
+  many : length (take n sorted) ≡ n
+  many = length-take-le n sorted o.capacity
 
-  -- the place at hand is one of them, and so of a hop
-  module _ {i p : ℕ} (l : i < length (take n sorted)) (e : p ≡ get_or (take n sorted) i 0) where
-    pub place_is : p ≡ get_or sorted i 0
-    place_is = e ∙ get_or-take n sorted i 0 (omega (arith, first_many))
+  same : (k : ℕ) → k < n → get_or (take n sorted) k 0 ≡ get_or sorted k 0
+  same k l = get_or-take n sorted k 0 l
 
-    pub place_in : p < count hs
-    place_in = omega (arith, place_is, in_order.within i (omega (arith, first_many)))
+  pub alone : TopologicalOrder hs (take n sorted) (length (take n sorted))
+  alone = rw many (record {
+    capacity = omega (arith, many);
+    within = λ k l. rw (same k l) (o.within k l);
+    silent = λ k l. rw (same k l) (o.silent k l);
+    every = λ i l z. let (k, h, q) = o.every i l z in (k, h, same k h ∙ q);
+    order = λ j k l m. rw (same j l, same k m) (o.order j k l m);
+  })

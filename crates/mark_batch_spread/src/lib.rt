@@ -11,7 +11,7 @@
 
 ghost use Rattle.std.specs.Prelude.{◌≡◌, false, ◌<◌, ◌≤◌, length};
 ghost use Rattle.graph.specs.Hops.{count};
-ghost use Rattle.graph.specs.Answers.{most_states, most_hops};
+ghost use Rattle.graph.specs.Answers.{most_states};
 ghost use Rattle.graph_successors.specs.Internal.SuccessorIndex.{Indexable};
 ghost use Rattle.graph_successors.specs.Internal.Facts.{indexable_prop};
 ghost use Rattle.base_fixpoint.specs.Pairs.{In};
@@ -19,23 +19,28 @@ ghost use Rattle.lts.specs.Closes.{single, walks};
 ghost use Rattle.mark_confluence.specs.Internal.MarkSet.{is_marked, mark_set};
 ghost use Rattle.walk_topological_order.specs.Internal.TopologicalOrder.{TopologicalOrder};
 ghost use Rattle.mark_batch_spread.specs.Internal.Spread.{SpreadBack, SpreadForth};
-ghost use Rattle.mark_batch_spread.specs.Internal.Step.{spread_to, step_at, spread_over};
+ghost use Rattle.mark_batch_spread.specs.Internal.Step.{is_back, spread_to, step_at, spread_over};
 
+use graph::MOST_STATES;
 use graph::hops::{from_at, to_at};
-use graph::tables::place_at;
-use graph::{MOST_HOPS, MOST_STATES};
 
-// The silent hops of a graph in topological order, which the passes go along: their places are the
-// first n of `sorted`. `ordered` is the mere fact, since a ghost field is a proposition, and the
-// order as it is defined names places; proofs/Order.antt finds them again.
+// The silent hops of a graph in topological order, which the passes go along: `sorted` has their
+// places. `ordered` is the mere fact, since a ghost field is a proposition, and the order as it is
+// defined names places; proofs/Order.antt finds them again.
 #[derive(Clone, Copy)]
 pub struct SilentHops<'a> {
     pub hops: &'a [u16],
-    pub sorted: &'a [u16; MOST_HOPS],
-    pub n: usize,
+    pub sorted: &'a [u16],
     ghost ready: { Indexable hops.now } by { indexable_prop hops.now },
-    ghost few: { n ≤ most_hops },
-    ghost ordered: { ∥ TopologicalOrder hops.now sorted.now n ∥₁ },
+    ghost ordered: { ∥ TopologicalOrder hops.now sorted.now (length sorted.now) ∥₁ },
+}
+
+// The silent hops of a graph and a mark for each of its hops.
+#[derive(Clone, Copy)]
+pub struct MarkedHops<'a> {
+    pub silent: SilentHops<'a>,
+    pub marks: &'a [u8],
+    ghost capacity: { count silent.hops.now ≤ length marks.now },
 }
 
 // Whether the hop at place i is marked.
@@ -58,66 +63,63 @@ fn spread_to(words: &mut [u64; MOST_STATES], s: usize, t: usize)
 
 // Which way a hop brings bits: back to where it begins, or forth to its end. What goes by it is
 // inlined, so that no step asks.
-const BACK: bool = true;
-
-const FORTH: bool = false;
+#[derive(Clone, Copy)]
+enum Way {
+    Back,
+    Forth,
+}
 
 // The hop at place i, if it is marked, brings the bits of one of its ends to the other.
 #[inline(always)]
-fn step(hops: &[u16], marks: &[u8], back: bool, i: usize, words: &mut [u64; MOST_STATES])
-    requires ready { Indexable hops.now }
-    requires capacity { count hops.now ≤ length marks.now }
-    requires within { i < count hops.now }
-    ensures { words.new ≡ step_at hops.now marks.now back i words.old }
+fn step(marked: MarkedHops, way: Way, i: usize, words: &mut [u64; MOST_STATES])
+    requires { i < count marked.silent.hops.now }
+    ensures { words.new ≡ step_at marked.entry.silent.hops.now marked.entry.marks.now (is_back way) i words.old }
 {
-    if marked_at(marks, i) {
+    let hops = marked.silent.hops;
+    if marked_at(marked.marks, i) {
         let from = usize::from(from_at(hops, i).0);
         let to = usize::from(to_at(hops, i).0);
-        if back {
-            spread_to(words, to, from);
-        } else {
-            spread_to(words, from, to);
+        match way {
+            Way::Back => spread_to(words, to, from),
+            Way::Forth => spread_to(words, from, to),
         }
     }
 }
 
 // A step by each hop, in their order.
 #[inline(always)]
-fn pass(silent: SilentHops, marks: &[u8], back: bool, words: &mut [u64; MOST_STATES])
-    requires { count silent.hops.now ≤ length marks.now }
+fn pass(marked: MarkedHops, way: Way, words: &mut [u64; MOST_STATES])
     ensures { words.new ≡
-        spread_over silent.entry.hops.now marks.now silent.entry.sorted.now silent.entry.n false back words.old }
+        spread_over marked.entry.silent.hops.now marked.entry.marks.now marked.entry.silent.sorted.now
+        (length marked.entry.silent.sorted.now) false (is_back way) words.old }
 {
-    let sorted = silent.sorted;
-    for i in &sorted[..silent.n] {
-        step(silent.hops, marks, back, usize::from(*i), words);
+    for i in marked.silent.sorted {
+        step(marked, way, usize::from(*i), words);
     }
 }
 
 // Each state gets the bits of the states that it leads to by walks of marked hops: one pass
 // forwards, since in the order all hops that leave a hop's end come before it.
-pub fn gather(silent: SilentHops, marks: &[u8], words: &mut [u64; MOST_STATES])
-    requires { count silent.hops.now ≤ length marks.now }
-    ensures { SpreadBack (In (mark_set silent.entry.hops.now marks.now)) walks words.old words.new }
+pub fn gather(marked: MarkedHops, words: &mut [u64; MOST_STATES])
+    ensures { SpreadBack (In (mark_set marked.entry.silent.hops.now marked.entry.marks.now)) walks words.old words.new }
 {
-    pass(silent, marks, BACK, words);
+    pass(marked, Way::Back, words);
 }
 
 // Each state passes its bits to those that one marked hop leads to: one pass forwards, since in the
 // order no hop into a state comes before one that leaves it.
-pub fn pass_once(silent: SilentHops, marks: &[u8], words: &mut [u64; MOST_STATES])
-    requires { count silent.hops.now ≤ length marks.now }
-    ensures { SpreadForth (In (mark_set silent.entry.hops.now marks.now)) single words.old words.new }
+pub fn pass_once(marked: MarkedHops, words: &mut [u64; MOST_STATES])
+    ensures { SpreadForth (In (mark_set marked.entry.silent.hops.now marked.entry.marks.now)) single words.old words.new }
 {
-    pass(silent, marks, FORTH, words);
+    pass(marked, Way::Forth, words);
 }
 
 // Each state passes its bits to all that it leads to by walks of marked hops: one pass backwards.
-pub fn pass_on(silent: SilentHops, marks: &[u8], words: &mut [u64; MOST_STATES])
-    requires { count silent.hops.now ≤ length marks.now }
-    ensures { SpreadForth (In (mark_set silent.entry.hops.now marks.now)) walks words.old words.new }
+pub fn pass_on(marked: MarkedHops, words: &mut [u64; MOST_STATES])
+    ensures { SpreadForth (In (mark_set marked.entry.silent.hops.now marked.entry.marks.now)) walks words.old words.new }
 {
-    for k in (0..silent.n).rev() {
-        step(silent.hops, marks, FORTH, place_at(silent.sorted, k), words);
+    let sorted = marked.silent.sorted;
+    for k in (0..sorted.len()).rev() {
+        step(marked, Way::Forth, usize::from(sorted[k]), words);
     }
 }

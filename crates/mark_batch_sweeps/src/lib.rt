@@ -8,7 +8,7 @@
 // Uses `mark_senses` for what is marked, `mark_removal` for what marks keep under removal, for any
 // condition, `mark_batch` for one batch, `mark_batch_tables` for which hops a batch has,
 // `mark_batch_spread` for the silent hops as one value, `walk_topological_order` for their order,
-// and `graph_index` for the graph with its table of first places.
+// and `walk_rings` for the graph with its table of first places.
 #![tactic(auto, using(mark_removal::proofs::Fixpoint::count_within))]
 
 ghost use Rattle.std.specs.Prelude.{◌≡◌, ◌+◌, ◌*◌, ◌<◌, ◌≤◌, length};
@@ -16,7 +16,6 @@ ghost use Rattle.base_outputs.specs.Output.{on_front};
 ghost use Rattle.graph.specs.Hops.{count};
 ghost use Rattle.graph.specs.Answers.{most_hops};
 ghost use Rattle.graph_successors.specs.Internal.SuccessorIndex.{Indexable};
-ghost use Rattle.walk_silent.specs.Silent.{ring_answer};
 ghost use Rattle.mark_confluence.specs.Marks.{marks_of};
 ghost use Rattle.mark_senses.specs.Senses.{marked_by};
 ghost use Rattle.mark_senses.specs.Internal.Numbers.{sense_number, condition_of};
@@ -27,13 +26,13 @@ ghost use Rattle.mark_batch.specs.Internal.Sweeping.{MarkingIn, SweptIn};
 use base_bitset::{WORD_BITS, bit_of};
 use graph::hops::{hop_at, hop_count};
 use graph::{MOST_HOPS, MOST_STATES};
-use graph_index::Indexed;
 use mark_batch::input::SweepInput;
 use mark_batch::{batch_at, try_batch};
 use mark_batch_spread::SilentHops;
 use mark_batch_tables::Batch;
 use mark_confluence::start_marks;
 use mark_senses::Sense;
+use walk_rings::Ringless;
 use walk_topological_order::order_of;
 
 // All batches, as a set in one word; or all places of a word.
@@ -99,13 +98,10 @@ fn sweep(input: SweepInput, recorded: u64, marks: &mut [u8], hints: &mut Hints) 
 {
     let past = hop_count(input.silent.hops);
     let mut lost = 0;
-    let mut base = 0;
-    // `while`: each batch says where the next one begins.
-    while base < past {
+    for base in (0..past).step_by(WORD_BITS) {
         let batch = batch_at(base, past);
         let bit = batch_bit(base) & recorded;
         lost += try_batch(input, batch, bit, marks, &mut hints.touched);
-        base += batch.m;
     }
     lost
 }
@@ -213,7 +209,7 @@ fn sweep_to_fixpoint(input: SweepInput, marks: &mut [u8])
         pending: 0,
     };
     let mut plain = PLAIN_SWEEPS;
-    let mut fell = input.silent.n;
+    let mut fell = input.silent.sorted.len();
     // `while`: how many sweeps it takes depends on the marks.
     while fell > 0 {
         let recorded = if plain > 0 { 0 } else { ALL_BATCHES };
@@ -229,23 +225,24 @@ fn sweep_to_fixpoint(input: SweepInput, marks: &mut [u8])
 // sense but R1, which is marked in rounds (`mark_worklist_loop`). It would be right for R1 too. The
 // callers choose between the two: in one function they would share a frame, and R1 would take more
 // stack.
-pub fn mark_by_sweeps(graph: Indexed<'_>, sense: Sense, marks: &mut [u8])
-    requires free { (ring_answer graph.shape graph.index.hops.now).number ≡ 0 }
-    requires capacity { count graph.index.hops.now ≤ length marks.old }
+pub fn mark_by_sweeps(ringless: Ringless<'_>, sense: Sense, marks: &mut [u8])
+    requires { count ringless.graph.index.hops.now ≤ length marks.old }
     ensures { marks.new ≡
-        on_front (marks_of graph.entry.index.hops.now (marked_by (sense_number sense) graph.entry.shape graph.entry.index.hops.now)) marks.old }
+        on_front
+        (marks_of ringless.entry.graph.index.hops.now
+        (marked_by (sense_number sense) ringless.entry.graph.shape ringless.entry.graph.index.hops.now))
+        marks.old }
 {
-    let hops = graph.index.hops;
+    let hops = ringless.graph.index.hops;
     let mut sorted = [0u16; MOST_HOPS];
-    let n = order_of(graph, &mut sorted);
+    let n = order_of(ringless, &mut sorted);
     start_marks(hops, marks);
     let silent = SilentHops {
         hops,
-        sorted: &sorted,
-        n,
+        sorted: &sorted[..n],
     };
     let input = SweepInput {
-        shape: graph.shape,
+        shape: ringless.graph.shape,
         silent,
         sense,
     };

@@ -43,10 +43,6 @@ module _ (hs ms : List ℕ) (s2 a s3 : ℕ) where
   pub itself_answers : {v : Bool} → v ≡ has hs s2 a s3 → v ≡ true → true ≡ hop_answers hs (closing (mark_set hs ms)) s2 a s3
   itself_answers e d = sym (end_answers hs (mark_set hs ms) s2 a s3 s3 (sym e ∙ d) (inl refl))
 
-  pub passed_start : {past k : ℕ} → k ≡ first_of hs s3 → past ≡ first_of hs (s3 + 1) → {v : Bool} → v ≡ has hs s2 a s3 → v ≡ false → Passed hs ms s2 a s3 past k
-  passed_start p q e d =
-      record { after = omega arith; past_is = q; itself = sym e ∙ d; none = λ j l m. absurd (omega arith) }
-
   module _ (up : Ascending hs) {past k : ℕ} (w : Passed hs ms s2 a s3 past k) where
     -- the hop at a place before `past` is one of s3
     pub passed_in : k < past → k < count hs

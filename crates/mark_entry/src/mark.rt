@@ -18,7 +18,7 @@ use graph_successors::{STARTS, put_starts};
 use mark_batch_sweeps::mark_by_sweeps;
 use mark_senses::Sense;
 use mark_worklist_loop::mark_rounds;
-use walk_rings::check_rings;
+use walk_rings::{Ringless, check_rings};
 
 // Rows 5 and 6 of an admitted graph.
 pub fn check_later(graph: Indexed<'_>, capacity: usize) -> Result<(), Refusal>
@@ -53,17 +53,19 @@ pub fn check_mark(shape: Shape, hops: &[u16], sense: u32, marks: &[u8]) -> Resul
 // Marks in the sense: R1 by the worklist, any other by sweeps over batches. `reduce` makes this
 // choice in a function of its own: in a common one both would share a frame, and R1 would take the
 // stack of the others.
-fn mark_in(graph: Indexed<'_>, sense: Sense, marks: &mut [u8])
-    requires free { (ring_answer graph.shape graph.index.hops.now).number ≡ 0 }
-    requires capacity { count graph.index.hops.now ≤ length marks.old }
+fn mark_in(ringless: Ringless<'_>, sense: Sense, marks: &mut [u8])
+    requires { count ringless.graph.index.hops.now ≤ length marks.old }
     ensures { marks.new ≡
-        on_front (marks_of graph.entry.index.hops.now (marked_by (sense_number sense) graph.entry.shape graph.entry.index.hops.now)) marks.old }
+        on_front
+        (marks_of ringless.entry.graph.index.hops.now
+        (marked_by (sense_number sense) ringless.entry.graph.shape ringless.entry.graph.index.hops.now))
+        marks.old }
 {
     match sense {
         Sense::R1 => {
-            mark_rounds(graph.index, marks);
+            mark_rounds(ringless.graph.index, marks);
         }
-        Sense::R2 | Sense::R3 | Sense::R8 => mark_by_sweeps(graph, sense, marks),
+        Sense::R2 | Sense::R3 | Sense::R8 => mark_by_sweeps(ringless, sense, marks),
     }
 }
 
@@ -86,6 +88,7 @@ pub fn mark(shape: Shape, hops: &[u16], sense: u32, marks: &mut [u8]) -> Result<
         },
     };
     check_later(graph, marks.len())?;
-    mark_in(graph, sense, marks);
+    let ringless = Ringless { graph };
+    mark_in(ringless, sense, marks);
     Ok(())
 }

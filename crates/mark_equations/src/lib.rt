@@ -18,7 +18,8 @@ use graph::hops::{from_at, hop_of, label_at, to_at};
 use graph::{MOST_HOPS, OldState};
 use graph_index::Index;
 
-// What the table holds of a hop and a number of rounds.
+// What the table holds of a hop and a number of rounds: in one byte, where `Option<bool>` has two,
+// and the table would take twice the stack.
 #[derive(Clone, Copy, PartialEq, Eq)]
 pub enum Known {
     Unknown,

@@ -1,7 +1,7 @@
 -- Hops that do not close lose their marks until none does, for any condition F; m is the greatest
 -- set that F keeps. No hop of m loses its mark as long as hops of m close with any set that
 -- contains m. If every marked hop closes, the set that the marks are is m. Assumes nothing.
-use Prim.Native.Nat.{ℕ, ◌+◌, ◌<◌, ◌≤◌}
+use Prim.Native.Nat.{ℕ, ◌<◌, ◌≤◌}
 use mathlib.Core.Path.{◌≡◌, refl, sym, ◌∙◌}
 use mathlib.Core.Bool.{true}
 use mathlib.Core.List.{List}
@@ -36,22 +36,6 @@ module _ {hs : List ℕ} {m : Pairs} where
   -- no mark went
   pub swept_none : {Known : List ℕ → Type 0} {ms : List ℕ} → Marking hs m ms → Known ms → Swept hs m Known ms ms 0
   swept_none k s = record { marking = k; beyond = refl; fewer = omega arith; same = λ q. (refl, s) }
-
-  -- tests after others
-  pub swept_then : {A B C : List ℕ → Type 0} {ms old new : List ℕ} {lost r : ℕ} → Swept hs m A ms old lost → Swept hs m B old new r → (A ms → B ms → C ms) →
-      Swept hs m C ms new (lost + r)
-  swept_then {A} {B} {C} {ms} {old} {new} {lost} {r} s t join =
-      record {
-        marking = t.marking;
-        beyond = t.beyond ∙ s.beyond;
-        fewer = omega (arith, s.fewer, t.fewer);
-        same = same;
-      } where
-        same : lost + r ≡ 0 → (new ≡ ms) × C ms
-        same q =
-            let (e, f) = s.same (omega arith) in
-            let (d, g) = t.same (omega arith) in
-            (d ∙ e, join f (rw e at g))
 
   pub swept_rests : {Known : List ℕ → Type 0} {ms new : List ℕ} {r : ℕ} → Swept hs m Known ms new r → r ≡ 0 → Known new
   swept_rests s q = let (e, f) = s.same q in rw e f

@@ -5,9 +5,10 @@
 // the marks as they were when it began, and takes the marks of what fell at its end. Callers that
 // have checked the graph call `mark_rounds`: `mark`, `mark_fast`, `reduce`, `shrink`, the program.
 // Uses `mark_worklist` for which hops a round tests and that the others survive it,
-// `mark_worklist_next` to find them, `mark_worklist_round` for the parts of a round,
-// `mark_worklist_push` for the worklist and what a later round goes by, `graph_index` for the hop
-// list with its table and its marks, and `graph_predecessors` for the hops into a state.
+// `mark_worklist_next` to find them and for what a later round goes by, `mark_worklist_round` for
+// the parts of a round, `mark_worklist_push` for the worklist and the graph with its predecessor
+// index, `graph_index` for the hop list with its table and its marks, and `graph_predecessors` for
+// the hops into a state.
 #![tactic(auto)]
 
 ghost use Rattle.std.specs.Prelude.{◌≡◌, ◌≤◌, Bool, List, length, take};
@@ -27,8 +28,8 @@ use graph_index::{Index, Marked};
 use graph_predecessors::{places_of, predecessor_starts};
 use graph_successors::STARTS;
 use mark_confluence::start_marks;
-use mark_worklist_next::{leaving_of, next_queue};
-use mark_worklist_push::{RoundGraph, Worklist};
+use mark_worklist_next::{RoundGraph, leaving_of, next_queue};
+use mark_worklist_push::{Predecessors, Worklist};
 use mark_worklist_round::{dirty_of, list_silent, test_again, test_first, unmark_fallen};
 
 // A later round, of the hops on the worklist: those to the dirty states, which the `left` fallen
@@ -70,7 +71,6 @@ fn later_rounds(
     tests: usize,
 ) -> usize
     requires marks { count index.hops.now ≤ length marks.old }
-    requires capacity { most_hops ≤ length queue.old }
     requires lost { lost ≤ most_hops }
     requires after { AfterSome index.hops.now marks.old marks.old (take lost fallen.old) tests }
     ensures tests { result ≡ tests_of index.entry.hops.now }
@@ -89,15 +89,17 @@ fn later_rounds(
     let mut sum = tests;
     // `while`: how many rounds it takes depends on what falls.
     while left > 0 {
-        let graph = RoundGraph {
-            marked: Marked { index, marks },
-            begins: &begins,
-            places: &places,
+        let round = RoundGraph {
+            graph: Predecessors {
+                marked: Marked { index, marks },
+                begins: &begins,
+                places: &places,
+            },
             leaving: &leaving,
         };
-        next_queue(graph, &fallen[..left], &mut worklist);
+        next_queue(round, &fallen[..left], &mut worklist);
         sum += worklist.len;
-        left = test_dirty(graph.marked, left, &mut worklist, fallen);
+        left = test_dirty(round.graph.marked, left, &mut worklist, fallen);
         unmark_fallen(marks, &fallen[..left]);
     }
     sum

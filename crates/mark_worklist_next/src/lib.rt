@@ -12,15 +12,24 @@ ghost use Rattle.std.specs.Prelude.{◌≡◌, ◌<◌, ◌≤◌, length};
 ghost use Rattle.graph.specs.Hops.{count};
 ghost use Rattle.graph_successors.specs.Internal.SuccessorIndex.{Indexable};
 ghost use Rattle.mark_worklist_push.specs.Internal.Queue.{Leaving, Queue, Pushed, Trying, ClosedBy, ClosedByAny, PlacesBelow};
+ghost use Rattle.mark_worklist_push.specs.Internal.Facts.{leaving_prop};
 
 use graph::MOST_STATES;
 use graph::hops::{from_at, hop_count, to_at};
-use graph::tables::place_at;
-use mark_worklist_push::{RoundGraph, Worklist, push_into, push_out};
+use mark_worklist_push::{Predecessors, Worklist, push_into, push_out};
 
 // Where s1 has at most this many hops more than lead to s4, its own hops are gone over: that needs
 // no search where none of them is marked.
 const FEW: usize = 16;
+
+// What a later round goes by: the graph with its marks and its predecessor index, and whether a
+// marked hop leaves a state. It is a few references, and goes by value.
+#[derive(Clone, Copy)]
+pub struct RoundGraph<'a> {
+    pub graph: Predecessors<'a>,
+    pub leaving: &'a [bool; MOST_STATES],
+    ghost leaves: { Leaving graph.marked.index.hops.now graph.marked.marks.now leaving.now } by { leaving_prop _ _ _ },
+}
 
 // The states that a marked hop leaves. Marks are only taken, so one that none leaves stays so.
 pub fn leaving_of(hops: &[u16], marks: &[u8]) -> [bool; MOST_STATES]
@@ -39,16 +48,17 @@ pub fn leaving_of(hops: &[u16], marks: &[u8]) -> [bool; MOST_STATES]
 
 // Pushes the silent hops for which the hop at place j is one to try and the end of the hop at place
 // p is an s4, by the way that costs less.
-fn push_hop(graph: RoundGraph<'_>, worklist: &mut Worklist<'_>, j: usize, p: usize)
-    requires queue { Queue graph.marked.index.hops.now worklist.old }
-    requires tried { j < count graph.marked.index.hops.now }
-    requires fallen { p < count graph.marked.index.hops.now }
-    ensures { Pushed graph.entry.marked.index.hops.now graph.entry.marked.marks.now
-        (Trying graph.entry.marked.index.hops.now j p) worklist.old worklist.new }
+fn push_hop(round: RoundGraph<'_>, worklist: &mut Worklist<'_>, j: usize, p: usize)
+    requires queue { Queue round.graph.marked.index.hops.now worklist.old }
+    requires tried { j < count round.graph.marked.index.hops.now }
+    requires fallen { p < count round.graph.marked.index.hops.now }
+    ensures { Pushed round.entry.graph.marked.index.hops.now round.entry.graph.marked.marks.now
+        (Trying round.entry.graph.marked.index.hops.now j p) worklist.old worklist.new }
 {
+    let graph = round.graph;
     let index = graph.marked.index;
     let s1 = from_at(index.hops, j).0;
-    let leaves = graph.leaving[usize::from(s1)];
+    let leaves = round.leaving[usize::from(s1)];
     if !leaves {
         return;
     }
@@ -62,26 +72,26 @@ fn push_hop(graph: RoundGraph<'_>, worklist: &mut Worklist<'_>, j: usize, p: usi
 
 // Pushes the marked hops of which the hop at place p, s3 to s4, is a closing hop: each hop into s3
 // is one to try.
-fn push_fallen(graph: RoundGraph<'_>, worklist: &mut Worklist<'_>, p: usize)
-    requires queue { Queue graph.marked.index.hops.now worklist.old }
-    requires fallen { p < count graph.marked.index.hops.now }
-    ensures { Pushed graph.entry.marked.index.hops.now graph.entry.marked.marks.now
-        (ClosedBy graph.entry.marked.index.hops.now p) worklist.old worklist.new }
+fn push_fallen(round: RoundGraph<'_>, worklist: &mut Worklist<'_>, p: usize)
+    requires queue { Queue round.graph.marked.index.hops.now worklist.old }
+    requires fallen { p < count round.graph.marked.index.hops.now }
+    ensures { Pushed round.entry.graph.marked.index.hops.now round.entry.graph.marked.marks.now
+        (ClosedBy round.entry.graph.marked.index.hops.now p) worklist.old worklist.new }
 {
-    let s3 = from_at(graph.marked.index.hops, p);
-    for k in graph.begin(s3.0)..graph.end(s3.0) {
-        push_hop(graph, worklist, place_at(graph.places, k), p);
+    let s3 = from_at(round.graph.marked.index.hops, p);
+    for &j in round.graph.hops_into(s3.0) {
+        push_hop(round, worklist, usize::from(j), p);
     }
 }
 
 // Pushes the marked hops of which one of the fallen hops is a closing hop.
-pub fn next_queue(graph: RoundGraph<'_>, fallen: &[u16], worklist: &mut Worklist<'_>)
-    requires queue { Queue graph.marked.index.hops.now worklist.old }
-    requires fallen { PlacesBelow graph.marked.index.hops.now fallen.now }
-    ensures { Pushed graph.entry.marked.index.hops.now graph.entry.marked.marks.now
-        (ClosedByAny graph.entry.marked.index.hops.now fallen.now) worklist.old worklist.new }
+pub fn next_queue(round: RoundGraph<'_>, fallen: &[u16], worklist: &mut Worklist<'_>)
+    requires queue { Queue round.graph.marked.index.hops.now worklist.old }
+    requires fallen { PlacesBelow round.graph.marked.index.hops.now fallen.now }
+    ensures { Pushed round.entry.graph.marked.index.hops.now round.entry.graph.marked.marks.now
+        (ClosedByAny round.entry.graph.marked.index.hops.now fallen.now) worklist.old worklist.new }
 {
     for &p in fallen {
-        push_fallen(graph, worklist, usize::from(p));
+        push_fallen(round, worklist, usize::from(p));
     }
 }

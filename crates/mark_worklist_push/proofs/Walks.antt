@@ -2,14 +2,16 @@
 -- of one, over the hops that fell; and that together they push the sets of the contracts. Assumes
 -- nothing.
 use Rattle.std.proofs.Common.{Result, Ok, Err}
-use Prim.Native.Nat.{ℕ, ◌+◌, ◌<◌, ◌≤◌}
-use mathlib.Core.Path.{◌≡◌, refl, sym, ◌∙◌}
+use Prim.Native.Nat.{ℕ, ◌+◌, ◌-◌, ◌<◌, ◌≤◌}
+use mathlib.Core.Path.{◌≡◌, refl, sym, ap, subst, ◌∙◌}
 use mathlib.Core.Bool.{Bool, true, false}
 use mathlib.Core.List.{List, [], ◌∷◌, ◌++◌}
 use mathlib.Core.Logic.{◌⊎◌, inl, inr, ⊎_elim}
 use native.Mathlib.Omega.{arith}
-use lib.ListN.{get_or}
-use Rattle.std.proofs.lemmas.List.Elements.{Contains-push, Contains-append_left, Contains-push_cases}
+use lib.ListN.{length, get_or, take, drop, length-drop}
+use lib.Seq.{get_or-take, get_or-drop, length-take-le}
+use Rattle.std.specs.List.{All, Contains}
+use Rattle.std.proofs.lemmas.List.Elements.{All-from_get_or, All-contains, Contains-get_or, Contains-push, Contains-append_left, Contains-push_cases}
 use Rattle.base_bounded.specs.Internal.Slots.{slot}
 use Rattle.base_bounded.proofs.Bools.{clash, lt_or_le}
 use Rattle.base_bounded.proofs.Slots.{slot_in}
@@ -26,7 +28,7 @@ use Rattle.graph_predecessors.specs.Internal.PredecessorIndex.{predecessor_start
 use Rattle.graph_predecessors.proofs.PredecessorIndex.{place_in}
 use Rattle.mark_confluence.specs.Rounds.{FirstPoint}
 use Rattle.mark_worklist_push.specs.declared.Worklist.{Worklist}
-use Rattle.mark_worklist_push.specs.Internal.Queue.{is_set, Leaving, Queue, Wanted, Pushed, OnlyPlace, Joining, Like, AnsweredTo, Trying, Asked, DecidesPoint, ClosedBy, ClosedByAny}
+use Rattle.mark_worklist_push.specs.Internal.Queue.{PlacesInto, is_set, Leaving, Queue, Wanted, Pushed, OnlyPlace, Joining, Like, AnsweredTo, Trying, Asked, DecidesPoint, ClosedBy}
 use Rattle.mark_worklist_push.proofs.Pushing.{flag_says, pushed_none, pushed_then, pushed_same}
 
 -- what the steps from lo on and before k push, if step y pushes X y
@@ -44,6 +46,24 @@ module _ (hs ms : List ℕ) (X : ℕ → ℕ → Type 0) where
     -- the step at k pushes its own
     pub walk_more : {new : Worklist} → Pushed hs ms (X k) mid new → Pushed hs ms (Walked X lo (k + 1)) old new
     walk_more h = pushed_then hs ms g h less (λ x w. (k, l, omega arith, w)) (λ x w. more x w.inside)
+
+-- what the steps push, one for each of ks, if that for k pushes X k
+abbrev pub Over : (ℕ → ℕ → Type 0) → List ℕ → ℕ → Type 0
+Over X ks x = (k : ℕ) × Contains ks k × X k x
+
+module _ (hs ms : List ℕ) (X : ℕ → ℕ → Type 0) where
+  -- none so far, and one more
+  pub over_none : {w : Worklist} → Queue hs w → Pushed hs ms (Over X []) w w
+  over_none c = pushed_none hs ms c (λ x l w. let (k, (i, m, e), v) = w.inside in absurd (omega arith))
+
+  pub over_more : (ks : List ℕ) (k : ℕ) {old mid new : Worklist} → Pushed hs ms (Over X ks) old mid → Pushed hs ms (X k) mid new →
+      Pushed hs ms (Over X (ks ++ k ∷ [])) old new
+  over_more ks k g h =
+      pushed_then hs ms g h (λ x (q, c, w). (q, Contains-append_left ks (k ∷ []) q c, w)) (λ x w. (k, Contains-push ks k, w)) parts where
+        parts : (x : ℕ) → Wanted hs ms (Over X (ks ++ k ∷ [])) x → Over X ks x ⊎ X k x
+        parts x w =
+            let (q, c, v) = w.inside in
+            ⊎_elim (λ b. inl (q, b, v)) (λ e. inr (rw e v)) (Contains-push_cases ks k q c)
 
 module _ (hs ms : List ℕ) where
   -- the silent hop from s1 to s2, as the search finds it
@@ -69,28 +89,18 @@ module _ (hs ms : List ℕ) where
           (λ x l w. one_place hs up s1 0 s2 l there.0 (is_yes hs s1 0 s2 x w.inside.0 w.silent w.inside.1) there.1)
 
   -- over the hops into s4, the end of the hop at place p: those of the label of the hop at place j
-  module _ (ps : List ℕ) (j p : ℕ) where
-    abbrev pub Into : ℕ → ℕ → Type 0
-    Into y x = Like hs j (get_or ps y 0) x
+  pub into_all : (j p : ℕ) {ks : List ℕ} → PlacesInto hs (to hs p) ks → {old new : Worklist} →
+      Pushed hs ms (Over (Like hs j) ks) old new → Pushed hs ms (AnsweredTo hs j p) old new
+  into_all j p {ks} t g = pushed_same hs ms g on (λ x m w. back x w.inside) where
+    on : (x : ℕ) → Over (Like hs j) ks x → AnsweredTo hs j p x
+    on x (k, c, (e, (f, h))) =
+        let (m, z) = All-contains (λ y. (y < count hs) × (to hs y ≡ to hs p)) ks k t.each c in
+        (f, place_has hs (to hs x) (label hs j) (to hs p) (record { at = k; within = m; from_is = sym h; label_is = e; to_is = z }))
 
-    pub into_at : (y : ℕ) {m : ℕ} {old new : Worklist} → m ≡ get_or ps y 0 → Pushed hs ms (Like hs j m) old new → Pushed hs ms (Into y) old new
-    into_at y e g = rw e at g
-
-    pub into_all : PredecessorPlaces hs (count hs) ps → p < count hs → {lo hi k : ℕ} → lo ≡ predecessor_start hs (to hs p) → hi ≡ predecessor_start hs (to hs p + 1) → hi ≤ k → k ≤ hi →
-        {old new : Worklist} → Pushed hs ms (Walked Into lo k) old new → Pushed hs ms (AnsweredTo hs j p) old new
-    unfolding PredecessorPlaces
-    into_all fl l {lo} {hi} {k} a b u v g = pushed_same hs ms g on (λ x m w. back x w.inside) where
-      on : (x : ℕ) → Walked Into lo k x → AnsweredTo hs j p x
-      on x (y, c, d, (e, (f, h))) =
-          let (m, z) = place_in hs ps fl (to hs p) {k = y} (omega arith) (omega arith) in
-          (f, place_has hs (to hs x) (label hs j) (to hs p) (record { at = get_or ps y 0; within = m; from_is = sym h; label_is = e; to_is = z }))
-
-      back : (x : ℕ) → AnsweredTo hs j p x → Walked Into lo k x
-      back x (f, h) =
-          let q = has_place hs (to hs x) (label hs j) (to hs p) h in
-          let (c, d) = slot_in (to hs) (count hs) q.within in
-          let e : get_or ps (slot (to hs) (count hs) q.at) 0 ≡ q.at = fl q.at q.within in
-          (slot (to hs) (count hs) q.at, omega (arith, rw q.to_is at c), omega (arith, rw q.to_is at d), rw e (q.label_is, (f, sym q.from_is)))
+    back : (x : ℕ) → AnsweredTo hs j p x → Over (Like hs j) ks x
+    back x (f, h) =
+        let q = has_place hs (to hs x) (label hs j) (to hs p) h in
+        (q.at, t.all q.at q.within q.to_is, (q.label_is, (f, sym q.from_is)))
 
   -- for the hop to try at place j, with s4 itself where it is silent
   module _ (j p : ℕ) where
@@ -123,41 +133,18 @@ module _ (hs ms : List ℕ) where
         pushed_none hs ms c (λ x l w. clash (rw (e ∙ sym w.inside.0) (f x l w.marked)) n)
 
   -- over the hops into s3, where the hop at place p begins
-  module _ (ps : List ℕ) (p : ℕ) where
-    abbrev pub Tries : ℕ → ℕ → Type 0
-    Tries y x = Trying hs (get_or ps y 0) p x
+  pub tries_all : (p : ℕ) {ks : List ℕ} → PlacesInto hs (from hs p) ks → {old new : Worklist} →
+      Pushed hs ms (Over (λ j. Trying hs j p) ks) old new → Pushed hs ms (ClosedBy hs p) old new
+  tries_all p {ks} t g = pushed_same hs ms g on (λ x m w. back x w.inside) where
+    on : (x : ℕ) → Over (λ j. Trying hs j p) ks x → ClosedBy hs p x
+    on x (j, c, (e, f)) =
+        let (m, z) = All-contains (λ y. (y < count hs) × (to hs y ≡ from hs p)) ks j t.each c in
+        (label hs j, place_has hs (from hs x) (label hs j) (from hs p) (record { at = j; within = m; from_is = sym e; label_is = refl; to_is = z }), f)
 
-    pub tries_all : PredecessorPlaces hs (count hs) ps → p < count hs → {lo hi k : ℕ} → lo ≡ predecessor_start hs (from hs p) → hi ≡ predecessor_start hs (from hs p + 1) → hi ≤ k → k ≤ hi →
-        {old new : Worklist} → Pushed hs ms (Walked Tries lo k) old new → Pushed hs ms (ClosedBy hs p) old new
-    unfolding PredecessorPlaces
-    tries_all fl l {lo} {hi} {k} a b u v g = pushed_same hs ms g on (λ x m w. back x w.inside) where
-      on : (x : ℕ) → Walked Tries lo k x → ClosedBy hs p x
-      on x (y, c, d, (e, f)) =
-          let (m, z) = place_in hs ps fl (from hs p) {k = y} (omega arith) (omega arith) in
-          (label hs (get_or ps y 0), place_has hs (from hs x) (label hs (get_or ps y 0)) (from hs p) (record { at = get_or ps y 0; within = m; from_is = sym e; label_is = refl; to_is = z }), f)
-
-      back : (x : ℕ) → ClosedBy hs p x → Walked Tries lo k x
-      back x (t, h, f) =
-          let q = has_place hs (from hs x) t (from hs p) h in
-          let (c, d) = slot_in (to hs) (count hs) q.within in
-          let e : get_or ps (slot (to hs) (count hs) q.at) 0 ≡ q.at = fl q.at q.within in
-          (slot (to hs) (count hs) q.at, omega (arith, rw q.to_is at c), omega (arith, rw q.to_is at d), rw (e, q.label_is) (sym q.from_is, f))
-
-    pub tries_at : (y : ℕ) {j : ℕ} {old new : Worklist} → j ≡ get_or ps y 0 → Pushed hs ms (Trying hs j p) old new → Pushed hs ms (Tries y) old new
-    tries_at y e g = rw e at g
-
-  -- over the hops that fell: none so far, and one more
-  pub falls_none : {w : Worklist} → Queue hs w → Pushed hs ms (ClosedByAny hs []) w w
-  falls_none c = pushed_none hs ms c (λ x l w. let (p, (k, m, e), v) = w.inside in absurd (omega arith))
-
-  pub falls_more : (ps : List ℕ) (p : ℕ) {old mid new : Worklist} → Pushed hs ms (ClosedByAny hs ps) old mid → Pushed hs ms (ClosedBy hs p) mid new →
-      Pushed hs ms (ClosedByAny hs (ps ++ p ∷ [])) old new
-  falls_more ps p g h =
-      pushed_then hs ms g h (λ x (q, c, w). (q, Contains-append_left ps (p ∷ []) q c, w)) (λ x w. (p, Contains-push ps p, w)) parts where
-        parts : (x : ℕ) → Wanted hs ms (ClosedByAny hs (ps ++ p ∷ [])) x → ClosedByAny hs ps x ⊎ ClosedBy hs p x
-        parts x w =
-            let (q, c, v) = w.inside in
-            ⊎_elim (λ b. inl (q, b, v)) (λ e. inr (rw e v)) (Contains-push_cases ps p q c)
+    back : (x : ℕ) → ClosedBy hs p x → Over (λ j. Trying hs j p) ks x
+    back x (a, h, f) =
+        let q = has_place hs (from hs x) a (from hs p) h in
+        (q.at, t.all q.at q.within q.to_is, rw q.label_is (sym q.from_is, f))
 
 -- document 01's first point, where s4 is not s2 itself: r is whether s2 has the hop
 pub point_is : (hs : List ℕ) (s2 a s4 : ℕ) {r : Bool} → r ≡ has hs s2 a s4 → (a ≡ 0 → s4 ≡ s2 → ⊥) → DecidesPoint hs s2 a s4 r
@@ -170,3 +157,35 @@ point_is hs s2 a s4 {r} e n = record { yes = λ d. inl (sym e ∙ d); no = none 
 pub begin_is : (hs bs : List ℕ) → PredecessorStarts hs bs → {x r : ℕ} (y : ℕ) → x ≡ y → y ≤ most_states → r ≡ get_or bs x 0 → r ≡ predecessor_start hs y
 unfolding PredecessorStarts
 begin_is hs bs t y q l e = e ∙ (rw q (t y l))
+
+-- the part of the table from where the hops into s begin to where those into the next state do
+module _ (hs ps : List ℕ) (f : PredecessorPlaces hs (count hs) ps) (s : ℕ) {lo hi : ℕ} (a : lo ≡ predecessor_start hs s) (b : hi ≡ predecessor_start hs (s + 1)) (l : hi ≤ length ps) where
+  abbrev part : List ℕ
+  part = take (hi - lo) (drop lo ps)
+
+  long : length part ≡ hi - lo
+  long = length-take-le (hi - lo) (drop lo ps) (omega (arith, length-drop lo ps, l))
+
+  part_at : (i : ℕ) → i < hi - lo → get_or part i 0 ≡ get_or ps (lo + i) 0
+  part_at i m = get_or-take (hi - lo) (drop lo ps) i 0 m ∙ get_or-drop lo ps i 0
+
+  -- what stands in the table at y stands in it
+  at_slot : (k y : ℕ) → lo ≤ y → y < hi → get_or ps y 0 ≡ k → Contains part k
+  at_slot k y c d q =
+      let e : lo + (y - lo) ≡ y = omega arith in
+      let m : y - lo < hi - lo = omega arith in
+      subst (Contains part) (part_at (y - lo) m ∙ ap (λ z. get_or ps z 0) e ∙ q) (Contains-get_or part (y - lo) 0 (omega (arith, long)))
+
+  -- it holds the places of the hops into s
+  pub places_into : PlacesInto hs s part
+  unfolding PredecessorPlaces
+  places_into = record { each = each; all = all } where
+    each : All (λ k. (k < count hs) × (to hs k ≡ s)) part
+    each = All-from_get_or (λ k. (k < count hs) × (to hs k ≡ s)) part 0 (λ i m.
+        let n : i < hi - lo = omega (arith, long) in
+        rw (part_at i n) (place_in hs ps f s {k = lo + i} (omega (arith, a)) (omega (arith, a, b))))
+
+    all : (k : ℕ) → k < count hs → to hs k ≡ s → Contains part k
+    all k m e =
+        let (c, d) = slot_in (to hs) (count hs) m in
+        at_slot k (slot (to hs) (count hs) k) (omega (arith, a, rw e at c)) (omega (arith, b, rw e at d)) (f k m)

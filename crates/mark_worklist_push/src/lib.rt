@@ -13,12 +13,12 @@ ghost use Rattle.std.specs.Prelude.{◌≡◌, ◌+◌, ◌<◌, ◌≤◌};
 ghost use Rattle.graph.specs.Hops.{count, label};
 ghost use Rattle.graph.specs.Answers.{most_states};
 ghost use Rattle.graph_predecessors.specs.Internal.PredecessorIndex.{predecessor_start};
-ghost use Rattle.mark_worklist_push.specs.Internal.Queue.{Tables, Leaving, Queue, Pushed, OnlyPlace, Joining, Like, AnsweredTo, Trying, Asked, DecidesPoint};
-ghost use Rattle.mark_worklist_push.specs.Internal.Facts.{tables_prop, leaving_prop};
+ghost use Rattle.mark_worklist_push.specs.Internal.Queue.{Tables, PlacesInto, Queue, Pushed, OnlyPlace, Joining, Like, AnsweredTo, Trying, Asked, DecidesPoint};
+ghost use Rattle.mark_worklist_push.specs.Internal.Facts.{tables_prop};
 
 use graph::hops::{from_at, hop_of, label_at, to_at};
 use graph::tables::place_at;
-use graph::{Label, MOST_HOPS, MOST_STATES, OldState};
+use graph::{Label, MOST_HOPS, OldState};
 use graph_index::{Index, Marked};
 use graph_successors::STARTS;
 
@@ -31,20 +31,17 @@ pub struct Worklist<'a> {
     pub len: usize,
 }
 
-// What a later round goes by: the marks, the hops into each state (where they begin among the
-// places, and the places), and whether a marked hop leaves a state. It is a few references, and
-// goes by value.
+// A graph with its marks and its predecessor index: where the hops into each state begin among the
+// places, and the places. It is a few references, and goes by value.
 #[derive(Clone, Copy)]
-pub struct RoundGraph<'a> {
+pub struct Predecessors<'a> {
     pub marked: Marked<'a>,
     pub begins: &'a [u16; STARTS],
     pub places: &'a [u16; MOST_HOPS],
-    pub leaving: &'a [bool; MOST_STATES],
     ghost tables: { Tables marked.index.hops.now begins.now places.now } by { tables_prop marked.index.hops.now begins.now places.now },
-    ghost leaves: { Leaving marked.index.hops.now marked.marks.now leaving.now } by { leaving_prop marked.index.hops.now marked.marks.now leaving.now },
 }
 
-impl<'a> RoundGraph<'a> {
+impl<'a> Predecessors<'a> {
     // Where the hops into s begin among the places.
     pub fn begin(self, s: u16) -> usize
         requires { s < most_states }
@@ -61,6 +58,15 @@ impl<'a> RoundGraph<'a> {
         ensures within { result ≤ count self.entry.marked.index.hops.now }
     {
         place_at(self.begins, usize::from(s) + 1)
+    }
+
+    // The places of the hops into s.
+    pub fn hops_into(self, s: u16) -> &'a [u16]
+        requires { s < most_states }
+        ensures { PlacesInto self.entry.marked.index.hops.now s result.now }
+    {
+        let places = self.places;
+        &places[self.begin(s)..self.end(s)]
     }
 }
 
@@ -113,7 +119,7 @@ fn push_like(graph: Marked<'_>, worklist: &mut Worklist<'_>, j: usize, m: usize)
 
 // Pushes s1's silent hops to states that have a hop to s4 with the label of the hop at place j,
 // which leaves s1: each hop into s4 is asked.
-fn push_answers(graph: RoundGraph<'_>, worklist: &mut Worklist<'_>, j: usize, p: usize)
+fn push_answers(graph: Predecessors<'_>, worklist: &mut Worklist<'_>, j: usize, p: usize)
     requires queue { Queue graph.marked.index.hops.now worklist.old }
     requires tried { j < count graph.marked.index.hops.now }
     requires fallen { p < count graph.marked.index.hops.now }
@@ -121,13 +127,13 @@ fn push_answers(graph: RoundGraph<'_>, worklist: &mut Worklist<'_>, j: usize, p:
         (AnsweredTo graph.entry.marked.index.hops.now j p) worklist.old worklist.new }
 {
     let s4 = to_at(graph.marked.index.hops, p);
-    for k in graph.begin(s4.0)..graph.end(s4.0) {
-        push_like(graph.marked, worklist, j, place_at(graph.places, k));
+    for &k in graph.hops_into(s4.0) {
+        push_like(graph.marked, worklist, j, usize::from(k));
     }
 }
 
 // The same, with the silent hop to s4 itself where the hop to try is silent.
-pub fn push_into(graph: RoundGraph<'_>, worklist: &mut Worklist<'_>, j: usize, p: usize)
+pub fn push_into(graph: Predecessors<'_>, worklist: &mut Worklist<'_>, j: usize, p: usize)
     requires queue { Queue graph.marked.index.hops.now worklist.old }
     requires tried { j < count graph.marked.index.hops.now }
     requires fallen { p < count graph.marked.index.hops.now }

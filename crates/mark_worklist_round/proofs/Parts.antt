@@ -28,7 +28,7 @@ use Rattle.mark_worklist.specs.Tests.{still_marked, tested_in}
 use Rattle.mark_worklist.proofs.Tests.{survives_closes, survives_yes, still_marked_yes, still_marked_silent, still_marked_survives, still_marked_falls, tested_still_marked, untested_survives}
 use Rattle.mark_worklist_push.specs.Internal.Queue.{is_set}
 use Rattle.mark_worklist_push.proofs.Pushing.{flag_yes, flag_no}
-use Rattle.mark_worklist_round.specs.Internal.Round.{Enumerates, DirtyStates, ListedUnless, Tested, Cleared, Unmarked, FallsIn, FallenIn}
+use Rattle.mark_worklist_round.specs.Internal.Round.{Enumerates, DirtyStates, Tested, Cleared, Unmarked, FallsIn, FallenIn}
 
 -- listing the silent hops: a place comes behind the list if it passes
 module _ (p : ℕ → Bool) where
@@ -85,15 +85,17 @@ module _ (hs ms : List ℕ) where
     failed =
         All-weaker (Failed qs) (Failed (qs ++ i ∷ [])) (λ j h. (Contains-append_left qs (i ∷ []) j h.0, h.1)) fl t.each
 
-    pub tested_more : (v : Bool) {new : List ℕ} → v ≡ closes_at hs (mark_set hs ms) i → ListedUnless i v fl new → Tested hs ms (qs ++ i ∷ []) new
-    tested_more true e d = rw d (record {
+    pub tested_kept : true ≡ closes_at hs (mark_set hs ms) i → Tested hs ms (qs ++ i ∷ []) fl
+    tested_kept e = record {
       each = failed;
       all = λ j a n. ⊎_elim (λ b. t.all j b n) (λ b. clash (sym e) (rw (← b) at n)) (Contains-push_cases qs i j a);
-    })
-    tested_more false e d = rw d (record {
+    }
+
+    pub tested_lost : false ≡ closes_at hs (mark_set hs ms) i → Tested hs ms (qs ++ i ∷ []) (fl ++ i ∷ [])
+    tested_lost e = record {
       each = All-push (Failed (qs ++ i ∷ [])) fl i failed (Contains-push qs i, sym e);
       all = λ j a n. ⊎_elim (λ b. Contains-append_left fl (i ∷ []) j (t.all j b n)) (λ b. rw (← b) (Contains-push fl i)) (Contains-push_cases qs i j a);
-    })
+    }
 
 -- clearing the flags of what is tested
 pub cleared_none : (hs : List ℕ) (old : List Bool) → count hs ≤ length old → Cleared hs [] old old

@@ -7,13 +7,13 @@
 // with its table and its marks.
 #![tactic(auto)]
 
-ghost use Rattle.std.specs.Prelude.{◌+◌, ◌<◌, ◌≤◌, length, take, All};
+ghost use Rattle.std.specs.Prelude.{◌<◌, ◌≤◌, length, take, All};
 ghost use Rattle.graph.specs.Hops.{count};
 ghost use Rattle.graph.specs.Answers.{most_hops};
 ghost use Rattle.graph_successors.specs.Internal.SuccessorIndex.{Indexable};
 ghost use Rattle.mark_worklist.specs.Tests.{tested_in};
 ghost use Rattle.mark_worklist_push.specs.Internal.Queue.{queued, PlacesBelow};
-ghost use Rattle.mark_worklist_round.specs.Internal.Round.{Enumerates, DirtyStates, SkipsClean, ListedUnless, Tested, Cleared, Emptied, Unmarked};
+ghost use Rattle.mark_worklist_round.specs.Internal.Round.{Enumerates, DirtyStates, SkipsClean, Tested, Cleared, Emptied, Unmarked};
 
 use graph::hops::{from_at, hop_count, label_at};
 use graph::{MOST_HOPS, MOST_STATES};
@@ -26,11 +26,9 @@ use mark_worklist_push::Worklist;
 // written behind the list, and kept if its hop is silent, so that no write depends on a branch that
 // is hard to predict.
 pub fn list_silent(hops: &[u16], queue: &mut [u16; MOST_HOPS]) -> usize
-    requires ready { Indexable hops.now }
-    requires capacity { most_hops ≤ length queue.old }
+    requires { Indexable hops.now }
     ensures lists { Enumerates (count hops.now) (tested_in hops.now 0) (take result queue.new) }
     ensures within { result ≤ most_hops }
-    ensures capacity { most_hops ≤ length queue.new }
 {
     let mut n = 0;
     for i in 0..hop_count(hops) {
@@ -58,21 +56,9 @@ pub fn dirty_of(hops: &[u16], fallen: &[u16]) -> [bool; MOST_STATES]
     dirty
 }
 
-// Lists the hop at place i behind the fallen ones unless it closes; returns how many there are.
-fn list_unless(fallen: &mut [u16; MOST_HOPS], lost: usize, i: u16, closes: bool) -> usize
-    requires { lost < most_hops }
-    ensures lists { ListedUnless i closes (take lost fallen.old) (take result fallen.new) }
-    ensures within { result ≤ lost + 1 }
-{
-    if closes {
-        return lost;
-    }
-    fallen[lost] = i;
-    lost + 1
-}
-
 // The first round: tests the hops of the queue against the marks, which stay as they are, and tries
-// every hop; lists those that do not close, and returns how many.
+// every hop; lists those that do not close, and returns how many. The count is returned beside the
+// array: a struct of the two would have to hold the array's length as a fact, which the type gives.
 pub fn test_first(graph: Marked<'_>, queue: &[u16], fallen: &mut [u16; MOST_HOPS]) -> usize
     requires most { length queue.now ≤ most_hops }
     requires places { PlacesBelow graph.index.hops.now queue.now }
@@ -81,7 +67,11 @@ pub fn test_first(graph: Marked<'_>, queue: &[u16], fallen: &mut [u16; MOST_HOPS
 {
     let mut lost = 0;
     for &i in queue {
-        lost = list_unless(fallen, lost, i, closes_at(graph, usize::from(i)));
+        let closes = closes_at(graph, usize::from(i));
+        if !closes {
+            fallen[lost] = i;
+            lost += 1;
+        }
     }
     lost
 }
@@ -108,7 +98,11 @@ pub fn test_again(
     for k in 0..worklist.len {
         let i = worklist.places[k];
         worklist.flags[usize::from(i)] = false;
-        lost = list_unless(fallen, lost, i, closes_again(graph, dirty, usize::from(i)));
+        let closes = closes_again(graph, dirty, usize::from(i));
+        if !closes {
+            fallen[lost] = i;
+            lost += 1;
+        }
     }
     worklist.len = 0;
     lost

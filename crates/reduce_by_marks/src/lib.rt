@@ -17,7 +17,7 @@ ghost use Rattle.reduce_by_marks.specs.Internal.ByMarks.{shape_by, short_graph, 
 use graph::map::map_at;
 use graph::{OldState, Shape};
 use reduce_representatives::NUMBERS;
-use reduce_representatives::follow::next_states;
+use reduce_representatives::follow::{WalkTable, next_states};
 use reduce_representatives::renumber::{fill_map, new_numbers};
 use reduce_short_graph::shorten::shorten;
 
@@ -61,7 +61,11 @@ pub fn reduce_marked(
 {
     let next = next_states(hops, marks);
     let news = new_numbers(&next);
-    fill_map(shape.states as usize, next, &news, map);
+    let walks = WalkTable {
+        next,
+        states: shape.states as usize,
+    };
+    fill_map(walks, &news, map);
     let n = shorten(hops, &next, map, short);
     ShortGraph {
         shape: short_shape(shape, &news, map),

@@ -4,7 +4,6 @@ ghost use Rattle.std.specs.Prelude.{◌≡◌, ◌≤◌, length, IfOk};
 ghost use Rattle.base_outputs.specs.Output.{on_front};
 ghost use Rattle.graph.specs.Hops.{count, flat};
 ghost use Rattle.graph.specs.Answers.{answer_of};
-ghost use Rattle.walk_silent.specs.Silent.{ring_answer};
 ghost use Rattle.mark_confluence.specs.Marks.{marks_of};
 ghost use Rattle.mark_senses.specs.Senses.{marked_by};
 ghost use Rattle.mark_senses.specs.Internal.Numbers.{sense_number};
@@ -20,7 +19,7 @@ use mark_batch_sweeps::mark_by_sweeps;
 use mark_senses::Sense;
 use mark_worklist_loop::mark_rounds;
 use reduce_by_marks::{ShortGraph, reduce_marked};
-use walk_rings::check_rings;
+use walk_rings::{Ringless, check_rings};
 
 // Rows 19, 5 and 6 of an admitted graph; if none refuses, the sense with the number.
 fn check_later(
@@ -67,40 +66,43 @@ pub fn check_reduce(
 // Marks in the sense: R1 by rounds with a worklist, any other by sweeps.
 // It serves `reduce` and the repeated reduction. `mark` has a choice of its own: with one function
 // for all, R1 would take as much stack as the other senses.
-pub fn mark_in(graph: Indexed<'_>, sense: Sense, marks: &mut [u8])
-    requires free { (ring_answer graph.shape graph.index.hops.now).number ≡ 0 }
-    requires capacity { count graph.index.hops.now ≤ length marks.old }
+pub fn mark_in(ringless: Ringless<'_>, sense: Sense, marks: &mut [u8])
+    requires { count ringless.graph.index.hops.now ≤ length marks.old }
     ensures { marks.new ≡
-        on_front (marks_of graph.entry.index.hops.now (marked_by (sense_number sense) graph.entry.shape graph.entry.index.hops.now)) marks.old }
+        on_front
+        (marks_of ringless.entry.graph.index.hops.now
+        (marked_by (sense_number sense) ringless.entry.graph.shape ringless.entry.graph.index.hops.now))
+        marks.old }
 {
     match sense {
         Sense::R1 => {
-            mark_rounds(graph.index, marks);
+            mark_rounds(ringless.graph.index, marks);
         }
-        Sense::R2 | Sense::R3 | Sense::R8 => mark_by_sweeps(graph, sense, marks),
+        Sense::R2 | Sense::R3 | Sense::R8 => mark_by_sweeps(ringless, sense, marks),
     }
 }
 
 // The reduction of a graph that every row lets pass: it is marked in the sense, and reduced along
 // the marks.
 fn accepted_reduction(
-    graph: Indexed<'_>,
+    ringless: Ringless<'_>,
     sense: Sense,
     map: &mut [u16],
     short: &mut [u16],
 ) -> ShortGraph
-    requires free { (ring_answer graph.shape graph.index.hops.now).number ≡ 0 }
-    requires map_capacity { graph.shape.states ≤ length map.old }
-    requires short_capacity { length graph.index.hops.now ≤ length short.old }
+    requires map_capacity { ringless.graph.shape.states ≤ length map.old }
+    requires short_capacity { length ringless.graph.index.hops.now ≤ length short.old }
     ensures returned { result ≡
-        short_graph graph.entry.shape graph.entry.index.hops.now (marked_by (sense_number sense) graph.entry.shape graph.entry.index.hops.now) }
+        short_graph ringless.entry.graph.shape ringless.entry.graph.index.hops.now
+        (marked_by (sense_number sense) ringless.entry.graph.shape ringless.entry.graph.index.hops.now) }
     ensures mapped { map.new ≡
-        on_front (reduced_map graph.entry.shape graph.entry.index.hops.now (sense_number sense)) map.old }
+        on_front (reduced_map ringless.entry.graph.shape ringless.entry.graph.index.hops.now (sense_number sense)) map.old }
     ensures shortened { short.new ≡
-        on_front (flat (reduced_hops graph.entry.shape graph.entry.index.hops.now (sense_number sense))) short.old }
+        on_front (flat (reduced_hops ringless.entry.graph.shape ringless.entry.graph.index.hops.now (sense_number sense))) short.old }
 {
     let mut marks = [0u8; MOST_HOPS];
-    mark_in(graph, sense, &mut marks);
+    mark_in(ringless, sense, &mut marks);
+    let graph = ringless.graph;
     reduce_marked(graph.shape, graph.index.hops, &marks, map, short)
 }
 
@@ -129,5 +131,6 @@ pub fn reduce(
         },
     };
     let sense = check_later(graph, sense, map.len(), short.len())?;
-    Ok(accepted_reduction(graph, sense, map, short))
+    let ringless = Ringless { graph };
+    Ok(accepted_reduction(ringless, sense, map, short))
 }

@@ -3,10 +3,11 @@
 use Prim.Native.Nat.{ℕ, zero, suc, ◌<◌, ◌≤◌}
 use mathlib.Core.Path.{◌≡◌, refl, sym, ap, ◌∙◌}
 use mathlib.Core.List.{List}
-use mathlib.Core.Logic.{◌⊎◌, inl, inr, ⊎_elim}
+use mathlib.Core.Logic.{◌⊎◌, inl, inr, ⊎_elim, ∥∥₁_elim, ∥∥₁_map}
 use native.Mathlib.Omega.{arith}
 use lib.ListN.{length, get_or, set, length-set}
 use lib.Seq.{get_or-set_same, get_or-set_other}
+use Rattle.std.proofs.Props.{props}
 use Rattle.std.proofs.lemmas.Bool.{cases_eq}
 use Rattle.reduce_representatives.specs.Internal.Tables.{ClosedTable, RankFalls, TerminatingTable, Compressed, table_steps}
 use Rattle.reduce_representatives.proofs.Nexts.{table_steps_rest, table_steps_in}
@@ -18,6 +19,11 @@ compressed_none n next closed = record { long = refl; closed = closed; same = λ
 -- one compression after another
 pub compressed_then : {n : ℕ} {next known more : List ℕ} → Compressed n next known → Compressed n known more → Compressed n next more
 compressed_then a b = record { long = b.long ∙ a.long; closed = b.closed; same = λ s l. b.same s l ∙ a.same s l; falls = λ rank f. b.falls rank (a.falls rank f) }
+
+-- and walks by a table along which every such rank falls terminate, too
+pub falling_terminating : {n : ℕ} {next known : List ℕ} → ((rank : ℕ → ℕ) → RankFalls n rank next → RankFalls n rank known) →
+    ∥ TerminatingTable n next ∥₁ → ∥ TerminatingTable n known ∥₁
+falling_terminating f ends = ∥∥₁_map ends (λ sinks. record { rank = sinks.rank; bound = sinks.bound; falls = f sinks.rank sinks.falls })
 
 -- a table in which some states have their representative
 pub record Way (n : ℕ) (next known : List ℕ) : Type 0 where
@@ -44,10 +50,11 @@ module _ (n : ℕ) (next : List ℕ) (closed : ClosedTable n next) where
     stepped_enough (suc k) s l m =
         ⊎_elim (λ q. table_steps_rest next (suc (suc k)) s q ∙ sym (table_steps_rest next (suc k) s q)) (λ q. stepped_enough k (get_or next s 0) (closed s l) (omega arith)) (sinks.falls s l)
 
+  module _ (ends : ∥ TerminatingTable n next ∥₁) where
     -- a step of the way leads to the same state
     step_leads : (s : ℕ) → s < n → table_steps next n (get_or next s 0) ≡ table_steps next n s
     unfolding table_steps
-    step_leads s l = stepped_enough n s l (sinks.bound s l)
+    step_leads s l = ∥∥₁_elim ends (hlevel props) (λ sinks. stepped_enough sinks n s l (sinks.bound s l))
 
     way_leads : (k s : ℕ) → s < n → table_steps next n (table_steps next k s) ≡ table_steps next n s
     unfolding table_steps ClosedTable
@@ -86,13 +93,13 @@ module _ (n : ℕ) (next : List ℕ) (closed : ClosedTable n next) where
             (f s k)
 
     -- it leads where the first one does
-    way_same_by : {known : List ℕ} → Way n next known → (k s : ℕ) → s < n → sinks.rank s ≤ k → table_steps known k s ≡ table_steps next n s
+    way_same_by : (sinks : TerminatingTable n next) {known : List ℕ} → Way n next known → (k s : ℕ) → s < n → sinks.rank s ≤ k → table_steps known k s ≡ table_steps next n s
     unfolding table_steps RankFalls ClosedTable
-    way_same_by {known} w zero s l m =
+    way_same_by sinks {known} w zero s l m =
         ⊎_elim (λ q. sym (w.rests s l q)) (λ q. absurd (omega arith)) (w.falling sinks.rank sinks.falls s l)
-    way_same_by {known} w (suc k) s l m =
-        ⊎_elim (λ q. table_steps_rest known (suc k) s q ∙ sym (w.rests s l q)) (λ q. way_same_by w k (get_or known s 0) (w.within s l) (omega arith) ∙ w.leads s l)
+    way_same_by sinks {known} w (suc k) s l m =
+        ⊎_elim (λ q. table_steps_rest known (suc k) s q ∙ sym (w.rests s l q)) (λ q. way_same_by sinks w k (get_or known s 0) (w.within s l) (omega arith) ∙ w.leads s l)
         (w.falling sinks.rank sinks.falls s l)
 
     pub way_compressed : {known : List ℕ} → Way n next known → Compressed n next known
-    way_compressed w = record { long = w.long; closed = w.within; same = λ s l. way_same_by w n s l (sinks.bound s l); falls = w.falling }
+    way_compressed w = record { long = w.long; closed = w.within; same = λ s l. ∥∥₁_elim ends (hlevel props) (λ sinks. way_same_by sinks w n s l (sinks.bound s l)); falls = w.falling }

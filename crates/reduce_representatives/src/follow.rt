@@ -1,8 +1,6 @@
 // Where the first marked hop of each state leads, and the representative that these hops lead to.
 // Path compression: a walk writes the representative into the table for every state that it passed,
 // so that later walks go from these states straight to it.
-// What is known of the table is clauses, and no type's: `TerminatingTable` holds a rank, so it is
-// no proposition, which a ghost field has to be.
 ghost use Rattle.std.specs.Prelude.{◌≡◌, ◌<◌, ◌≤◌, length};
 ghost use Rattle.graph.specs.Hops.{count, from};
 ghost use Rattle.graph.specs.Answers.{most_states};
@@ -10,9 +8,22 @@ ghost use Rattle.mark_confluence.specs.Internal.MarkSet.{mark_set};
 ghost use Rattle.reduce_representatives.specs.Internal.Tables.{Marks, IdentityTable, FromIn, NextTable};
 ghost use Rattle.reduce_representatives.specs.Internal.Tables.{ClosedTable, TerminatingTable, Compressed};
 ghost use Rattle.reduce_representatives.specs.Internal.Tables.{with_next, is_fixed, table_steps};
+ghost use Rattle.reduce_representatives.specs.Internal.Facts.{closed_table_prop};
 
 use graph::hops::{from_at, hop_count, to_at};
 use graph::{MOST_STATES, OldState};
+
+// A table by which all walks end: it leads from the first `states` states to these only, and a rank
+// falls along it. `terminating` is the mere fact that there is one, since a rank is no proposition,
+// which a ghost field has to be.
+#[derive(Drop)]
+pub struct WalkTable {
+    pub next: [u16; MOST_STATES],
+    pub states: usize,
+    ghost few: { states ≤ most_states },
+    ghost closed: { ClosedTable states next } by { closed_table_prop states next },
+    ghost terminating: { ∥ TerminatingTable states next ∥₁ },
+}
 
 // A table that leads from each state to itself.
 #[tactic(auto, unfolding(crate::specs::Internal::Tables::IdentityTable))]
@@ -63,6 +74,7 @@ pub fn is_fixed(next: &[u16; MOST_STATES], s: OldState) -> bool
 
 // The state that s comes to within as many steps as there are states.
 // It goes along the table's 16-bit numbers, where `OldState(..)` and `.0` would say nothing more.
+// It asks less than a `WalkTable`: walks by the table need not end.
 pub fn follow(next: &[u16; MOST_STATES], states: usize, s: OldState) -> OldState
     requires inside { s.0 < states }
     requires few { states ≤ most_states }
@@ -80,24 +92,23 @@ pub fn follow(next: &[u16; MOST_STATES], states: usize, s: OldState) -> OldState
     OldState(at)
 }
 
-// Walks from s to its representative, and enters it for every state on the way.
-pub fn compress_path(next: &mut [u16; MOST_STATES], states: usize, s: OldState, rep: OldState)
-    requires inside { s.0 < states }
-    requires few { states ≤ most_states }
-    requires capacity { most_states ≤ length next.old }
-    requires closed { ClosedTable states next.old }
-    requires terminating { TerminatingTable states next.old }
-    requires rep { rep.0 ≡ table_steps next.old states s.0 }
-    ensures { Compressed states next.old next.new }
-{
-    let mut at = s.0;
-    for _passed in 0..states {
-        let i = usize::from(at);
-        let to = next[i];
-        if to == rep.0 {
-            break;
+impl WalkTable {
+    // Walks from s to its representative, and enters it for every state on the way.
+    pub fn compress_path(&mut self, s: OldState, rep: OldState)
+        requires inside { s.0 < self.old.states }
+        requires rep { rep.0 ≡ table_steps self.old.next self.old.states s.0 }
+        ensures states { self.new.states ≡ self.old.states }
+        ensures compressed { Compressed self.old.states self.old.next self.new.next }
+    {
+        let mut at = s.0;
+        for _passed in 0..self.states {
+            let i = usize::from(at);
+            let to = self.next[i];
+            if to == rep.0 {
+                break;
+            }
+            self.next[i] = rep.0;
+            at = to;
         }
-        next[i] = rep.0;
-        at = to;
     }
 }

@@ -2,11 +2,10 @@
 ghost use Rattle.std.specs.Prelude.{◌≡◌, ◌≤◌, length};
 ghost use Rattle.base_bounded.specs.Quantifiers.{tabulate};
 ghost use Rattle.base_outputs.specs.Output.{on_front};
-ghost use Rattle.graph.specs.Answers.{most_states};
-ghost use Rattle.reduce_representatives.specs.Internal.Tables.{ClosedTable, TerminatingTable, NewNumbers, new_number};
+ghost use Rattle.reduce_representatives.specs.Internal.Tables.{NewNumbers, new_number};
 
 use super::NUMBERS;
-use super::follow::{compress_path, follow, is_fixed};
+use super::follow::{WalkTable, follow, is_fixed};
 use graph::map::map_at;
 use graph::{MOST_STATES, OldState};
 
@@ -28,18 +27,15 @@ pub fn new_numbers(next: &[u16; MOST_STATES]) -> [u16; NUMBERS]
 
 // The map: each state has the new number of its representative. The table of next states comes by
 // value: representatives are entered in it (path compression), so that no long walk is made twice.
-pub fn fill_map(states: usize, mut next: [u16; MOST_STATES], news: &[u16], map: &mut [u16])
-    requires few { states ≤ most_states }
-    requires numbers { states ≤ length news.now }
-    requires capacity { states ≤ length map.old }
-    requires closed { ClosedTable states next }
-    requires terminating { TerminatingTable states next }
-    ensures { map.new ≡ on_front (tabulate states (new_number next news.now states)) map.old }
+pub fn fill_map(mut walks: WalkTable, news: &[u16], map: &mut [u16])
+    requires numbers { walks.states ≤ length news.now }
+    requires capacity { walks.states ≤ length map.old }
+    ensures { map.new ≡ on_front (tabulate walks.states (new_number walks.next news.now walks.states)) map.old }
 {
-    for s in 0..states {
+    for s in 0..walks.states {
         let old = OldState(s as u16);
-        let rep = follow(&next, states, old);
-        compress_path(&mut next, states, old, rep);
+        let rep = follow(&walks.next, walks.states, old);
+        walks.compress_path(old, rep);
         map[s] = map_at(news, rep).0;
     }
 }

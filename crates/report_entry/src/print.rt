@@ -16,7 +16,7 @@ use graph_successors::{STARTS, put_starts};
 use reduce_strong::reduce_strong;
 use report_rows::{put_refusal, put_report};
 use report_text::Text;
-use walk_rings::check_rings;
+use walk_rings::{Ringless, check_rings};
 
 // The longest input that is looked at.
 pub const MOST_INPUT: usize = 65536;
@@ -38,7 +38,8 @@ fn print_reduced(text: &mut Text, shape: Shape, hops: &[u16], starts: &[u16; STA
     let mut map = [0u16; MOST_STATES];
     let mut short = [0u16; MOST_NUMBERS];
     let index = Index { hops, starts };
-    let made = reduce_strong(Indexed { shape, index }, &mut marks, &mut map, &mut short);
+    let graph = Indexed { shape, index };
+    let made = reduce_strong(Ringless { graph }, &mut marks, &mut map, &mut short);
     put_report(
         text,
         shape,

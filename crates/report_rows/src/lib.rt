@@ -12,8 +12,7 @@ ghost use Rattle.report_rows.specs.Internal.Rows.{by_place, marked_lines, map_li
 ghost use Rattle.report_rows.specs.Rows.{marked_line, hop_line, refusal_of};
 
 use graph::hops::{from_at, hop_count, label_at, line_at, new_from_at, new_to_at, to_at};
-use graph::map::map_at;
-use graph::{Answer, OldState, Shape};
+use graph::{Answer, Shape};
 use report_text::Text;
 
 // "A refusal prints only `no`, number, place."
@@ -49,15 +48,12 @@ fn put_marks(text: &mut Text, hops: &[u16], marks: &[u8])
     }
 }
 
-fn put_map(text: &mut Text, map: &[u16], states: usize)
-    requires mapped { states ≤ length map.now }
-    requires few { states ≤ most_states }
-    requires capacity { HasCapacity text.old (map_lines states map.now) }
-    ensures { TextWritten text.old (map_lines states map.now) text.new }
+fn put_map(text: &mut Text, map: &[u16])
+    requires { HasCapacity text.old (map_lines (length map.now) map.now) }
+    ensures { TextWritten text.old (map_lines (length map.now) map.now) text.new }
 {
-    for s in 0..states {
-        let new = usize::from(map_at(map, OldState(s as u16)).0);
-        text.put_line(b"map", &[s, new]);
+    for (s, new) in map.iter().enumerate() {
+        text.put_line(b"map", &[s, usize::from(*new)]);
     }
 }
 
@@ -102,7 +98,7 @@ pub fn put_report(
     let states = shape.states as usize;
     text.put_line(b"in", &[states, hop_count(hops)]);
     put_marks(text, hops, marks);
-    put_map(text, map, states);
+    put_map(text, &map[..states]);
     text.put_line(
         b"out",
         &[new.states as usize, hop_count(short), new.initial as usize],

@@ -2,6 +2,7 @@
 use Rattle.std.proofs.Common.{◌≡◌, refl, sym, ap, ◌∙◌, ℕ, ◌<◌, ◌≤◌, zero, suc, Bool, true, false, cond, ◌&&◌, List, length, take, eqb, add-one, arith}
 use Rattle.std.specs.List.{list_any}
 use Rattle.std.proofs.Math.Bool.{or_comm}
+use Rattle.std.proofs.Math.Seq.{take-length}
 use Rattle.std.proofs.lemmas.List.Folds.{list_any_more}
 use Rattle.base_bounded.specs.Quantifiers.{any}
 use Rattle.base_bounded.proofs.Quantifiers.{any_same}
@@ -17,12 +18,19 @@ use Rattle.reduce_representatives.specs.Reducible.{Reducible}
 use Rattle.shrink_iterate.specs.Iterate.{some_marked}
 
 -- one of the first n elements is 1, asked of the list and asked of the places below n
-pub any_first : (ms : List ℕ) (n : ℕ) → n ≤ length ms → list_any (λ (x : ℕ). eqb x 1) (take n ms) ≡ any n (is_marked ms)
+any_first : (ms : List ℕ) (n : ℕ) → n ≤ length ms → list_any (λ (x : ℕ). eqb x 1) (take n ms) ≡ any n (is_marked ms)
 unfolding any is_marked
 any_first ms zero l = refl
 any_first ms (suc n) l =
     let h : n < length ms = omega arith in
     rw add-one at (list_any_more (λ (x : ℕ). eqb x 1) ms n 0 h) ∙ rw (any_first ms n (omega arith)) (or_comm (any n (is_marked ms)) (is_marked ms n))
+
+pub any_whole : (ms : List ℕ) → list_any (λ (x : ℕ). eqb x 1) ms ≡ any (length ms) (is_marked ms)
+any_whole ms = rw take-length at (any_first ms (length ms) (omega arith))
+
+-- asked of a front of the marks
+pub any_front : (ms : List ℕ) (n : ℕ) → n ≤ length ms → any (length (take n ms)) (is_marked (take n ms)) ≡ any n (is_marked ms)
+any_front ms n l = sym (any_whole (take n ms)) ∙ any_first ms n l
 
 module _ (hs : List ℕ) (u : Pairs) (ms out : List ℕ) (e : ms ≡ on_front (marks_of hs u) out) where
   told : (b : Bool) → eqb (cond b 1 0) 1 ≡ b

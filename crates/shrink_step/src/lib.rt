@@ -29,6 +29,7 @@ use mark_senses::Sense;
 use reduce_by_marks::reduce_marked;
 use reduce_entry::entry::mark_in;
 use shrink_compose::put_composed;
+use walk_rings::Ringless;
 
 // How far the repetition has come, besides the hops and the map; and whether there may be more to
 // do.
@@ -41,12 +42,11 @@ pub struct Progress {
     pub more: bool,
 }
 
-// Whether one of the first n marks stands.
-fn is_any(marks: &[u8], n: usize) -> bool
-    requires { n ≤ length marks.now }
-    ensures { result ≡ any n (is_marked marks.now) }
+// Whether one of the marks stands.
+fn is_any(marks: &[u8]) -> bool
+    ensures { result ≡ any (length marks.now) (is_marked marks.now) }
 {
-    marks[..n].iter().any(|m| *m == 1)
+    marks.iter().any(|m| *m == 1)
 }
 
 // Marks a graph that every row lets pass, and returns whether some hop is marked.
@@ -66,8 +66,8 @@ fn mark_stage(shape: Shape, hops: &[u16], sense: Sense, marks: &mut [u8]) -> boo
             starts: &starts,
         },
     };
-    mark_in(graph, sense, marks);
-    is_any(marks, hop_count(hops))
+    mark_in(Ringless { graph }, sense, marks);
+    is_any(&marks[..hop_count(hops)])
 }
 
 // One iteration, on the graph at the front of the hops. Where nothing is marked all stays as it

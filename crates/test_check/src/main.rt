@@ -1,29 +1,18 @@
 // A program for tests: graphs at the limits, and bad input, through `check`.
 // What it answers is printed and compared with the file stdout.
-// Uses `graph_check` for the entry.
+// Uses `graph_check` for the entry and `test_print` for the printing.
 #![tactic(auto)]
 
+use graph::Shape;
 use graph::answers::answer_of;
 use graph::hops::{hop_count, hop_of, put_hop};
-use graph::{Answer, Shape};
 use graph_check::check;
 use std::io;
+use test_print::{AnswerNumbers, shape_of};
 
 fn print_check(rt: &impl Print, name: &str, shape: Shape, hops: &[u16]) -> io::Result<()> {
-    let Answer {
-        number,
-        table,
-        place,
-    } = answer_of(&check(shape, hops));
-    println!(rt; "{name}: {number} {table} {place}")
-}
-
-fn shape(states: u32, labels: u32, initial: u32) -> Shape {
-    Shape {
-        states,
-        labels,
-        initial,
-    }
+    let checked = AnswerNumbers(answer_of(&check(shape, hops)));
+    println!(rt; "{name}:{checked}")
 }
 
 // Hops in ascending order, four a state: the hop at place i is i / 4, i % 4, 0, of no line.
@@ -40,25 +29,25 @@ fn limits(rt: &impl Print, hops: &[u16; 16388]) -> io::Result<()> {
     let most = &hops[..16384];
     let none = &hops[..0];
     for (name, shape, hops) in [
-        ("4096 hops", shape(1024, 4, 0), most),
-        ("4097 hops", shape(1024, 4, 0), &hops[..16388]),
-        ("no multiple of four", shape(1024, 4, 0), &hops[..7]),
-        ("no hops", shape(1, 1, 0), none),
-        ("1024 states", shape(1024, 1, 1023), none),
-        ("1025 states", shape(1025, 1, 0), none),
-        ("0 states", shape(0, 1, 0), none),
-        ("1024 labels", shape(1, 1024, 0), none),
-        ("1025 labels", shape(1, 1025, 0), none),
-        ("0 labels", shape(1, 0, 0), none),
-        ("initial state at the count", shape(4, 1, 4), none),
+        ("4096 hops", shape_of(1024, 4, 0), most),
+        ("4097 hops", shape_of(1024, 4, 0), &hops[..16388]),
+        ("no multiple of four", shape_of(1024, 4, 0), &hops[..7]),
+        ("no hops", shape_of(1, 1, 0), none),
+        ("1024 states", shape_of(1024, 1, 1023), none),
+        ("1025 states", shape_of(1025, 1, 0), none),
+        ("0 states", shape_of(0, 1, 0), none),
+        ("1024 labels", shape_of(1, 1024, 0), none),
+        ("1025 labels", shape_of(1, 1025, 0), none),
+        ("0 labels", shape_of(1, 0, 0), none),
+        ("initial state at the count", shape_of(4, 1, 4), none),
         (
             "largest counts",
-            shape(4294967295, 4294967295, 4294967295),
+            shape_of(4294967295, 4294967295, 4294967295),
             none,
         ),
-        ("largest initial state", shape(1024, 4, 4294967295), most),
-        ("a state out of range", shape(1023, 4, 0), most),
-        ("a label out of range", shape(1024, 3, 0), most),
+        ("largest initial state", shape_of(1024, 4, 4294967295), most),
+        ("a state out of range", shape_of(1023, 4, 0), most),
+        ("a label out of range", shape_of(1024, 3, 0), most),
     ] {
         print_check(rt, name, shape, hops)?;
     }
@@ -84,7 +73,7 @@ fn changes(rt: &impl Print, hops: &mut [u16; 16388]) -> io::Result<()> {
         if let Some(old) = hops.get_mut(at) {
             *old = number;
         }
-        print_check(rt, name, shape(1024, 4, 0), &hops[..16384])?;
+        print_check(rt, name, shape_of(1024, 4, 0), &hops[..16384])?;
     }
     Ok(())
 }

@@ -9,53 +9,57 @@
 ghost use Rattle.std.specs.Prelude.{◌≡◌, false, ◌++◌, ◌<◌, ◌≤◌, length, drop};
 ghost use Rattle.graph.specs.Hops.{count};
 ghost use Rattle.walk_reach.specs.Internal.Reach.{chosen_in};
-ghost use Rattle.walk_reach.specs.Internal.Frontier.{visited, reached_flags, seen_with, queue_with, tail_with, Space, Frontier, Expanded};
+ghost use Rattle.walk_reach.specs.Internal.Frontier.{visited, reached_flags, seen_with, queue_with, tail_with, Space, SameSpace, Frontier, Expanded};
 
 use graph::OldState;
 use graph::hops::to_at;
 use graph_index::Indexed;
 
-// Visits t and puts it at the queue's end, unless it is visited already; returns the end.
-#[tactic(auto, unfolding(crate::specs::Internal::Frontier::visited))]
-fn visit(seen: &mut [bool], queue: &mut [u16], tail: usize, t: OldState) -> usize
-    requires state { t.0 < length seen.old }
-    requires capacity { visited seen.old t.0 ≡ false → tail < length queue.old }
-    ensures seen { seen.new ≡ seen_with seen.old t.0 }
-    ensures queue { queue.new ≡ queue_with seen.old queue.old tail t.0 }
-    ensures tail { result ≡ tail_with seen.old tail t.0 }
-{
-    let at = usize::from(t.0);
-    if seen[at] {
-        return tail;
-    }
-    seen[at] = true;
-    queue[tail] = t.0;
-    tail + 1
+// What the search has reached so far: a flag a state, and the states flagged as a queue, which ends
+// at `tail`. Both are lent.
+#[derive(Drop)]
+struct Reached<'a> {
+    seen: &'a mut [bool],
+    queue: &'a mut [u16],
+    tail: usize,
 }
 
-// Visits the ends of all chosen hops of v; returns the queue's end.
-fn expand(
-    graph: Indexed<'_>,
-    chosen: &[bool],
-    v: OldState,
-    seen: &mut [bool],
-    queue: &mut [u16],
-    tail: usize,
-) -> usize
-    requires flags { count graph.index.hops.now ≤ length chosen.now }
-    requires state { v.0 < graph.shape.states }
-    requires front { Frontier graph.shape.states seen.old queue.old tail }
-    ensures { Expanded graph.entry.index.hops.now (chosen_in chosen.now) graph.entry.shape.states v.0
-        seen.old queue.old tail seen.new queue.new result }
-{
-    let mut end = tail;
-    for i in graph.index.first(v.0)..graph.index.past(v.0) {
-        let is_chosen = chosen[i];
-        if is_chosen {
-            end = visit(seen, queue, end, to_at(graph.index.hops, i));
+impl<'a> Reached<'a> {
+    // Visits t and puts it at the queue's end, unless it is visited already.
+    #[tactic(auto, unfolding(crate::specs::Internal::Frontier::visited))]
+    fn visit(&mut self, t: OldState)
+        requires state { t.0 < length self.old.seen.now }
+        requires capacity { visited self.old.seen.now t.0 ≡ false → self.old.tail < length self.old.queue.now }
+        ensures space { SameSpace self.old self.new }
+        ensures seen { self.new.seen.now ≡ seen_with self.old.seen.now t.0 }
+        ensures queue { self.new.queue.now ≡ queue_with self.old.seen.now self.old.queue.now self.old.tail t.0 }
+        ensures tail { self.new.tail ≡ tail_with self.old.seen.now self.old.tail t.0 }
+    {
+        let at = usize::from(t.0);
+        if self.seen[at] {
+            return;
+        }
+        self.seen[at] = true;
+        self.queue[self.tail] = t.0;
+        self.tail += 1;
+    }
+
+    // Visits the ends of all chosen hops of v.
+    fn expand(&mut self, graph: Indexed<'_>, chosen: &[bool], v: OldState)
+        requires flags { count graph.index.hops.now ≤ length chosen.now }
+        requires state { v.0 < graph.shape.states }
+        requires front { Frontier graph.shape.states self.old.seen.now self.old.queue.now self.old.tail }
+        ensures space { SameSpace self.old self.new }
+        ensures visits { Expanded graph.entry.index.hops.now (chosen_in chosen.now) graph.entry.shape.states v.0
+            self.old.seen.now self.old.queue.now self.old.tail self.new.seen.now self.new.queue.now self.new.tail }
+    {
+        for i in graph.index.first(v.0)..graph.index.past(v.0) {
+            let is_chosen = chosen[i];
+            if is_chosen {
+                self.visit(to_at(graph.index.hops, i));
+            }
         }
     }
-    end
 }
 
 // The states that s leads to: afterwards a state's flag is true if s leads to it along chosen hops,
@@ -69,12 +73,17 @@ pub fn reach(graph: Indexed<'_>, chosen: &[bool], s: OldState, seen: &mut [bool]
         ++ drop graph.entry.shape.states seen.old }
 {
     seen[..graph.shape.states as usize].fill(false);
-    let mut tail = visit(seen, queue, 0, s);
+    let mut reached = Reached {
+        seen,
+        queue,
+        tail: 0,
+    };
+    reached.visit(s);
     let mut head = 0;
     // `while`: the queue grows while it is read.
-    while head < tail {
-        let v = OldState(queue[head]);
-        tail = expand(graph, chosen, v, seen, queue, tail);
+    while head < reached.tail {
+        let v = OldState(reached.queue[head]);
+        reached.expand(graph, chosen, v);
         head += 1;
     }
 }

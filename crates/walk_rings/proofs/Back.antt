@@ -1,17 +1,21 @@
 -- A state is on a ring exactly when it leads to a state that has a silent hop to it: the walk is
--- cut before its last hop instead of after its first. Assumes nothing.
-use Prim.Native.Nat.{ℕ, ◌<◌}
+-- cut before its last hop instead of after its first. And what a range asks of each of its numbers
+-- is asked below a bound. Assumes nothing.
+use Prim.Native.Nat.{ℕ, zero, suc, ◌+◌, ◌<◌}
 use mathlib.Core.Path.{◌≡◌, refl, sym, ◌∙◌}
-use mathlib.Core.Bool.{Bool, true, ◌&&◌}
+use mathlib.Core.Bool.{Bool, true, false, ◌&&◌, ◌||◌}
 use mathlib.Core.List.{List, ◌++◌}
 use borrow.Author.Tests.{eq-eqb, eqb-true}
 use lib.Dec.{eqb}
+use native.Mathlib.Omega.{arith}
+use Rattle.std.specs.List.{list_any, range_with_len}
+use Rattle.std.proofs.Common.{add-zero}
 use Rattle.base_bounded.specs.Quantifiers.{any}
 use Rattle.graph.specs.Hops.{count, from, label, to}
 use Rattle.graph_check.specs.Check.{InRange}
 use Rattle.graph.specs.declared.Shape.{Shape}
 use Rattle.base_bounded.proofs.Bools.{and_left, and_right, and_yes, same_test}
-use Rattle.base_bounded.proofs.Quantifiers.{any_at, any_found}
+use Rattle.base_bounded.proofs.Quantifiers.{any_at, any_found, any_more}
 use Rattle.graph.proofs.Places.{has_place, place_has}
 use Rattle.lts.specs.Star.{stay, go}
 use Rattle.lts.proofs.Star.{one, join}
@@ -21,6 +25,15 @@ use Rattle.walk_reach.specs.Internal.Frontier.{visited, reached_flags}
 use Rattle.walk_rings.specs.Internal.Ring.{leads_back_at}
 use Rattle.walk_silent.proofs.Leads.{leads_walk, walk_leads, visited_leads}
 use Rattle.walk_silent.proofs.Rings.{ring_walk, walk_ring}
+
+-- the numbers of a range are asked as all below its end are, where none below its start passes
+pub any_range : (p : ℕ → Bool) (lo n : ℕ) → any lo p ≡ false → list_any p (range_with_len lo n) ≡ any (lo + n) p
+any_range p lo zero e = rw (add-zero lo, e)
+any_range p lo (suc n) e = go (p lo) refl (λ f. any_range p (lo + 1) n f) where
+  go : (b : Bool) → p lo ≡ b → (any (lo + 1) p ≡ false → list_any p (range_with_len (lo + 1) n) ≡ any (lo + 1 + n) p) →
+      (b || list_any p (range_with_len (lo + 1) n)) ≡ any (lo + suc n) p
+  go true d ih = sym (any_found p (lo + suc n) (omega arith) d)
+  go false d ih = let q : lo + suc n ≡ lo + 1 + n = omega arith in rw q (ih (any_more p lo e d))
 
 module _ (hs : List ℕ) where
   -- a walk back to s from the end of one of its hops, cut before its last hop

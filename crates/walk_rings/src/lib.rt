@@ -1,4 +1,5 @@
-// Whether a graph has a ring (silent cycle), and which is the lowest state on one.
+// Whether a graph has a ring (silent cycle), and which is the lowest state on one. A graph without
+// rings is a `Ringless`: what works on such graphs alone takes one, and asks nothing of it.
 // This is the answer of row 5 of document 01, for the entries that refuse such a graph. If all
 // states can be ranked there is no ring, and no further search is made. Else a breadth-first search
 // along the silent (tau) hops from each state without a rank, in ascending order, asks whether it
@@ -23,6 +24,13 @@ use walk_acyclic::Ranking;
 use walk_reach::reach;
 use walk_silent::chosen::silent_flags;
 
+// An admitted graph without rings and its table of first places: what row 5 lets pass.
+#[derive(Clone, Copy)]
+pub struct Ringless<'a> {
+    pub graph: Indexed<'a>,
+    ghost free: { (ring_answer graph.shape graph.index.hops.now).number ≡ 0 },
+}
+
 // Whether the hop at the place leads silently from a visited state to s.
 #[tactic(auto, unfolding(crate::specs::Internal::Ring::leads_back_at, walk_reach::specs::Internal::Frontier::visited))]
 fn returns_at(graph: Indexed<'_>, i: usize, s: OldState, seen: &[bool]) -> bool
@@ -39,12 +47,7 @@ fn returns(graph: Indexed<'_>, s: OldState, seen: &[bool]) -> bool
     requires { graph.shape.states ≤ length seen.now }
     ensures { result ≡ any (count graph.entry.index.hops.now) (leads_back_at graph.entry.index.hops.now seen.now s.0) }
 {
-    for i in 0..hop_count(graph.index.hops) {
-        if returns_at(graph, i, s, seen) {
-            return true;
-        }
-    }
-    false
+    (0..hop_count(graph.index.hops)).any(|i| returns_at(graph, i, s, seen))
 }
 
 // Whether s is on a ring: no ranked state is; any other is if it leads to a state that has a silent

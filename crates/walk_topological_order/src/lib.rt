@@ -5,13 +5,12 @@
 // appended. Passes over the states, downward and upward alternately, go on until all are placed:
 // where silent hops lead upward only or downward only, that takes two passes at most.
 // Uses `graph_index` for the hops of a state, `walk_acyclic` for the test of one state, and
-// `walk_silent` for what a ring is.
+// `walk_rings` for a graph without rings.
 #![tactic(auto)]
 
 ghost use Rattle.std.specs.Prelude.{◌≡◌, ◌+◌, ◌<◌, ◌≤◌, length};
 ghost use Rattle.graph.specs.Hops.{count, labelled};
 ghost use Rattle.base_bounded.specs.Quantifiers.{tally};
-ghost use Rattle.walk_silent.specs.Silent.{ring_answer};
 ghost use Rattle.walk_topological_order.specs.Internal.TopologicalOrder.{TopologicalOrder};
 ghost use Rattle.walk_topological_order.specs.Internal.Ordering.{RowAppended, OrderedSoFar, PlacedOrStuck, OnlyState, PassGains};
 
@@ -19,6 +18,7 @@ use graph::hops::label_at;
 use graph::{MOST_HOPS, MOST_STATES, OldState};
 use graph_index::Indexed;
 use walk_acyclic::ends_ranked;
+use walk_rings::Ringless;
 
 // How far it has come: which states are placed, how many these are, and how many places the order
 // has so far.
@@ -70,19 +70,18 @@ impl Progress {
     }
 
     // One pass: tries every state once, downward or upward.
-    fn place_each(&mut self, graph: Indexed<'_>, down: bool, sorted: &mut [u16; MOST_HOPS])
-        requires free { (ring_answer graph.shape graph.index.hops.now).number ≡ 0 }
-        requires ordered { OrderedSoFar graph.index.hops.now graph.shape.states sorted.old self.old }
-        ensures { PassGains graph.entry.index.hops.now graph.entry.shape.states self.old sorted.new self.new }
+    fn place_each(&mut self, ringless: Ringless<'_>, down: bool, sorted: &mut [u16; MOST_HOPS])
+        requires { OrderedSoFar ringless.graph.index.hops.now ringless.graph.shape.states sorted.old self.old }
+        ensures { PassGains ringless.entry.graph.index.hops.now ringless.entry.graph.shape.states self.old sorted.new self.new }
     {
-        let n = graph.shape.states as u16;
+        let n = ringless.graph.shape.states as u16;
         if down {
             for v in (0..n).rev() {
-                self.place_one(graph, OldState(v), sorted);
+                self.place_one(ringless.graph, OldState(v), sorted);
             }
         } else {
             for v in 0..n {
-                self.place_one(graph, OldState(v), sorted);
+                self.place_one(ringless.graph, OldState(v), sorted);
             }
         }
     }
@@ -90,10 +89,9 @@ impl Progress {
 
 // The order of the silent hops of a graph without rings; returns how many places it has. Each pass
 // places at least one state: one of the least rank among those that are left.
-pub fn order_of(graph: Indexed<'_>, sorted: &mut [u16; MOST_HOPS]) -> usize
-    requires free { (ring_answer graph.shape graph.index.hops.now).number ≡ 0 }
-    requires capacity { count graph.index.hops.now ≤ length sorted.old }
-    ensures { TopologicalOrder graph.entry.index.hops.now sorted.new result }
+pub fn order_of(ringless: Ringless<'_>, sorted: &mut [u16; MOST_HOPS]) -> usize
+    requires { count ringless.graph.index.hops.now ≤ length sorted.old }
+    ensures { TopologicalOrder ringless.entry.graph.index.hops.now sorted.new result }
 {
     let mut order = Progress {
         placed: [false; MOST_STATES],
@@ -102,8 +100,8 @@ pub fn order_of(graph: Indexed<'_>, sorted: &mut [u16; MOST_HOPS]) -> usize
     };
     let mut down = true;
     // `while`: how many passes it takes depends on the hops.
-    while order.states < graph.shape.states as usize {
-        order.place_each(graph, down, sorted);
+    while order.states < ringless.graph.shape.states as usize {
+        order.place_each(ringless, down, sorted);
         down = !down;
     }
     order.places

@@ -1,6 +1,5 @@
--- `graph_predecessors::places_of` meets its contract: the keys are where the hops end, and an empty
--- order puts the places themselves. Assumes nothing.
-use native.Mathlib.Omega.{arith}
+-- `graph_predecessors::places_of` meets its contract: the keys are where the hops end, and no order
+-- puts the places themselves. Assumes nothing.
 use Rattle.graph_counting_sort.specs.Internal.CountingSort.{KeyStarts}
 use Rattle.graph_predecessors.specs.Internal.PredecessorIndex.{PredecessorStarts}
 use Rattle.graph_predecessors.proofs.PredecessorIndex.{targets_column, places_filled}
@@ -16,4 +15,4 @@ fill-requires c =
     λ s l. rw e (c.requires.begins s l)
 
 pub returns : goal.returns
-returns c = places_filled _ c.hop_count.ensures _ _ (omega arith) c.fill.ensures
+returns c = places_filled _ c.hop_count.ensures _ c.fill.ensures

@@ -5,5 +5,5 @@ use Rattle.mark_batch_spread.proofs.gather.Goals as goal
 
 pub returns : goal.returns
 returns c =
-    let s = c.args.silent in
-    rw c.pass.ensures (gathered (in_order s.ordered) c.args.marks.now s.ready c.args.words.now c.told-words)
+    let m = c.args.marked in
+    rw c.pass.ensures (gathered (in_order m.silent.ordered) m.marks.now m.silent.ready c.args.words.now c.told-words)

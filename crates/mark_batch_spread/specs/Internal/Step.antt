@@ -1,9 +1,11 @@
 -- What one step does to a table of words, and a pass of such steps. Assumes nothing: these are
 -- definitions.
-use Rattle.std.specs.Prelude.{ℕ, zero, suc, ◌+◌, ◌-◌, Bool, cond, not, List, get_or, set}
+use Rattle.std.specs.Prelude.{ℕ, zero, suc, ◌+◌, ◌-◌, Bool, true, false, cond, not, List, get_or, set}
 use Rattle.std.specs.Int.Bits.{bit_or}
 use Rattle.graph.specs.Hops.{from, to}
 use Rattle.mark_confluence.specs.Internal.MarkSet.{is_marked}
+use Rattle.mark_batch_spread.specs.declared.Way.{Way}
+use Rattle.mark_batch_spread.specs.declared.Way.TheVariants.{Back, Forth}
 
 -- the place in an order of n hops that a pass visits after k others: from the last downward, or
 -- from the first upward
@@ -13,6 +15,11 @@ visit_at n down k = cond down (n - (k + 1)) k
 -- and the hop there
 abbrev pub visited_hop : List ℕ → ℕ → Bool → ℕ → ℕ
 visited_hop sorted n down k = get_or sorted (visit_at n down k) 0
+
+-- whether bits spread back
+abbrev pub is_back : Way → Bool
+is_back Back = true
+is_back Forth = false
 
 -- the end of the hop at i that bits come from: its to if they spread back, its from if not
 abbrev pub end_at : List ℕ → Bool → ℕ → ℕ

@@ -24,7 +24,7 @@ loop-left-init c =
     let l : count hs ≤ length (replicate most_hops false) = omega (arith, length-replicate {A = Bool} most_hops false) in
     record {
       leaving = c.leaving_of-leaving.ensures;
-      queue = queue_none hs c.args.marks.now l (omega (arith, c.requires.capacity)) refl (none_set hs most);
+      queue = queue_none hs c.args.marks.now l (omega (arith, c.told-queue)) refl (none_set hs most);
       empty = refl;
       most = c.requires.lost;
       long = c.told-fallen;

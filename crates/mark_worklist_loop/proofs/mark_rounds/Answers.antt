@@ -11,21 +11,21 @@ pub returns-then-lost-eq0-clause-tests : goal.returns-then-lost-eq0-clause-tests
 returns-then-lost-eq0-clause-tests c =
     let hs = c.args.index.hops.now in
     let n = c.list_silent-n in
-    let many = length-take-le n.result n.new.queue (omega (arith, n.ensures.within, n.ensures.capacity)) in
+    let many = length-take-le n.result n.new.queue (omega (arith, n.ensures.within, n.array_long)) in
     after_tests hs (after_still hs _ _ c.requires c.start_marks.ensures many n.ensures.lists (rw c.if-lost-eq0.true at c.test_first-lost.ensures.tested)) refl
 
 pub returns-then-lost-eq0-clause-writes : goal.returns-then-lost-eq0-clause-writes
 returns-then-lost-eq0-clause-writes c =
     let hs = c.args.index.hops.now in
     let n = c.list_silent-n in
-    let many = length-take-le n.result n.new.queue (omega (arith, n.ensures.within, n.ensures.capacity)) in
+    let many = length-take-le n.result n.new.queue (omega (arith, n.ensures.within, n.array_long)) in
     after_marks hs (after_still hs _ _ c.requires c.start_marks.ensures many n.ensures.lists (rw c.if-lost-eq0.true at c.test_first-lost.ensures.tested)) refl
 
 pub later_rounds-requires-clause-after : goal.later_rounds-requires-clause-after
 later_rounds-requires-clause-after c =
     let hs = c.args.index.hops.now in
     let n = c.list_silent-n in
-    let many = length-take-le n.result n.new.queue (omega (arith, n.ensures.within, n.ensures.capacity)) in
+    let many = length-take-le n.result n.new.queue (omega (arith, n.ensures.within, n.array_long)) in
     let m : count hs ≤ length c.unmark_fallen.new.marks = omega arith in
     (0, after_itself hs m (after_first hs _ _ c.requires c.start_marks.ensures many n.ensures.lists c.test_first-lost.ensures.tested c.unmark_fallen.ensures m))
 
@@ -33,7 +33,7 @@ pub returns-clause-writes : goal.returns-clause-writes
 returns-clause-writes c =
     let hs = c.args.index.hops.now in
     let n = c.list_silent-n in
-    let many = length-take-le n.result n.new.queue (omega (arith, n.ensures.within, n.ensures.capacity)) in
+    let many = length-take-le n.result n.new.queue (omega (arith, n.ensures.within, n.array_long)) in
     let m : count hs ≤ length c.unmark_fallen.new.marks = omega arith in
     let a = after_first hs _ _ c.requires c.start_marks.ensures many n.ensures.lists c.test_first-lost.ensures.tested c.unmark_fallen.ensures m in
     marks_over hs (marked hs) (survives hs 1) c.args.marks.now a.marks c.later_rounds.ensures.writes

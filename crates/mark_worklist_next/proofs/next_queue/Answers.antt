@@ -2,16 +2,17 @@
 use Rattle.std.proofs.Common.{◌≡◌, length, arith}
 use Rattle.std.proofs.Math.Seq.{take-length}
 use Rattle.std.proofs.lemmas.List.{take_more}
-use Rattle.mark_worklist_push.proofs.Walks.{falls_none, falls_more}
+use Rattle.mark_worklist_push.specs.Internal.Queue.{ClosedBy}
+use Rattle.mark_worklist_push.proofs.Walks.{over_none, over_more}
 use Rattle.mark_worklist_next.proofs.next_queue.Goals as goal
 
 pub loop-p-init : goal.loop-p-init
-loop-p-init c = falls_none _ _ c.requires.queue
+loop-p-init c = over_none _ _ (ClosedBy c.args.round.graph.marked.index.hops.now) c.requires.queue
 
 pub loop-p-preserved : goal.loop-p-preserved
 loop-p-preserved c =
     rw (take_more c.args.fallen.now c.loop-p.p-index 0 c.loop-p-test.true)
-    (falls_more _ _ _ _ c.loop-p.invariant (rw c.from.ensures at c.push_fallen.ensures))
+    (over_more _ _ (ClosedBy c.args.round.graph.marked.index.hops.now) _ _ c.loop-p.invariant (rw c.from.ensures at c.push_fallen.ensures))
 
 pub returns : goal.returns
 returns c =

@@ -1,31 +1,24 @@
 -- What is passed are the hops into s3. Assumes nothing.
-use Rattle.std.proofs.Common.{◌≡◌, ◌+◌, arith, refl}
-use Rattle.base_bounded.proofs.Slots.{key_start_step}
-use Rattle.graph.specs.Hops.{count, from, to}
-use Rattle.graph_predecessors.specs.Internal.PredecessorIndex.{predecessor_start}
-use Rattle.graph_predecessors.proofs.PredecessorIndex.{place_in}
-use Rattle.mark_worklist_push.proofs.Walks.{walk_more, tries_at, tries_all}
+use Rattle.std.proofs.Common.{◌≡◌, length, arith}
+use Rattle.std.proofs.Math.Seq.{take-length}
+use Rattle.std.proofs.lemmas.List.{take_more}
+use Rattle.mark_worklist_push.specs.Internal.Queue.{Trying}
+use Rattle.mark_worklist_push.proofs.Walks.{over_none, over_more, tries_all}
 use Rattle.mark_worklist_next.proofs.push_fallen.Goals as goal
+
+pub loop-j-init : goal.loop-j-init
+loop-j-init c = over_none _ _ (λ j. Trying c.args.round.graph.marked.index.hops.now j c.args.p) c.requires.queue
 
 pub push_hop-requires-clause-tried : goal.push_hop-requires-clause-tried
 push_hop-requires-clause-tried c =
-    let hs = c.args.graph.marked.index.hops.now in
-    let s = from hs c.args.p in
-    let a : c.begin-k.result ≡ predecessor_start hs s = rw c.from_at-s3.ensures at c.begin-k.ensures.is_begin in
-    let b : c.end-k-end.result ≡ predecessor_start hs (s + 1) = rw c.from_at-s3.ensures at c.end-k-end.ensures.is_next in
-    rw c.place_at.ensures (place_in hs c.args.graph.places.now c.args.graph.tables.filled s {k = c.loop-k.k} (omega arith) (omega arith)).0
+    rw c.from.ensures (c.hops_into-j-items.ensures.each c.loop-j.j-index 0 c.loop-j-test.true).0
 
-pub loop-k-preserved : goal.loop-k-preserved
-loop-k-preserved c =
-    let hs = c.args.graph.marked.index.hops.now in
-    let a : c.begin-k.result ≡ predecessor_start hs (from hs c.args.p) = rw c.from_at-s3.ensures at c.begin-k.ensures.is_begin in
-    walk_more _ _ _ (omega arith) c.loop-k.invariant (tries_at _ _ c.args.graph.places.now c.args.p _ c.place_at.ensures c.push_hop.ensures)
+pub loop-j-preserved : goal.loop-j-preserved
+loop-j-preserved c =
+    rw (take_more c.hops_into-j-items.result.now c.loop-j.j-index 0 c.loop-j-test.true)
+    (over_more _ _ (λ j. Trying c.args.round.graph.marked.index.hops.now j c.args.p) _ _ c.loop-j.invariant (rw c.from.ensures at c.push_hop.ensures))
 
 pub returns : goal.returns
 returns c =
-    let hs = c.args.graph.marked.index.hops.now in
-    let s = from hs c.args.p in
-    let a : c.begin-k.result ≡ predecessor_start hs s = rw c.from_at-s3.ensures at c.begin-k.ensures.is_begin in
-    let b : c.end-k-end.result ≡ predecessor_start hs (s + 1) = rw c.from_at-s3.ensures at c.end-k-end.ensures.is_next in
-    let o = key_start_step (to hs) (count hs) s in
-    tries_all _ _ _ _ c.args.graph.tables.filled c.requires.fallen refl b (omega arith) (omega arith) c.loop-k.invariant
+    let e : c.loop-j.j-index ≡ length c.hops_into-j-items.result.now = omega arith in
+    tries_all _ _ _ (rw c.from_at-s3.ensures at c.hops_into-j-items.ensures) (rw (e, take-length) at c.loop-j.invariant)

@@ -1,11 +1,10 @@
 -- The hops into s3 that are passed are tried. Assumes nothing.
-use Rattle.graph.specs.Hops.{from}
-use Rattle.graph_predecessors.specs.Internal.PredecessorIndex.{predecessor_start}
-use Rattle.mark_worklist_push.specs.Internal.Queue.{Pushed}
-use Rattle.mark_worklist_push.proofs.Walks.{Walked, Tries}
+use Rattle.std.proofs.Common.{take}
+use Rattle.mark_worklist_push.specs.Internal.Queue.{Pushed, Trying}
+use Rattle.mark_worklist_push.proofs.Walks.{Over}
 use Rattle.mark_worklist_next.proofs.push_fallen.Given as goal
 
-abbrev pub invariant-loop-k : goal.invariant-loop-k
-invariant-loop-k l =
-    Pushed l.graph.marked.index.hops.now l.graph.marked.marks.now
-    (Walked (Tries l.graph.marked.index.hops.now l.graph.marked.marks.now l.graph.places.now l.p) (predecessor_start l.graph.marked.index.hops.now (from l.graph.marked.index.hops.now l.p)) l.k) l.initial.worklist l.worklist
+abbrev pub invariant-loop-j : goal.invariant-loop-j
+invariant-loop-j l =
+    Pushed l.round.graph.marked.index.hops.now l.round.graph.marked.marks.now
+    (Over (λ j. Trying l.round.graph.marked.index.hops.now j l.p) (take l.j-index l.j-items)) l.initial.worklist l.worklist

@@ -1,31 +1,24 @@
 -- What is passed are the hops into s4. Assumes nothing.
-use Rattle.std.proofs.Common.{◌≡◌, ◌+◌, arith, refl}
-use Rattle.base_bounded.proofs.Slots.{key_start_step}
-use Rattle.graph.specs.Hops.{count, to}
-use Rattle.graph_predecessors.specs.Internal.PredecessorIndex.{predecessor_start}
-use Rattle.graph_predecessors.proofs.PredecessorIndex.{place_in}
-use Rattle.mark_worklist_push.proofs.Walks.{walk_more, into_at, into_all}
+use Rattle.std.proofs.Common.{◌≡◌, length, arith}
+use Rattle.std.proofs.Math.Seq.{take-length}
+use Rattle.std.proofs.lemmas.List.{take_more}
+use Rattle.mark_worklist_push.specs.Internal.Queue.{Like}
+use Rattle.mark_worklist_push.proofs.Walks.{over_none, over_more, into_all}
 use Rattle.mark_worklist_push.proofs.push_answers.Goals as goal
+
+pub loop-k-init : goal.loop-k-init
+loop-k-init c = over_none _ _ (Like c.args.graph.marked.index.hops.now c.args.j) c.requires.queue
 
 pub push_like-requires-clause-answer : goal.push_like-requires-clause-answer
 push_like-requires-clause-answer c =
-    let hs = c.args.graph.marked.index.hops.now in
-    let s = to hs c.args.p in
-    let a : c.begin-k.result ≡ predecessor_start hs s = rw c.to_at-s4.ensures at c.begin-k.ensures.is_begin in
-    let b : c.end-k-end.result ≡ predecessor_start hs (s + 1) = rw c.to_at-s4.ensures at c.end-k-end.ensures.is_next in
-    rw c.place_at.ensures (place_in hs c.args.graph.places.now c.args.graph.tables.filled s {k = c.loop-k.k} (omega arith) (omega arith)).0
+    rw c.from.ensures (c.hops_into-k-items.ensures.each c.loop-k.k-index 0 c.loop-k-test.true).0
 
 pub loop-k-preserved : goal.loop-k-preserved
 loop-k-preserved c =
-    let hs = c.args.graph.marked.index.hops.now in
-    let a : c.begin-k.result ≡ predecessor_start hs (to hs c.args.p) = rw c.to_at-s4.ensures at c.begin-k.ensures.is_begin in
-    walk_more _ _ _ (omega arith) c.loop-k.invariant (into_at _ _ c.args.graph.places.now c.args.j c.args.p _ c.place_at.ensures c.push_like.ensures)
+    rw (take_more c.hops_into-k-items.result.now c.loop-k.k-index 0 c.loop-k-test.true)
+    (over_more _ _ (Like c.args.graph.marked.index.hops.now c.args.j) _ _ c.loop-k.invariant (rw c.from.ensures at c.push_like.ensures))
 
 pub returns : goal.returns
 returns c =
-    let hs = c.args.graph.marked.index.hops.now in
-    let s = to hs c.args.p in
-    let a : c.begin-k.result ≡ predecessor_start hs s = rw c.to_at-s4.ensures at c.begin-k.ensures.is_begin in
-    let b : c.end-k-end.result ≡ predecessor_start hs (s + 1) = rw c.to_at-s4.ensures at c.end-k-end.ensures.is_next in
-    let o = key_start_step (to hs) (count hs) s in
-    into_all _ _ _ _ _ c.args.graph.tables.filled c.requires.fallen refl b (omega arith) (omega arith) c.loop-k.invariant
+    let e : c.loop-k.k-index ≡ length c.hops_into-k-items.result.now = omega arith in
+    into_all _ _ _ _ (rw c.to_at-s4.ensures at c.hops_into-k-items.ensures) (rw (e, take-length) at c.loop-k.invariant)

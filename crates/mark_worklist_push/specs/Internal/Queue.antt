@@ -14,6 +14,11 @@ pub record Tables (hs bs ps : List ℕ) : Type 0 where
   pub begins : PredecessorStarts hs bs
   pub filled : PredecessorPlaces hs (count hs) ps
 
+-- ks are the places of the hops into s
+pub record PlacesInto (hs : List ℕ) (s : ℕ) (ks : List ℕ) : Type 0 where
+  pub each : All (λ k. (k < count hs) × (to hs k ≡ s)) ks
+  pub all : (k : ℕ) → k < count hs → to hs k ≡ s → Contains ks k
+
 -- the flag at place i is set
 abbrev pub is_set : List Bool → ℕ → Bool
 is_set fs i = get_or fs i false

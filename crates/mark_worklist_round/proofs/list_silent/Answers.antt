@@ -6,14 +6,14 @@ use Rattle.mark_worklist_round.proofs.list_silent.Goals as goal
 use Rattle.mark_worklist_round.proofs.list_silent.Goals.{then-is_silent, else-is_silent}
 
 pub loop-i-init : goal.loop-i-init
-loop-i-init c = record { capacity = c.requires.capacity; within = omega arith; listed = lists_none _ }
+loop-i-init c = record { capacity = c.told-queue; within = omega arith; listed = lists_none _ }
 
 pub loop-i-preserved : goal.loop-i-preserved
 loop-i-preserved c =
     let hs = c.args.hops.now in
     let v = c.loop-i.invariant in
     let e = c.label_at-is_silent.ensures in
-    let fits : c.loop-i.n < length c.loop-i.queue = omega (arith, c.requires.ready.hops_most, v.within, v.capacity) in
+    let fits : c.loop-i.n < length c.loop-i.queue = omega (arith, c.requires.hops_most, v.within, v.capacity) in
     elim c.if-is_silent.branch [
       | then-is_silent w ↦ rw w.n-is (record {
         capacity = simp length-set v.capacity;

@@ -1,6 +1,6 @@
 -- The parts of a round of the worklist marking: what they require and what they leave. No contract
 -- of an entry cites this. Assumes nothing: these are definitions.
-use Rattle.std.specs.Prelude.{ℕ, suc, ◌<◌, ◌≤◌, ◌≡◌, Bool, true, false, cond, List, [], ◌∷◌, ◌++◌, length, get_or, drop, All, Contains}
+use Rattle.std.specs.Prelude.{ℕ, suc, ◌<◌, ◌≤◌, ◌≡◌, Bool, true, false, List, length, get_or, drop, All, Contains}
 use Rattle.base_bounded.specs.Quantifiers.{tally}
 use Rattle.graph.specs.Hops.{count, from}
 use Rattle.mark_confluence.specs.Internal.Rounds.{closes_at}
@@ -24,10 +24,6 @@ DirtyStates hs fl sh = All (λ p. is_set sh (from hs p) ≡ true) fl
 -- still
 unfoldable pub SkipsClean : List ℕ → List ℕ → List Bool → List ℕ → Type 0
 SkipsClean hs ms sh qs = All (CleanAnswered hs ms sh) qs
-
--- the place i comes behind fl, unless its hop closes
-abbrev pub ListedUnless : ℕ → Bool → List ℕ → List ℕ → Type 0
-ListedUnless i closes fl new = new ≡ cond closes fl (fl ++ i ∷ [])
 
 -- what testing qs leaves: fl are those of them that do not close with the set that the marks are
 pub record Tested (hs ms qs fl : List ℕ) : Type 0 where

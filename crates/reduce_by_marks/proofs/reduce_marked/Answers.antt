@@ -11,11 +11,12 @@ next_states-next-requires-clause-marks c = mark_set_marks c.requires.admitted.as
 pub next_states-next-requires-clause-tabled : goal.next_states-next-requires-clause-tabled
 next_states-next-requires-clause-tabled c = tabled_from c.requires.admitted
 
-pub fill_map-requires-clause-closed : goal.fill_map-requires-clause-closed
-fill_map-requires-clause-closed c = tabled_closed c.requires.admitted c.requires.terminating _ c.next_states-next.ensures
-
-pub fill_map-requires-clause-terminating : goal.fill_map-requires-clause-terminating
-fill_map-requires-clause-terminating c = tabled_terminating c.requires.admitted c.requires.terminating _ c.next_states-next.ensures
+pub invariant_of-walks : goal.invariant_of-walks
+invariant_of-walks c =
+    let adm = c.requires.admitted in
+    let sett = c.requires.terminating in
+    let on = c.next_states-next.ensures in
+    record { few = adm.states_most; closed = tabled_closed adm sett _ on; terminating = ∣ tabled_terminating adm sett _ on ∣₁ }
 
 pub shorten-n-requires-clause-tabled : goal.shorten-n-requires-clause-tabled
 shorten-n-requires-clause-tabled c = tabled_from c.requires.admitted

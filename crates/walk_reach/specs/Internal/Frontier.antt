@@ -6,6 +6,7 @@ use Rattle.std.specs.List.{range_with_len}
 use Rattle.base_bounded.specs.Quantifiers.{tally}
 use Rattle.walk_reach.specs.Internal.Reach.{ChosenOf}
 use Rattle.walk_reach.specs.Reach.{leads_by}
+use Rattle.walk_reach.specs.declared.Reached.{Reached}
 
 -- state t is visited
 unfoldable pub visited : List Bool → ℕ → Bool
@@ -30,6 +31,11 @@ tail_with seen tail t = cond (visited seen t) tail (tail + 1)
 pub record Space (n : ℕ) (seen : List Bool) (queue : List ℕ) : Type 0 where
   pub seen_capacity : n ≤ length seen
   pub queue_capacity : n ≤ length queue
+
+-- the flags and the queue are the same ones
+pub record SameSpace (old new : Reached) : Type 0 where
+  pub seen : new.seen.ghost_name ≡ old.seen.ghost_name
+  pub queue : new.queue.ghost_name ≡ old.queue.ghost_name
 
 -- the visited ones of n states are the first `tail` of the queue
 pub record Frontier (n : ℕ) (seen : List Bool) (queue : List ℕ) (tail : ℕ) : Type 0 where

@@ -5,7 +5,7 @@ use Rattle.walk_topological_order.proofs.Ordering.{ordered_none, ordered_whole}
 use Rattle.walk_topological_order.proofs.order_of.Goals as goal
 
 pub loop-order-init : goal.loop-order-init
-loop-order-init c = ordered_none c.args.graph.admitted.range c.requires.capacity most_states c.args.graph.admitted.states_most
+loop-order-init c = ordered_none c.args.ringless.graph.admitted.range c.requires most_states c.args.ringless.graph.admitted.states_most
 
 pub returns : goal.returns
-returns c = ordered_whole c.args.graph.admitted.range c.loop-order.invariant (omega arith)
+returns c = ordered_whole c.args.ringless.graph.admitted.range c.loop-order.invariant (omega arith)

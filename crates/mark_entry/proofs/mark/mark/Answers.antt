@@ -42,11 +42,13 @@ pub returns-in_err-check_later-clause-writes : goal.returns-in_err-check_later-c
 returns-in_err-check_later-clause-writes c =
     output_same _ _ _ _ (refuses _ (mark_later _ _ _ _ c.in_ok-check.ensures refl c.in_ok-sense.ensures.answers refl c.in_err-check_later.ensures))
 
-pub mark_in-requires-clause-free : goal.mark_in-requires-clause-free
-mark_in-requires-clause-free c = mark_ringless _ _ _ c.args.marks.now (accepts (mark_later _ _ _ _ c.in_ok-check.ensures refl c.in_ok-sense.ensures.answers refl c.in_ok-check_later.ensures))
+pub invariant_of-ringless : goal.invariant_of-ringless
+invariant_of-ringless c = record {
+  free = mark_ringless _ _ _ c.args.marks.now (accepts (mark_later _ _ _ _ c.in_ok-check.ensures refl c.in_ok-sense.ensures.answers refl c.in_ok-check_later.ensures));
+}
 
-pub mark_in-requires-clause-capacity : goal.mark_in-requires-clause-capacity
-mark_in-requires-clause-capacity c = mark_capacity _ _ _ _ (accepts (mark_later _ _ _ _ c.in_ok-check.ensures refl c.in_ok-sense.ensures.answers refl c.in_ok-check_later.ensures))
+pub mark_in-requires : goal.mark_in-requires
+mark_in-requires c = mark_capacity _ _ _ _ (accepts (mark_later _ _ _ _ c.in_ok-check.ensures refl c.in_ok-sense.ensures.answers refl c.in_ok-check_later.ensures))
 
 pub returns-clause-answers : goal.returns-clause-answers
 returns-clause-answers c = mark_later _ _ _ _ c.in_ok-check.ensures refl c.in_ok-sense.ensures.answers refl c.in_ok-check_later.ensures

@@ -5,5 +5,5 @@ use Rattle.reduce_entry.proofs.entry.mark_in.Goals as goal
 
 pub returns-in-R1 : goal.returns-in-R1
 returns-in-R1 c =
-    let g = c.args.graph in
+    let g = c.args.ringless.graph in
     rw (c.in-R1.is, marked_by_1 g.shape g.index.hops.now g.admitted.range) c.mark_rounds.ensures.writes

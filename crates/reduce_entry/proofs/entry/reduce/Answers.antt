@@ -42,11 +42,15 @@ returns-in_err-sense c =
       shortened = refused_short _ _ _ a.map.now a.short.now d n;
     }
 
+pub invariant_of-ringless : goal.invariant_of-ringless
+invariant_of-ringless c = record {
+  free = (reduce_reducible _ _ _ _ _ (accepts (answer_later _ _ _ _ _ c.in_ok-check.ensures refl c.in_ok-sense.ensures.answers))).free;
+}
+
 pub accepted_reduction-requires : goal.accepted_reduction-requires
 accepted_reduction-requires c =
     let z = accepts (answer_later _ _ _ _ _ c.in_ok-check.ensures refl c.in_ok-sense.ensures.answers) in
     record {
-      free = (reduce_reducible _ _ _ _ _ z).free;
       map_capacity = reduce_map_capacity _ _ _ _ _ z;
       short_capacity = reduce_short_capacity _ _ _ _ _ z;
     }

@@ -8,6 +8,7 @@ use Rattle.reduce_representatives.proofs.renumber.fill_map.Given as goal
 abbrev pub invariant-loop-s : goal.invariant-loop-s
 invariant-loop-s l =
     record {
-      filled : l.map ≡ on_front (tabulate l.s (new_number l.initial.next l.news l.states)) l.initial.map;
-      compressed : Compressed l.states l.initial.next l.next;
+      states : l.walks.states ≡ l.initial.walks.states;
+      filled : l.map ≡ on_front (tabulate l.s (new_number l.initial.walks.next l.news l.initial.walks.states)) l.initial.map;
+      compressed : Compressed l.initial.walks.states l.initial.walks.next l.walks.next;
     }

@@ -6,11 +6,11 @@ use Rattle.walk_topological_order.proofs.Progress.place_each.Goals as goal
 pub returns-after-loop-v : goal.returns-after-loop-v
 returns-after-loop-v c = record {
   ordered = c.loop-v.invariant.ordered;
-  more = pass_more c.args.graph.admitted.range c.requires.free c.requires.ordered c.loop-v.invariant.tried (λ u l. (omega arith, l));
+  more = pass_more c.args.ringless.graph.admitted.range c.args.ringless.free c.requires c.loop-v.invariant.tried (λ u l. (omega arith, l));
 }
 
 pub returns-after-loop-v-else-down : goal.returns-after-loop-v-else-down
 returns-after-loop-v-else-down c = record {
   ordered = c.loop-v-else-down.invariant.ordered;
-  more = pass_more c.args.graph.admitted.range c.requires.free c.requires.ordered c.loop-v-else-down.invariant.tried (λ u l. omega arith);
+  more = pass_more c.args.ringless.graph.admitted.range c.args.ringless.free c.requires c.loop-v-else-down.invariant.tried (λ u l. omega arith);
 }

@@ -6,12 +6,12 @@ use Rattle.walk_topological_order.proofs.Progress.place_each.Given as goal
 
 abbrev pub invariant-loop-v : goal.invariant-loop-v
 invariant-loop-v l = record {
-  ordered : OrderedSoFar l.graph.index.hops.now l.graph.shape.states l.sorted l.self;
-  tried : PlacedOrStuck l.graph.index.hops.now (From l.graph.shape.states l.v) l.fn.self l.self;
+  ordered : OrderedSoFar l.ringless.graph.index.hops.now l.ringless.graph.shape.states l.sorted l.self;
+  tried : PlacedOrStuck l.ringless.graph.index.hops.now (From l.ringless.graph.shape.states l.v) l.fn.self l.self;
 }
 
 abbrev pub invariant-loop-v-else-down : goal.invariant-loop-v-else-down
 invariant-loop-v-else-down l = record {
-  ordered : OrderedSoFar l.graph.index.hops.now l.graph.shape.states l.sorted l.self;
-  tried : PlacedOrStuck l.graph.index.hops.now (Below l.v) l.fn.self l.self;
+  ordered : OrderedSoFar l.ringless.graph.index.hops.now l.ringless.graph.shape.states l.sorted l.self;
+  tried : PlacedOrStuck l.ringless.graph.index.hops.now (Below l.v) l.fn.self l.self;
 }

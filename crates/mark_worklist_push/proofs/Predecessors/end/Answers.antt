@@ -3,7 +3,7 @@ use Rattle.std.proofs.Common.{arith, ◌+◌}
 use Rattle.base_bounded.proofs.Slots.{key_start_within}
 use Rattle.graph.specs.Hops.{count, to}
 use Rattle.mark_worklist_push.proofs.Walks.{begin_is}
-use Rattle.mark_worklist_push.proofs.RoundGraph.end.Goals as goal
+use Rattle.mark_worklist_push.proofs.Predecessors.end.Goals as goal
 
 pub returns-clause-is_next : goal.returns-clause-is_next
 returns-clause-is_next c =

@@ -3,8 +3,13 @@
 use Rattle.std.proofs.Common.{◌≡◌, ◌<◌}
 use Rattle.reduce_representatives.specs.Internal.Tables.{table_steps}
 use Rattle.reduce_representatives.proofs.Compressed.{Way}
-use Rattle.reduce_representatives.proofs.follow.compress_path.Given as goal
+use Rattle.reduce_representatives.proofs.follow.WalkTable.compress_path.Given as goal
 
 abbrev pub invariant-loop-passed : goal.invariant-loop-passed
 invariant-loop-passed l =
-    record { inside : l.at < l.states; way : Way l.states l.initial.next l.next; rep : l.rep.0 ≡ table_steps l.initial.next l.states l.at }
+    record {
+      states : l.self.states ≡ l.initial.self.states;
+      inside : l.at < l.initial.self.states;
+      way : Way l.initial.self.states l.initial.self.next l.self.next;
+      rep : l.rep.0 ≡ table_steps l.initial.self.next l.initial.self.states l.at;
+    }
