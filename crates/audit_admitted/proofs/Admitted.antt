@@ -1,7 +1,7 @@
 -- What the audit's answer means: 0 exactly where both graphs and the map are admitted and the label
 -- counts agree. Assumes nothing.
 use Prim.Native.Nat.{ℕ, ◌≤◌}
-use mathlib.Core.Path.{◌≡◌, refl, sym, ap, ◌∙◌}
+use mathlib.Core.Path.{◌≡◌, refl, sym, ap}
 use mathlib.Core.Bool.{Bool, true, false, cond, not}
 use mathlib.Core.List.{List}
 use mathlib.Core.Logic.{◌↔◌}
@@ -19,7 +19,7 @@ use Rattle.graph.specs.declared.Answer.{Answer}
 use Rattle.graph_check.specs.Check.{check_of}
 use Rattle.base_bounded.proofs.Quantifiers.{least_no, least_before}
 use Rattle.graph_check.proofs.Checked.{check_admitted, admitted_check}
-use Rattle.graph.proofs.Accepts.{refusal_ne0, accepts}
+use Rattle.graph.proofs.Accepts.{refusal_ne0}
 use Rattle.audit_admitted.specs.Admitted.{AdmittedMap, first_high, map_fits, audit_answer, audit_refusal_answer}
 use Rattle.audit_admitted.specs.Admitted.{Audited}
 use Rattle.audit_admitted.specs.declared.AuditRefusal.{AuditRefusal}
@@ -32,9 +32,9 @@ audit_refusal_ne0 (Other r) = refusal_ne0 r
 
 -- row 8
 module _ (sh1 sh2 : Shape) (m : List ℕ) where
-  fits_accepts : length m ≡ sh1.states → length m ≤ first_high sh2 m → accepted ≡ map_fits sh1 sh2 m
+  pub fits_accepts : length m ≡ sh1.states → {o : ℕ} → o ≡ first_high sh2 m → length m ≤ o → accepted ≡ map_fits sh1 sh2 m
   unfolding map_fits
-  fits_accepts e l = rw (eq-eqb _ _ e, le-ltb _ _ l)
+  fits_accepts e p l = rw (eq-eqb _ _ e, ← p, le-ltb _ _ l)
 
   abbrev high : ℕ → Bool
   high s = not (ltb (mapped m s) sh2.states)
@@ -55,13 +55,14 @@ module _ (sh1 sh2 : Shape) (m : List ℕ) where
   pub admits_fits : AdmittedMap sh1 sh2 m → accepted ≡ map_fits sh1 sh2 m
   unfolding first_high
   admits_fits a =
-      fits_accepts a.one_a_state (rw (least_no high (length m) (λ s l. not_from_true _ (lt-ltb _ _ (a.entries_in s (omega arith))))) (le_refl (length m)))
+      fits_accepts a.one_a_state refl (rw (least_no high (length m) (λ s l. not_from_true _ (lt-ltb _ _ (a.entries_in s (omega arith))))) (le_refl (length m)))
 
 module _ (sh1 sh2 : Shape) (h1 h2 m : List ℕ) where
   -- where nothing speaks before it, row 8 is the answer
-  answer_map : (check_of sh1 h1).number ≡ 0 → (check_of sh2 h2).number ≡ 0 → sh1.labels ≡ sh2.labels → map_fits sh1 sh2 m ≡ audit_answer sh1 sh2 h1 h2 m
+  pub answer_map : {a : Answer} → a ≡ check_of sh1 h1 → a.number ≡ 0 → {b : Answer} → b ≡ check_of sh2 h2 → b.number ≡ 0 → sh1.labels ≡ sh2.labels →
+      {x : Answer} → x ≡ map_fits sh1 sh2 m → x ≡ audit_answer sh1 sh2 h1 h2 m
   unfolding audit_answer
-  answer_map x y d = rw (eq-eqb _ _ x, eq-eqb _ _ y, eq-eqb _ _ d)
+  answer_map ea za eb zb d e = rw (← ea, eq-eqb _ _ za, ← eb, eq-eqb _ _ zb, eq-eqb _ _ d) e
 
   pub answer_audited : (audit_answer sh1 sh2 h1 h2 m).number ≡ 0 → Audited sh1 sh2 h1 h2 m
   unfolding audit_answer
@@ -83,7 +84,7 @@ module _ (sh1 sh2 : Shape) (h1 h2 m : List ℕ) where
 
   pub audited_answer : Audited sh1 sh2 h1 h2 m → audit_answer sh1 sh2 h1 h2 m ≡ accepted
   audited_answer a =
-      sym (admits_fits sh1 sh2 m a.map ∙ answer_map (accepts (sym (admitted_check sh1 h1 a.first))) (accepts (sym (admitted_check sh2 h2 a.second))) a.labels)
+      sym (answer_map (sym (admitted_check sh1 h1 a.first)) refl (sym (admitted_check sh2 h2 a.second)) refl a.labels (admits_fits sh1 sh2 m a.map))
 
   -- the answer is 0 exactly for what document 01 admits
   pub answer_zero : ((audit_answer sh1 sh2 h1 h2 m).number ≡ 0) ↔ Audited sh1 sh2 h1 h2 m

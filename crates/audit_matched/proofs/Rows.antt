@@ -3,12 +3,13 @@
 use Prim.Native.Nat.{ℕ, ◌+◌, ◌<◌, ◌≤◌}
 use mathlib.Core.Path.{◌≡◌, sym, ap, ◌∙◌}
 use mathlib.Core.Bool.{Bool, true, false, cond, ◌&&◌}
-use mathlib.Core.List.{List}
+use mathlib.Core.List.{List, map}
 use native.Mathlib.Nat.{le_refl}
 use native.Mathlib.Omega.{arith}
 use lib.ListN.{length, get_or, set}
 use lib.Dec.{eqb}
 use Rattle.std.proofs.lemmas.Bool.{and_left}
+use Rattle.std.proofs.lemmas.List.{get_or-map}
 use Rattle.graph.specs.Hops.{count, from}
 use Rattle.graph.specs.Order.{Ascending}
 use Rattle.graph.specs.Search.{first_of, past_of}
@@ -23,6 +24,11 @@ use Rattle.graph.specs.Map.{mapped}
 use Rattle.audit_faults.specs.Internal.Images.{Imaged}
 use Rattle.audit_matched.specs.Internal.Stamps.{seen_in_class, stamps_hop, StampedUpTo, StampedFrom}
 use Rattle.audit_matched.proofs.Stamping.{stamped_none, stamped_more}
+
+-- what the element at a place stands for is what stands there in the table of yes and no
+pub flag_at : {X : Type 0} (raised : X → Bool) (flags : List X) {i u : ℕ} {x : X} {yes : Bool} → i ≡ u → u < length flags → x ≡ get_or flags i x → yes ≡ raised x →
+    yes ≡ get_or (map raised flags) u false
+flag_at raised flags {i} {u} {x} e l is asked = rw (← e, get_or-map raised flags i x false (omega arith)) (asked ∙ ap raised is)
 
 module _ (h1 h2 m : List ℕ) (seen : List Bool) (r k : ℕ) where
   -- the first place of all, and the last

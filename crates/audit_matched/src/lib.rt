@@ -7,7 +7,7 @@
 // state.
 #![tactic(auto)]
 
-ghost use Rattle.std.specs.Prelude.{◌≡◌, ◌+◌, ◌<◌, ◌≤◌, length, get_or, set};
+ghost use Rattle.std.specs.Prelude.{◌≡◌, ◌+◌, ◌<◌, ◌≤◌, length, get_or, map, set};
 ghost use Rattle.graph.specs.Hops.{count};
 ghost use Rattle.graph.specs.Search.{first_of};
 ghost use Rattle.graph.specs.Answers.{most_hops};
@@ -15,6 +15,7 @@ ghost use Rattle.graph_successors.specs.Internal.SuccessorIndex.{SuccessorIndex}
 ghost use Rattle.audit_matched.specs.Internal.Stamps.{StampedUpTo, StampedFrom};
 
 use audit_faults::images::Located;
+use base_flag::Flag;
 use graph::{MOST_HOPS, NewState, OldState};
 use graph_index::Index;
 use graph_successors::STARTS;
@@ -32,10 +33,10 @@ fn stamp_hop(images: &[u16; MOST_HOPS], stamps: &mut [u16], k: u16, i: usize)
 }
 
 // Stamps the images of the hops of the state u of graph 1, if u is visited and its map is r.
-fn stamp_state(
+fn stamp_state<F: Flag>(
     located: Located<'_>,
     starts1: &[u16; STARTS],
-    seen: &[bool],
+    seen: &[F],
     stamps: &mut [u16],
     r: NewState,
     k: u16,
@@ -46,15 +47,15 @@ fn stamp_state(
     requires stamps { count located.mapped.hops2.now ≤ length stamps.old }
     requires state { u.0 < located.mapped.shape1.states }
     ensures { StampedFrom located.entry.mapped.hops1.now located.entry.mapped.hops2.now
-        located.entry.mapped.map.now seen.now r.0 k (first_of located.entry.mapped.hops1.now u.0)
-        (first_of located.entry.mapped.hops1.now (u.0 + 1)) stamps.old stamps.new }
+        located.entry.mapped.map.now (map F.raised seen.now) r.0 k
+        (first_of located.entry.mapped.hops1.now u.0) (first_of located.entry.mapped.hops1.now (u.0 + 1)) stamps.old stamps.new }
 {
     let index1 = Index {
         hops: located.mapped.hops1,
         starts: starts1,
     };
     let v = located.mapped.image(u);
-    if seen[usize::from(u.0)] & (v == r) {
+    if seen[usize::from(u.0)].is_raised() & (v == r) {
         for i in index1.first(u.0)..index1.past(u.0) {
             stamp_hop(located.images, stamps, k, i);
         }
@@ -62,11 +63,12 @@ fn stamp_state(
 }
 
 // Stamps the images of the hops of every such state of graph 1, by its table of first places. Most
-// states are not visited, so that is asked before anything else.
-pub fn stamp_all(
+// states are not visited, so that is asked before anything else. A `bool` or a byte says of each
+// state whether it is visited.
+pub fn stamp_all<F: Flag>(
     located: Located<'_>,
     starts1: &[u16; STARTS],
-    seen: &[bool],
+    seen: &[F],
     stamps: &mut [u16],
     r: NewState,
     k: u16,
@@ -75,10 +77,11 @@ pub fn stamp_all(
     requires seen { located.mapped.shape1.states ≤ length seen.now }
     requires stamps { count located.mapped.hops2.now ≤ length stamps.old }
     ensures { StampedUpTo located.entry.mapped.hops1.now located.entry.mapped.hops2.now
-        located.entry.mapped.map.now seen.now r.0 k (count located.entry.mapped.hops1.now) stamps.old stamps.new }
+        located.entry.mapped.map.now (map F.raised seen.now) r.0 k (count located.entry.mapped.hops1.now)
+        stamps.old stamps.new }
 {
     for u in 0..located.mapped.shape1.states as u16 {
-        if seen[usize::from(u)] {
+        if seen[usize::from(u)].is_raised() {
             stamp_state(located, starts1, seen, stamps, r, k, OldState(u));
         }
     }

@@ -25,7 +25,7 @@ ghost use Rattle.audit_unmatched.specs.Internal.States.{unstamped, Fresh, unmatc
 use audit_faults::images::Located;
 use audit_faults::{Fault, Share};
 use audit_matched::stamp_all;
-use graph::hops::{label_at, new_from_at, new_to_at};
+use graph::hops::{hop_count, label_at, new_from_at, new_to_at};
 use graph::{MOST_HOPS, MOST_STATES, NewState, OldState};
 use graph_index::{Index, Indexed};
 use graph_successors::{STARTS, put_starts};
@@ -72,14 +72,19 @@ impl<'a, 's> Stamped<'a, 's> {
         (self.r == from) & !(((a.0 == 0) & (from == q)) | (self.stamps[j] == self.k))
     }
 
-    // The place of the first such hop of graph 2. Only the hops of r are looked at: no other hop
-    // can be one.
-    fn first_unstamped(self) -> Option<usize>
-        ensures { result ≡ place_below (count self.entry.index2.hops.now)
-            (least (count self.entry.index2.hops.now)
-            (unstamped self.entry.index2.hops.now self.entry.stamps.now self.entry.r.0 self.entry.k)) }
+    // The place of the first such hop of graph 2, or its hop count. Only the hops of r are looked
+    // at: no other hop can be one. An `Option` here would take the audit a quarter more time, since
+    // the compiler would move along in this loop what the next one starts from.
+    fn first_unstamped(self) -> usize
+        ensures { result ≡ least (count self.entry.index2.hops.now)
+            (unstamped self.entry.index2.hops.now self.entry.stamps.now self.entry.r.0 self.entry.k) }
     {
-        (self.index2.first(self.r.0)..self.index2.past(self.r.0)).find(|j| self.is_unstamped(*j))
+        for j in self.index2.first(self.r.0)..self.index2.past(self.r.0) {
+            if self.is_unstamped(j) {
+                return j;
+            }
+        }
+        hop_count(self.index2.hops)
     }
 
     // How many such hops graph 2 has, counted from the first of them on.
@@ -105,10 +110,12 @@ impl<'a, 's> Stamped<'a, 's> {
             (least (count self.entry.index2.hops.now)
             (unstamped self.entry.index2.hops.now self.entry.stamps.now self.entry.r.0 self.entry.k)) }
     {
-        let place = self.first_unstamped();
-        let faults = match place {
-            Some(first) => self.unstamped_from(first),
-            None => 0,
+        let first = self.first_unstamped();
+        let faults = self.unstamped_from(first);
+        let place = if first < hop_count(self.index2.hops) {
+            Some(first)
+        } else {
+            None
         };
         OfState { faults, place }
     }
@@ -198,10 +205,10 @@ impl<'a> Tabled<'a> {
     {
         let mut faults = 0;
         let mut first = None;
-        for s in 0..self.located.mapped.shape1.states as u16 {
-            let of = self.unmatched_of(OldState(s), work);
+        for s in 0..self.located.mapped.shape1.states as usize {
+            let of = self.unmatched_of(OldState(s as u16), work);
             faults += of.faults;
-            first = keep(first, of.place, s);
+            first = keep(first, of.place, s as u16);
         }
         Share { faults, first }
     }

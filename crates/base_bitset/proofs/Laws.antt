@@ -52,7 +52,7 @@ bit_one k b = go (cases_eq b k) where
   go (inr d) = rw (bit_at-pow_other k b d) (sym (ne_eqb b k d))
 
 -- two words with the same bits
-bits_same : (k x y : ℕ) → x < 2 ^ k → y < 2 ^ k → ((b : ℕ) → b < k → bit_at x b ≡ bit_at y b) → x ≡ y
+pub bits_same : (k x y : ℕ) → x < 2 ^ k → y < 2 ^ k → ((b : ℕ) → b < k → bit_at x b ≡ bit_at y b) → x ≡ y
 unfolding bit_at
 bits_same k x y h l f =
     same_from_bits_below k x y h l (λ b m. digit_same _ _ (bit_at-lt x b) (bit_at-lt y b) (f b m))

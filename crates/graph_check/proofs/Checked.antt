@@ -29,10 +29,10 @@ module _ (sh : Shape) (hs : List ℕ) where
   check_counts f e = rw (← f, e)
 
   -- no row speaks
-  check_accepts : not (counts_fit sh hs) ≡ false → sh.initial < sh.states → count hs ≤ first_outside sh hs → count hs ≤ first_not_ascending hs →
-      accepted ≡ check_of sh hs
+  pub check_accepts : {fit : Bool} → fit ≡ counts_fit sh hs → not fit ≡ false → sh.initial < sh.states → {o : ℕ} → o ≡ first_outside sh hs → count hs ≤ o →
+      {w : ℕ} → w ≡ first_not_ascending hs → count hs ≤ w → accepted ≡ check_of sh hs
   unfolding check_of
-  check_accepts e l m k = rw (e, lt-leb _ _ l, le-ltb _ _ m, le-ltb _ _ k)
+  check_accepts f e l p m q k = rw (← f, e, lt-leb _ _ l, ← p, le-ltb _ _ m, ← q, le-ltb _ _ k)
 
 -- the least number that fails a test, as the code looks for it
 first_failing : (n : ℕ) (p : ℕ → Bool) → least n (λ (i : ℕ). not (p i)) < n → FirstFailing n p (least n (λ (i : ℕ). not (p i)))
@@ -162,7 +162,7 @@ module _ (sh : Shape) (hs : List ℕ) where
   pub admitted_check : Admitted sh hs → check_of sh hs ≡ accepted
   unfolding first_outside first_not_ascending
   admitted_check a =
-      sym (check_accepts sh hs (not_from_true _ (limits_counts limits)) a.initial_in outside falling)
+      sym (check_accepts sh hs refl (not_from_true _ (limits_counts limits)) a.initial_in refl outside refl falling)
     where
       limits : Limits
       limits = record {

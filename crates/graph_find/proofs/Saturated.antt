@@ -18,11 +18,11 @@ use Rattle.graph_find.specs.Find.{hops_before}
 use Rattle.graph_find.specs.Internal.Find.{saturated}
 
 -- a number below 65,535 stands for itself, and 65,535 for any other
-saturate_fits : (x : ℕ) → x < 65535 → x ≡ saturated x
+pub saturate_fits : (x : ℕ) → x < 65535 → x ≡ saturated x
 unfolding saturated
 saturate_fits x l = rw (lt-ltb _ _ l)
 
-saturate_large : (x : ℕ) → 65535 ≤ x → 65535 ≡ saturated x
+pub saturate_large : (x : ℕ) → 65535 ≤ x → 65535 ≡ saturated x
 unfolding saturated
 saturate_large x l = rw (le-ltb _ _ l)
 

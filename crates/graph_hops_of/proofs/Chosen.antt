@@ -1,5 +1,5 @@
 -- What the choice of a side says of the chosen table. Assumes nothing.
-use Prim.Native.Nat.{ℕ, ◌<◌, ◌≤◌}
+use Prim.Native.Nat.{ℕ, ◌<◌}
 use mathlib.Core.Path.{◌≡◌, refl, sym}
 use Rattle.std.proofs.Common.{Some}
 use mathlib.Core.Bool.{Bool, true, false, cond, ◌&&◌}
@@ -8,9 +8,6 @@ use native.Mathlib.Omega.{arith}
 use borrow.Author.Tests.{eqb-true, ltb-true}
 use lib.Dec.{eqb, ltb}
 use Rattle.std.proofs.lemmas.Bool.{and_parts}
-use Rattle.graph.specs.Answers.{most_hops}
-use Rattle.graph.specs.Hops.{count}
-use Rattle.graph.specs.Order.{Ascending}
 use Rattle.graph_check.specs.Check.{check_of, Admitted}
 use Rattle.graph.specs.declared.Shape.{Shape}
 use Rattle.graph_check.proofs.Checked.{check_admitted}
@@ -24,33 +21,39 @@ picked x y z = cond x (cond y 1 (cond z 2 0)) 0
 
 module _ (side s : ℕ) (sh1 : Shape) (h1 : List ℕ) (sh2 : Shape) (h2 : List ℕ) where
   -- the table whose hops are returned is admitted, and has the state
-  pub record Shows (hs : List ℕ) : Type 0 where
-    pub ascending : Ascending hs
-    pub few : count hs ≤ most_hops
-    pub narrow : s < 65535
+  pub record Shows (sh : Shape) (hs : List ℕ) : Type 0 where
+    pub admitted : Admitted sh hs
+    pub present : s < sh.states
 
-  shows : {sh : Shape} {hs : List ℕ} → Admitted sh hs → s < sh.states → Shows hs
-  shows adm present = record { ascending = adm.ascending; few = adm.hops_most; narrow = omega (arith, adm.states_most) }
+  -- .. so the state and the next number are of 16 bits
+  pub shows_narrow : {sh : Shape} {hs : List ℕ} → Shows sh hs → s < 65535
+  shows_narrow x = omega (arith, x.present, x.admitted.states_most)
 
   told : (x y z : Bool) → both_pass sh1 h1 sh2 h2 ≡ x → (eqb side 1 && ltb s sh1.states) ≡ y → (eqb side 2 && ltb s sh2.states) ≡ z →
-      (picked x y z ≡ 1 → Shows h1) × (picked x y z ≡ 2 → Shows h2)
+      (picked x y z ≡ 1 → Shows sh1 h1) × (picked x y z ≡ 2 → Shows sh2 h2)
   unfolding both_pass
   told true true z p q r = (
-    λ _. shows (check_admitted sh1 h1 (eqb-true _ _ (and_parts (eqb (check_of sh1 h1).number 0) _ p).0)) (ltb-true _ _ (and_parts (eqb side 1) _ q).1),
+    λ _. record {
+      admitted = check_admitted sh1 h1 (eqb-true _ _ (and_parts (eqb (check_of sh1 h1).number 0) _ p).0);
+      present = ltb-true _ _ (and_parts (eqb side 1) _ q).1;
+    },
     λ e. absurd (omega arith),
   )
   told true false true p q r = (
     λ e. absurd (omega arith),
-    λ _. shows (check_admitted sh2 h2 (eqb-true _ _ (and_parts (eqb (check_of sh1 h1).number 0) _ p).1)) (ltb-true _ _ (and_parts (eqb side 2) _ r).1),
+    λ _. record {
+      admitted = check_admitted sh2 h2 (eqb-true _ _ (and_parts (eqb (check_of sh1 h1).number 0) _ p).1);
+      present = ltb-true _ _ (and_parts (eqb side 2) _ r).1;
+    },
   )
   told true false false p q r = (λ e. absurd (omega arith), λ e. absurd (omega arith))
   told false y z p q r = (λ e. absurd (omega arith), λ e. absurd (omega arith))
 
   -- .. so much is known where a side was chosen
-  pub first_shows : {x : Side} → side_number (Some x) ≡ chosen side s sh1 h1 sh2 h2 → x ≡ First → Shows h1
+  pub first_shows : {x : Side} → side_number (Some x) ≡ chosen side s sh1 h1 sh2 h2 → x ≡ First → Shows sh1 h1
   unfolding chosen
   first_shows e d = (told _ _ _ refl refl refl).0 (sym (rw d at e))
 
-  pub second_shows : {x : Side} → side_number (Some x) ≡ chosen side s sh1 h1 sh2 h2 → x ≡ Second → Shows h2
+  pub second_shows : {x : Side} → side_number (Some x) ≡ chosen side s sh1 h1 sh2 h2 → x ≡ Second → Shows sh2 h2
   unfolding chosen
   second_shows e d = (told _ _ _ refl refl refl).1 (sym (rw d at e))

@@ -11,7 +11,7 @@ use graph::{MOST_HOPS, Refusal, Shape};
 use graph_check::check;
 use graph_index::Index;
 use graph_successors::{STARTS, put_starts};
-use mark_equations::{Known, x};
+use mark_equations::x;
 
 // "k from 0 to 4"
 const MOST_ROUNDS: usize = 4;
@@ -62,7 +62,7 @@ fn survives_rounds(shape: Shape, hops: &[u16], place: usize, rounds: usize) -> b
         hops,
         starts: &starts,
     };
-    let mut known = [Known::Unknown; KNOWN];
+    let mut known = [0u8; KNOWN];
     x(index, place, rounds, &mut known)
 }
 

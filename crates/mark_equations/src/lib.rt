@@ -12,14 +12,13 @@ ghost use Rattle.graph.specs.Hops.{count, from, label, to};
 ghost use Rattle.graph.specs.Answers.{most_states};
 ghost use Rattle.mark_confluence.specs.Rounds.{closing, survives};
 ghost use Rattle.mark_confluence.specs.Internal.Rounds.{answered};
-ghost use Rattle.mark_equations.specs.Internal.Known.{Right, Prepared};
+ghost use Rattle.mark_equations.specs.Internal.Known.{known_of, byte_of, Right, Prepared};
 
 use graph::hops::{from_at, hop_of, label_at, to_at};
 use graph::{MOST_HOPS, OldState};
 use graph_index::Index;
 
-// What the table holds of a hop and a number of rounds: in one byte, where `Option<bool>` has two,
-// and the table would take twice the stack.
+// What a byte of the table says of a hop and a number of rounds.
 #[derive(Clone, Copy, PartialEq, Eq)]
 pub enum Known {
     Unknown,
@@ -27,9 +26,35 @@ pub enum Known {
     Survives,
 }
 
+// A caller may lend bytes of any number, of which 1 and 2 alone say something.
+impl From<u8> for Known {
+    ghost from_gives = { λ byte known. known ≡ known_of byte };
+
+    fn from(byte: u8) -> Known {
+        match byte {
+            1 => Known::Falls,
+            2 => Known::Survives,
+            _ => Known::Unknown,
+        }
+    }
+}
+
+// The byte that is written for it.
+impl From<Known> for u8 {
+    ghost from_gives = { λ known byte. byte ≡ byte_of known };
+
+    fn from(known: Known) -> u8 {
+        match known {
+            Known::Unknown => 0,
+            Known::Falls => 1,
+            Known::Survives => 2,
+        }
+    }
+}
+
 // X: does the silent hop at place i survive k rounds?
 #[cycle(x_y_z)]
-pub fn x(index: Index<'_>, i: usize, k: usize, known: &mut [Known]) -> bool
+pub fn x(index: Index<'_>, i: usize, k: usize, known: &mut [u8]) -> bool
     requires place { i < count index.hops.now }
     requires silent { label index.hops.now i ≡ 0 }
     requires prepared { Prepared index.hops.now known.old k }
@@ -41,7 +66,7 @@ pub fn x(index: Index<'_>, i: usize, k: usize, known: &mut [Known]) -> bool
         return true;
     }
     let at = k * MOST_HOPS + i;
-    match known[at] {
+    match Known::from(known[at]) {
         Known::Unknown => {}
         Known::Falls => return false,
         Known::Survives => return true,
@@ -50,18 +75,18 @@ pub fn x(index: Index<'_>, i: usize, k: usize, known: &mut [Known]) -> bool
     let s2 = to_at(index.hops, i);
     for j in index.first(s1.0)..index.past(s1.0) {
         if !y(index, j, s2, k - 1, known) {
-            known[at] = Known::Falls;
+            known[at] = u8::from(Known::Falls);
             return false;
         }
     }
-    known[at] = Known::Survives;
+    known[at] = u8::from(Known::Survives);
     true
 }
 
 // Y: is the hop at place i, tried against a silent hop to s2, answered from s2 with a closing that
 // survives k rounds?
 #[cycle(x_y_z)]
-fn y(index: Index<'_>, i: usize, s2: OldState, k: usize, known: &mut [Known]) -> bool
+fn y(index: Index<'_>, i: usize, s2: OldState, k: usize, known: &mut [u8]) -> bool
     requires place { i < count index.hops.now }
     requires state { s2.0 < most_states }
     requires prepared { Prepared index.hops.now known.old k }
@@ -81,7 +106,7 @@ fn y(index: Index<'_>, i: usize, s2: OldState, k: usize, known: &mut [Known]) ->
 
 // Z, the closing: is s3 the state s4, or does the silent hop s3 to s4 survive k rounds?
 #[cycle(x_y_z)]
-fn z(index: Index<'_>, s3: OldState, s4: OldState, k: usize, known: &mut [Known]) -> bool
+fn z(index: Index<'_>, s3: OldState, s4: OldState, k: usize, known: &mut [u8]) -> bool
     requires state { s3.0 < most_states }
     requires prepared { Prepared index.hops.now known.old k }
     ensures answers { result ≡ closing (survives index.entry.hops.now k) s3.0 s4.0 }

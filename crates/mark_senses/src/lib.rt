@@ -2,12 +2,14 @@
 // as an argument, and the marked set of a sense.
 // Proved once for all four: the condition is monotone in the set, and the marked set is of the
 // sense and contains every set of it. The sense that a caller asks by number is here too, with
-// row 19, which refuses any other number.
+// row 19, which refuses any other number; and the sense whose marks a number has, refused or not.
 // Uses `lts` for what a sense is, over any relation, `mark_confluence` for document 01's condition,
 // which is sense 1, and `base_fixpoint` for the rounds of any condition.
 #![tactic(auto)]
 
-ghost use Rattle.mark_senses.specs.Internal.Numbers.{GivesSense};
+ghost use Rattle.std.specs.Prelude.{◌≡◌};
+ghost use Rattle.mark_senses.specs.Senses.{sense_of};
+ghost use Rattle.mark_senses.specs.Internal.Numbers.{GivesSense, condition_of};
 
 use graph::Refusal;
 
@@ -35,6 +37,22 @@ impl TryFrom<u32> for Sense {
             3 => Ok(Sense::R3),
             8 => Ok(Sense::R8),
             _ => Err(Refusal::NoSense),
+        }
+    }
+}
+
+impl Sense {
+    // The sense with the condition that the number has: R8 for every number but 1, 2 and 3.
+    // It refuses none, as `sense_of` does not; an entry asks `try_from`.
+    #[tactic(auto, unfolding(crate::specs::Senses::sense_of))]
+    pub fn of_number(number: u32) -> Sense
+        ensures { condition_of result ≡ sense_of number }
+    {
+        match number {
+            1 => Sense::R1,
+            2 => Sense::R2,
+            3 => Sense::R3,
+            _ => Sense::R8,
         }
     }
 }

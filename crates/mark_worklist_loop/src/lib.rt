@@ -30,7 +30,7 @@ use graph_successors::STARTS;
 use mark_confluence::start_marks;
 use mark_worklist_next::{RoundGraph, leaving_of, next_queue};
 use mark_worklist_push::{Predecessors, Worklist};
-use mark_worklist_round::{dirty_of, list_silent, test_again, test_first, unmark_fallen};
+use mark_worklist_round::{dirty_of, list_silent, test_first, test_worklist, unmark_fallen};
 
 // A later round, of the hops on the worklist: those to the dirty states, which the `left` fallen
 // hops leave, are tried. The dirty states are made in here: among what `later_rounds` keeps they
@@ -56,7 +56,7 @@ fn test_dirty(
     ensures emptied { Emptied worklist.old worklist.new }
 {
     let dirty = dirty_of(graph.index.hops, &fallen[..left]);
-    test_again(graph, &dirty, worklist, fallen)
+    test_worklist(graph, &dirty, worklist, fallen)
 }
 
 // The rounds after the first, in which `lost` hops fell; returns the number of all tests. The

@@ -4,7 +4,7 @@
 use Prim.Native.Nat.{ℕ, suc, ◌+◌, ◌<◌, ◌≤◌}
 use mathlib.Core.Path.{◌≡◌, refl, sym, ◌∙◌}
 use mathlib.Core.Bool.{Bool, true, false, cond}
-use mathlib.Core.List.{List, [], ◌∷◌, ◌++◌}
+use mathlib.Core.List.{List, [], ◌∷◌, ◌++◌, map}
 use mathlib.Core.Logic.{◌⊎◌, inl, inr, ⊎_elim}
 use native.Mathlib.Nat.{not-suc-le-zero}
 use native.Mathlib.Omega.{arith}
@@ -12,7 +12,7 @@ use lib.ListN.{length, get_or, set, drop, length-set}
 use lib.Seq.{get_or-set_same, get_or-set_other, drop-set-lt}
 use borrow.Author.Tests.{eq-eqb, ne_eqb}
 use Rattle.std.specs.List.{All, Contains}
-use Rattle.std.proofs.lemmas.List.{length_push}
+use Rattle.std.proofs.lemmas.List.{length_push, map-set}
 use Rattle.std.proofs.lemmas.List.Elements.{All-nil, All-push, All-weaker, All-contains, Contains-get_or, Contains-append_left, Contains-push, Contains-push_cases}
 use Rattle.base_bounded.proofs.Bools.{clash, decided, eq_or_not, lt_or_le, no_test}
 use Rattle.base_bounded.proofs.Quantifiers.{tally_none, tally_more, tally_skip}
@@ -116,6 +116,12 @@ module _ (hs qs : List ℕ) (old : List Bool) where
 
     kept : (j : ℕ) → is_set (set new i false) j ≡ true → is_set old j ≡ true
     kept j e = ⊎_elim (λ d. clash (rw d at e) off_here) (λ d. t.kept j (sym (get_or-set_other new i j false false d) ∙ e)) (eq_or_not j i)
+
+-- the same of a table of flags
+module _ (hs qs : List ℕ) (A : Type 0) (raised : A → Bool) (old : List A) where
+  pub cleared_flag : (new : List A) {i : ℕ} {x : A} → Cleared hs qs (map raised old) (map raised new) → i < count hs → raised x ≡ false →
+      Cleared hs (qs ++ i ∷ []) (map raised old) (map raised (set new i x))
+  cleared_flag new {i} {x} t l e = rw (map-set raised new i x, e) (cleared_more hs qs (map raised old) t l)
 
 -- taking marks
 module _ (ms : List ℕ) where

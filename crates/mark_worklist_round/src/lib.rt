@@ -3,11 +3,11 @@
 // The first round tests each silent (tau) hop in full; a later one tries only the hops to a state
 // that a fallen hop leaves. `mark_worklist_loop` puts the parts together.
 // Uses `mark_diamond` and `mark_diamond_retest` for the two tests, `mark_worklist` for which hops
-// the first round tests, `mark_worklist_push` for the queue, and `graph_index` for the hop list
-// with its table and its marks.
+// the first round tests, `mark_worklist_push` for the queue, `graph_index` for the hop list with
+// its table and its marks, and `base_flag` for tables that may be of `bool` or of bytes.
 #![tactic(auto)]
 
-ghost use Rattle.std.specs.Prelude.{◌<◌, ◌≤◌, length, take, All};
+ghost use Rattle.std.specs.Prelude.{◌<◌, ◌≤◌, length, map, take, All};
 ghost use Rattle.graph.specs.Hops.{count};
 ghost use Rattle.graph.specs.Answers.{most_hops};
 ghost use Rattle.graph_successors.specs.Internal.SuccessorIndex.{Indexable};
@@ -15,6 +15,7 @@ ghost use Rattle.mark_worklist.specs.Tests.{tested_in};
 ghost use Rattle.mark_worklist_push.specs.Internal.Queue.{queued, PlacesBelow};
 ghost use Rattle.mark_worklist_round.specs.Internal.Round.{Enumerates, DirtyStates, SkipsClean, Tested, Cleared, Emptied, Unmarked};
 
+use base_flag::Flag;
 use graph::hops::{from_at, hop_count, label_at};
 use graph::{MOST_HOPS, MOST_STATES};
 use graph_index::Marked;
@@ -76,9 +77,36 @@ pub fn test_first(graph: Marked<'_>, queue: &[u16], fallen: &mut [u16; MOST_HOPS
     lost
 }
 
-// A later round: the same of the hops on the worklist, with only the hops to dirty states tried.
-// The worklist is empty afterwards.
-pub fn test_again(
+// A later round: the same, with only the hops to dirty states tried, and the flags of the queue
+// cleared.
+pub fn test_again<F: Flag, G: Flag>(
+    graph: Marked<'_>,
+    dirty: &[F; MOST_STATES],
+    queue: &[u16],
+    flags: &mut [G; MOST_HOPS],
+    fallen: &mut [u16; MOST_HOPS],
+) -> usize
+    requires most { length queue.now ≤ most_hops }
+    requires places { PlacesBelow graph.index.hops.now queue.now }
+    requires clean { SkipsClean graph.index.hops.now graph.marks.now (map F.raised dirty.now) queue.now }
+    ensures tested { Tested graph.entry.index.hops.now graph.entry.marks.now queue.now (take result fallen.new) }
+    ensures within { result ≤ length queue.now }
+    ensures cleared { Cleared graph.entry.index.hops.now queue.now (map G.raised flags.old) (map G.raised flags.new) }
+{
+    let mut lost = 0;
+    for &i in queue {
+        flags[usize::from(i)] = G::of(false);
+        let closes = closes_again(graph, dirty, usize::from(i));
+        if !closes {
+            fallen[lost] = i;
+            lost += 1;
+        }
+    }
+    lost
+}
+
+// The same of the hops on the worklist, which is empty afterwards.
+pub fn test_worklist(
     graph: Marked<'_>,
     dirty: &[bool; MOST_STATES],
     worklist: &mut Worklist<'_>,
@@ -94,16 +122,8 @@ pub fn test_again(
     ensures cleared { Cleared graph.entry.index.hops.now (queued worklist.old) worklist.old.flags.now worklist.new.flags.now }
     ensures emptied { Emptied worklist.old worklist.new }
 {
-    let mut lost = 0;
-    for k in 0..worklist.len {
-        let i = worklist.places[k];
-        worklist.flags[usize::from(i)] = false;
-        let closes = closes_again(graph, dirty, usize::from(i));
-        if !closes {
-            fallen[lost] = i;
-            lost += 1;
-        }
-    }
+    let queue = &worklist.places[..worklist.len];
+    let lost = test_again(graph, dirty, queue, worklist.flags, fallen);
     worklist.len = 0;
     lost
 }

@@ -66,7 +66,7 @@ pub fn check_reduce(
 // Marks in the sense: R1 by rounds with a worklist, any other by sweeps.
 // It serves `reduce` and the repeated reduction. `mark` has a choice of its own: with one function
 // for all, R1 would take as much stack as the other senses.
-pub fn mark_in(ringless: Ringless<'_>, sense: Sense, marks: &mut [u8])
+pub fn mark_by_sense(ringless: Ringless<'_>, sense: Sense, marks: &mut [u8])
     requires { count ringless.graph.index.hops.now ≤ length marks.old }
     ensures { marks.new ≡
         on_front
@@ -80,6 +80,19 @@ pub fn mark_in(ringless: Ringless<'_>, sense: Sense, marks: &mut [u8])
         }
         Sense::R2 | Sense::R3 | Sense::R8 => mark_by_sweeps(ringless, sense, marks),
     }
+}
+
+// The same of the sense with the given number. Any number may be asked: what is no sense's number
+// has the marks of R8, as `sense_of` says.
+pub fn mark_in(ringless: Ringless<'_>, sense: u32, marks: &mut [u8])
+    requires { count ringless.graph.index.hops.now ≤ length marks.old }
+    ensures { marks.new ≡
+        on_front
+        (marks_of ringless.entry.graph.index.hops.now
+        (marked_by sense ringless.entry.graph.shape ringless.entry.graph.index.hops.now))
+        marks.old }
+{
+    mark_by_sense(ringless, Sense::of_number(sense), marks);
 }
 
 // The reduction of a graph that every row lets pass: it is marked in the sense, and reduced along
@@ -101,7 +114,7 @@ fn accepted_reduction(
         on_front (flat (reduced_hops ringless.entry.graph.shape ringless.entry.graph.index.hops.now (sense_number sense))) short.old }
 {
     let mut marks = [0u8; MOST_HOPS];
-    mark_in(ringless, sense, &mut marks);
+    mark_by_sense(ringless, sense, &mut marks);
     let graph = ringless.graph;
     reduce_marked(graph.shape, graph.index.hops, &marks, map, short)
 }

@@ -92,6 +92,28 @@ pub fn follow(next: &[u16; MOST_STATES], states: usize, s: OldState) -> OldState
     OldState(at)
 }
 
+// Walks from s to its representative, and enters it for every state on the way.
+// It asks less than a `WalkTable`, which owns its table: this one is lent.
+pub fn compress_path(next: &mut [u16; MOST_STATES], states: usize, s: OldState, rep: OldState)
+    requires inside { s.0 < states }
+    requires few { states ≤ most_states }
+    requires closed { ClosedTable states next.old }
+    requires terminating { ∥ TerminatingTable states next.old ∥₁ }
+    requires rep { rep.0 ≡ table_steps next.old states s.0 }
+    ensures { Compressed states next.old next.new }
+{
+    let mut at = s.0;
+    for _passed in 0..states {
+        let i = usize::from(at);
+        let to = next[i];
+        if to == rep.0 {
+            break;
+        }
+        next[i] = rep.0;
+        at = to;
+    }
+}
+
 impl WalkTable {
     // Walks from s to its representative, and enters it for every state on the way.
     pub fn compress_path(&mut self, s: OldState, rep: OldState)
@@ -100,15 +122,6 @@ impl WalkTable {
         ensures states { self.new.states ≡ self.old.states }
         ensures compressed { Compressed self.old.states self.old.next self.new.next }
     {
-        let mut at = s.0;
-        for _passed in 0..self.states {
-            let i = usize::from(at);
-            let to = self.next[i];
-            if to == rep.0 {
-                break;
-            }
-            self.next[i] = rep.0;
-            at = to;
-        }
+        compress_path(&mut self.next, self.states, s, rep);
     }
 }

@@ -12,7 +12,8 @@ ghost use Rattle.report_rows.specs.Internal.Rows.{by_place, marked_lines, map_li
 ghost use Rattle.report_rows.specs.Rows.{marked_line, hop_line, refusal_of};
 
 use graph::hops::{from_at, hop_count, label_at, line_at, new_from_at, new_to_at, to_at};
-use graph::{Answer, Shape};
+use graph::map::map_at;
+use graph::{Answer, OldState, Shape};
 use report_text::Text;
 
 // "A refusal prints only `no`, number, place."
@@ -49,11 +50,13 @@ fn put_marks(text: &mut Text, hops: &[u16], marks: &[u8])
 }
 
 fn put_map(text: &mut Text, map: &[u16])
-    requires { HasCapacity text.old (map_lines (length map.now) map.now) }
+    requires few { length map.now ≤ most_states }
+    requires capacity { HasCapacity text.old (map_lines (length map.now) map.now) }
     ensures { TextWritten text.old (map_lines (length map.now) map.now) text.new }
 {
-    for (s, new) in map.iter().enumerate() {
-        text.put_line(b"map", &[s, usize::from(*new)]);
+    for s in 0..map.len() {
+        let new = map_at(map, OldState(s as u16));
+        text.put_line(b"map", &[s, usize::from(new.0)]);
     }
 }
 

@@ -60,14 +60,15 @@ digits_cut : (k n : ℕ) → 10 ≤ n → digits (suc k) n ≡ digits k (n / 10)
 unfolding digits
 digits_cut k n l = rw (le-ltb n 10 l)
 
-digits_one : (k n : ℕ) → n < 10 → digits (suc k) n ≡ (48 + n) ∷ []
+pub digits_one : (k n : ℕ) → (k ≡ 0 → ⊥) → n < 10 → digits k n ≡ (48 + n) ∷ []
 unfolding digits
-digits_one k n l = rw (lt-ltb n 10 l)
+digits_one zero n z l = absurd (z refl)
+digits_one (suc k) n z l = rw (lt-ltb n 10 l)
 
 -- a decimal is its last digit, or that digit behind the decimal of the number without it
 pub decimal_one : (n : ℕ) → n < 10 → decimal n ≡ (48 + n) ∷ []
 unfolding decimal
-decimal_one n l = digits_one 19 n l
+decimal_one n l = digits_one 20 n (λ z. omega arith) l
 
 pub decimal_more : (n : ℕ) → n < 2 ^ 64 → 10 ≤ n → decimal n ≡ decimal (n / 10) ++ ((48 + n % 10) ∷ [])
 unfolding decimal limit

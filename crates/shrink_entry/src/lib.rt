@@ -116,6 +116,7 @@ fn accepted_shrinking(
 // The entry. A refusal writes nothing; acceptance writes the map and the last hops, and nothing
 // past them.
 // The sense is a number: any may be asked for, and row 19 refuses one that no sense has.
+#[tactic(auto, using(crate::proofs::Accepted::goes_on))]
 pub fn shrink(
     shape: Shape,
     hops: &[u16],

@@ -27,7 +27,7 @@ use graph_index::{Index, Indexed};
 use graph_successors::{STARTS, put_starts};
 use mark_senses::Sense;
 use reduce_by_marks::reduce_marked;
-use reduce_entry::entry::mark_in;
+use reduce_entry::entry::mark_by_sense;
 use shrink_compose::put_composed;
 use walk_rings::Ringless;
 
@@ -66,7 +66,7 @@ fn mark_stage(shape: Shape, hops: &[u16], sense: Sense, marks: &mut [u8]) -> boo
             starts: &starts,
         },
     };
-    mark_in(Ringless { graph }, sense, marks);
+    mark_by_sense(Ringless { graph }, sense, marks);
     is_any(&marks[..hop_count(hops)])
 }
 

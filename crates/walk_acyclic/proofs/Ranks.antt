@@ -104,10 +104,16 @@ ranked_join x y = record { same_graph = y.same_graph ∙ x.same_graph; gained = 
 pub ranked_within : {a b : Ranking} {r : ℕ} → Ranked a r b → r ≤ a.graph.shape.states
 ranked_within {b = b} x = omega (arith, x.gained, ap (λ g. g.shape.states) x.same_graph, tally_within (visited b.ranked) b.graph.shape.states)
 
--- n of n
-pub ranked_all : {a b : Ranking} {r : ℕ} → Ranked a r b → b.graph.shape.states ≤ r → b.graph.shape.states ≡ lowest_on_ring b.graph.shape b.graph.index.hops.now
-ranked_all {b = b} {r} x h = lowest_none b.graph.admitted.range (λ t l. b.unringed t l (go t l (decided (visited b.ranked t)))) where
-  go : (t : ℕ) → t < b.graph.shape.states → (visited b.ranked t ≡ true) ⊎ (visited b.ranked t ≡ false) → visited b.ranked t ≡ true
-  go t l (inl e) = e
-  go t l (inr e) =
-      absurd (omega (arith, x.gained, tally_less (visited b.ranked) (λ (j : ℕ). true) b.graph.shape.states (λ j k d. refl) l e refl, tally_within (λ (j : ℕ). true) b.graph.shape.states))
+-- n of n are ranked, and none of them is on a ring
+pub gained_all : (hs : List ℕ) (n : ℕ) {r : ℕ} (old ranked : List Bool) → OffRings hs n ranked → tally n (visited old) + r ≤ tally n (visited ranked) → n ≤ r → (t : ℕ) → t < n → OnRing hs t → ⊥
+gained_all hs n old ranked u more h t l = u t l (go (decided (visited ranked t))) where
+  go : (visited ranked t ≡ true) ⊎ (visited ranked t ≡ false) → visited ranked t ≡ true
+  go (inl e) = e
+  go (inr e) =
+      absurd (omega (arith, more, tally_less (visited ranked) (λ (j : ℕ). true) n (λ j k d. refl) l e refl, tally_within (λ (j : ℕ). true) n))
+
+pub ranked_all : {a b : Ranking} {r : ℕ} → Ranked a r b → b.graph.shape.states ≤ r → (t : ℕ) → t < b.graph.shape.states → OnRing b.graph.index.hops.now t → ⊥
+ranked_all {a} {b} x h = gained_all b.graph.index.hops.now b.graph.shape.states a.ranked b.ranked b.unringed (rw (ap (λ g. g.shape.states) (sym x.same_graph)) at x.gained) h
+
+pub ranked_all_lowest : {a b : Ranking} {r : ℕ} → Ranked a r b → b.graph.shape.states ≤ r → b.graph.shape.states ≡ lowest_on_ring b.graph.shape b.graph.index.hops.now
+ranked_all_lowest {b = b} x h = lowest_none b.graph.admitted.range (ranked_all x h)

@@ -5,15 +5,19 @@
 // state itself (postorder), so that all that can be ranked is, and no hop is passed more than a few
 // times. The search only chooses the order: each state is ranked by `rank_one`, which looks at its
 // hops.
-// Uses `graph_index` for the hops of a state, `walk_silent` for what a ring is.
+// Uses `graph_index` for the hops of a state, `walk_silent` for what a ring is, `base_flag` for
+// tables of `bool` or bytes.
 // What `as u16` narrows here is a place or the state count, and the check proves that it fits.
 #![tactic(auto)]
 
-ghost use Rattle.std.specs.Prelude.{◌≡◌, ◌<◌, ◌≤◌, length, MatchOption};
+ghost use Rattle.std.specs.Prelude.{◌≡◌, ℕ, ◌+◌, ◌<◌, ◌≤◌, ◌||◌, length, map, drop, MatchOption};
+ghost use Rattle.base_bounded.specs.Quantifiers.{tally};
 ghost use Rattle.graph.specs.Answers.{most_states, most_hops};
 ghost use Rattle.graph.specs.Hops.{count};
+ghost use Rattle.walk_reach.specs.Internal.Frontier.{visited};
 ghost use Rattle.walk_acyclic.specs.Internal.Ranks.{ends_visited, OffRings};
 
+use base_flag::Flag;
 use graph::hops::{from_at, hop_count, label_at, to_at};
 use graph::{MOST_STATES, OldState};
 use graph_index::Indexed;
@@ -62,16 +66,16 @@ pub struct Ranking<'a> {
 }
 
 // Whether every silent hop of v leads to a ranked state. The silent hops are the first of its hops.
-pub fn ends_ranked(graph: Indexed<'_>, v: OldState, ranked: &[bool]) -> bool
+pub fn ends_ranked<F: Flag>(graph: Indexed<'_>, v: OldState, ranked: &[F]) -> bool
     requires capacity { graph.shape.states ≤ length ranked.now }
     requires state { v.0 < graph.shape.states }
-    ensures { result ≡ ends_visited graph.entry.index.hops.now ranked.now v.0 }
+    ensures { result ≡ ends_visited graph.entry.index.hops.now (map F.raised ranked.now) v.0 }
 {
     for i in graph.index.first(v.0)..graph.index.past(v.0) {
         if label_at(graph.index.hops, i).0 != 0 {
             return true;
         }
-        let is_unranked = !ranked[usize::from(to_at(graph.index.hops, i).0)];
+        let is_unranked = !ranked[usize::from(to_at(graph.index.hops, i).0)].is_raised();
         if is_unranked {
             return false;
         }
@@ -196,4 +200,53 @@ impl<'a> Ranking<'a> {
         }
         got
     }
+}
+
+// The flags of the states, as `bool`.
+fn flags_of<F: Flag>(states: usize, ranked: &[F]) -> [bool; MOST_STATES]
+    requires most { states ≤ most_states }
+    requires capacity { states ≤ length ranked.now }
+    ensures { (t : ℕ) → t < states → visited result t ≡ visited (map F.raised ranked.now) t }
+{
+    let mut flags = [false; MOST_STATES];
+    for s in 0..states {
+        flags[s] = ranked[s].is_raised();
+    }
+    flags
+}
+
+// Writes yes for each state that has its flag, and nothing else.
+fn put_flags<F: Flag>(states: usize, flags: &[bool; MOST_STATES], ranked: &mut [F])
+    requires most { states ≤ most_states }
+    requires capacity { states ≤ length ranked.old }
+    ensures states { (t : ℕ) → t < states →
+        visited (map F.raised ranked.new) t ≡ (visited flags.now t || visited (map F.raised ranked.old) t) }
+    ensures rest { drop states ranked.new ≡ drop states ranked.old }
+{
+    for s in 0..states {
+        let is_ranked = flags[s];
+        if is_ranked {
+            ranked[s] = F::of(true);
+        }
+    }
+}
+
+// Ranks every state that can be ranked, as `Ranking::rank_all` does, in a table that the caller has
+// made; returns how many states it ranked. The states that are ranked there before are on no ring.
+pub fn rank_all<F: Flag>(graph: Indexed<'_>, ranked: &mut [F]) -> usize
+    requires capacity { graph.shape.states ≤ length ranked.old }
+    requires unringed { OffRings graph.index.hops.now graph.shape.states (map F.raised ranked.old) }
+    ensures unringed { OffRings graph.entry.index.hops.now graph.entry.shape.states (map F.raised ranked.new) }
+    ensures gained { tally graph.entry.shape.states (visited (map F.raised ranked.old)) + result
+        ≤ tally graph.entry.shape.states (visited (map F.raised ranked.new)) }
+    ensures rest { drop graph.entry.shape.states ranked.new ≡ drop graph.entry.shape.states ranked.old }
+{
+    let states = graph.shape.states as usize;
+    let mut ranking = Ranking {
+        graph,
+        ranked: flags_of(states, ranked),
+    };
+    let got = ranking.rank_all();
+    put_flags(states, &ranking.ranked, ranked);
+    got
 }

@@ -23,7 +23,7 @@ pub record Passed (hs : List ℕ) (c : ℕ → Bool) (n v i : ℕ) (seen : List 
   pub ends : (j : ℕ) → first_of hs v ≤ j → j < i → c j ≡ true → visited seen' (to hs j) ≡ true
 
 module _ {sh : Shape} {hs : List ℕ} (a : Admitted sh hs) (v : ℕ) where
-  place_within : {i : ℕ} → i < first_of hs (v + 1) → i < count hs
+  pub place_within : {i : ℕ} → i < first_of hs (v + 1) → i < count hs
   place_within l = omega (arith, first_within hs a.ascending (v + 1))
 
   pub end_within : {i : ℕ} → i < first_of hs (v + 1) → to hs i < sh.states

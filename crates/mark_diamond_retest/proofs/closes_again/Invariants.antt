@@ -7,7 +7,7 @@ use Rattle.mark_diamond.proofs.Rows.{Own}
 use Rattle.mark_diamond_retest.proofs.closes_again.Given as goal
 
 abbrev pub invariant-loop-j : goal.invariant-loop-j
-invariant-loop-j l =
+invariant-loop-j g l =
     let hs = l.index.hops.now in
     let s1 = from hs l.fn.i in
     let s2 = to hs l.fn.i in

@@ -5,6 +5,7 @@ use Rattle.graph.specs.Hops.{from}
 use Rattle.graph.specs.Search.{first_of, past_of}
 use Rattle.graph_successors.proofs.Rows.{labelled_within}
 use Rattle.mark_confluence.proofs.Closing.{closing_same}
+use Rattle.mark_equations.specs.Internal.Known.{byte_of}
 use Rattle.mark_equations.proofs.Table.{says, write}
 use Rattle.mark_equations.proofs.Equations.{closes_all, closes_not, answered_hop, answered_last, answered_no, found_silent, closing_at, closing_none, no_round, one_round}
 use Rattle.mark_equations.proofs.+x_y_z.Goals as goal
@@ -14,11 +15,11 @@ x-returns-then-k-eq0-clause-answers t c = no_round _ _ _ c.requires.place c.requ
 
 pub x-returns-in-Falls-clause-answers : goal.x-returns-in-Falls-clause-answers
 x-returns-in-Falls-clause-answers t c =
-    says _ _ c.requires.prepared.right c.args.k c.args.i false (omega (arith, c.args.index.ready.hops_most)) c.in-Falls.is
+    says _ _ c.requires.prepared.right c.args.k c.args.i false (omega (arith, c.args.index.ready.hops_most)) c.from.ensures (ap byte_of c.in-Falls.is)
 
 pub x-returns-in-Survives-clause-answers : goal.x-returns-in-Survives-clause-answers
 x-returns-in-Survives-clause-answers t c =
-    says _ _ c.requires.prepared.right c.args.k c.args.i true (omega (arith, c.args.index.ready.hops_most)) c.in-Survives.is
+    says _ _ c.requires.prepared.right c.args.k c.args.i true (omega (arith, c.args.index.ready.hops_most)) c.from.ensures (ap byte_of c.in-Survives.is)
 
 pub x-returns-then-not-y-clause-answers : goal.x-returns-then-not-y-clause-answers
 unfolding past_of
@@ -31,7 +32,7 @@ x-returns-then-not-y-clause-answers t c =
 
 pub x-returns-then-not-y-clause-keeps : goal.x-returns-then-not-y-clause-keeps
 x-returns-then-not-y-clause-keeps t c =
-    write _ _ c.y.ensures.keeps c.args.k c.args.i false (omega (arith, c.args.index.ready.hops_most)) (omega arith)
+    write _ _ c.y.ensures.keeps c.args.k c.args.i false (omega (arith, c.args.index.ready.hops_most)) c.from-then-not-y.ensures (omega arith)
     (x-returns-then-not-y-clause-answers t c)
 
 pub x-returns-clause-answers : goal.x-returns-clause-answers
@@ -44,7 +45,7 @@ x-returns-clause-answers t c =
 
 pub x-returns-clause-keeps : goal.x-returns-clause-keeps
 x-returns-clause-keeps t c =
-    write _ _ c.loop-j.invariant.right c.args.k c.args.i true (omega (arith, c.args.index.ready.hops_most)) (omega arith)
+    write _ _ c.loop-j.invariant.right c.args.k c.args.i true (omega (arith, c.args.index.ready.hops_most)) c.from-2.ensures (omega arith)
     (x-returns-clause-answers t c)
 
 pub y-to_at-s4-requires : goal.y-to_at-s4-requires

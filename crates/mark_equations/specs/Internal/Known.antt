@@ -1,6 +1,6 @@
 -- What the memo table that is passed down the cycle of X, Y and Z may hold. Assumes nothing: these
 -- are definitions.
-use Rattle.std.specs.Prelude.{ℕ, ◌+◌, ◌*◌, ◌/◌, ◌%◌, ◌<◌, ◌≤◌, Bool, true, false, List, ◌≡◌, length, get_or}
+use Rattle.std.specs.Prelude.{ℕ, ◌+◌, ◌*◌, ◌/◌, ◌%◌, ◌<◌, ◌≤◌, Bool, true, false, cond, List, ◌≡◌, eqb, length, get_or}
 use Rattle.graph.specs.Hops.{count, from, label, to}
 use Rattle.graph.specs.Answers.{most_labels, most_hops}
 use Rattle.mark_confluence.specs.Rounds.{survives}
@@ -16,18 +16,27 @@ answer_place k i = k * most_hops + i
 unfoldable pub value : List ℕ → ℕ → Bool
 value hs j = survives hs (j / most_hops) (from hs (j % most_hops)) (to hs (j % most_hops))
 
--- the word that stands for an answer; the other says nothing
-abbrev pub word_for : Bool → Known
-word_for false = Falls
-word_for true = Survives
+-- the number that stands for an answer; any other says nothing
+abbrev pub word_for : Bool → ℕ
+word_for false = 1
+word_for true = 2
+
+-- what a number says, as a case of the code, and the number of a case
+abbrev pub known_of : ℕ → Known
+known_of n = cond (eqb n 1) Falls (cond (eqb n 2) Survives Unknown)
+
+abbrev pub byte_of : Known → ℕ
+byte_of Unknown = 0
+byte_of Falls = 1
+byte_of Survives = 2
 
 -- each answer in the table is right
-unfoldable pub Right : List ℕ → List Known → Type 0
-Right hs m = (j : ℕ) (v : Bool) → get_or m j Unknown ≡ word_for v → value hs j ≡ v
+unfoldable pub Right : List ℕ → List ℕ → Type 0
+Right hs m = (j : ℕ) (v : Bool) → get_or m j 0 ≡ word_for v → value hs j ≡ v
 
 -- what each of X, Y and Z asks besides an index: labels in their range, and a table long enough for
 -- k rounds, in which each answer is right
-pub record Prepared (hs : List ℕ) (m : List Known) (k : ℕ) : Type 0 where
+pub record Prepared (hs m : List ℕ) (k : ℕ) : Type 0 where
   pub label_in : (i : ℕ) → i < count hs → label hs i < most_labels
   pub capacity : answer_place k most_hops ≤ length m
   pub right : Right hs m

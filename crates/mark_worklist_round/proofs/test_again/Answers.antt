@@ -1,71 +1,60 @@
 -- Each turn tests the hop at its place in the queue, and clears its flag. Assumes nothing.
-use Rattle.std.proofs.Common.{◌≡◌, ℕ, ◌<◌, ◌≤◌, List, length, take, get_or, refl, arith, length-set}
-use Rattle.std.specs.List.{All}
-use Rattle.std.proofs.lemmas.List.{get_or-take, length-take-le, take_more, take_more_set}
-use Rattle.graph.specs.Hops.{count}
-use Rattle.mark_diamond_retest.specs.Internal.Retest.{CleanAnswered}
-use Rattle.mark_worklist_push.proofs.Pushing.{arrays_same}
+use Rattle.std.proofs.Common.{◌≡◌, ◌<◌, length, get_or, arith, length-set}
+use Rattle.std.proofs.Math.Seq.{take-length}
+use Rattle.std.proofs.lemmas.List.{length-map, take_more, take_more_set}
 use Rattle.mark_worklist_round.specs.Internal.Round.{SkipsClean}
-use Rattle.mark_worklist_round.proofs.Parts.{tested_none, tested_kept, tested_lost, cleared_none, cleared_more}
+use Rattle.mark_worklist_round.proofs.Parts.{tested_none, tested_kept, tested_lost, cleared_none, cleared_flag}
 use Rattle.mark_worklist_round.proofs.test_again.Goals as goal
 use Rattle.mark_worklist_round.proofs.test_again.Goals.{then-not-closes, else-not-closes}
 
--- what holds of the first n of xs holds of one of them
-among_first : (P : ℕ → Type 0) (n : ℕ) (xs : List ℕ) → All P (take n xs) → n ≤ length xs → (k : ℕ) → k < n → P (get_or xs k 0)
-among_first P n xs f m k l = rw (get_or-take n xs k 0 l) at (f k 0 (omega (arith, length-take-le n xs m)))
-
-pub loop-k-init : goal.loop-k-init
-loop-k-init c = record {
+pub loop-i-init : goal.loop-i-init
+loop-i-init g c = record {
   capacity = c.told-fallen;
+  flags = c.told-flags;
   within = omega arith;
   tested = tested_none _ _;
-  cleared = cleared_none _ _ c.requires.flags;
-  arrays = arrays_same _;
-  places = refl;
+  cleared = cleared_none _ _ (omega (arith, length-map c.args.flags.now g.G.Flag.raised, c.told-flags, c.args.graph.index.ready.hops_most));
 }
 
-pub closes_again-closes-requires-clause-place : goal.closes_again-closes-requires-clause-place
-closes_again-closes-requires-clause-place c =
-    let w = c.args.worklist.now in
-    let q : c.from-in-loop-k.result ≡ get_or w.places.now c.loop-k.k 0 = rw c.loop-k.invariant.places at c.from-in-loop-k.ensures in
-    rw q (among_first (λ i. i < count c.args.graph.index.hops.now) _ _ c.requires.places c.requires.capacity _ c.loop-k-test.true)
-
-pub closes_again-closes-requires-clause-others : goal.closes_again-closes-requires-clause-others
+pub closes_again-closes-requires : goal.closes_again-closes-requires
 unfolding SkipsClean
-closes_again-closes-requires-clause-others c =
-    let w = c.args.worklist.now in
-    let g = c.args.graph in
-    let q : c.from-in-loop-k.result ≡ get_or w.places.now c.loop-k.k 0 = rw c.loop-k.invariant.places at c.from-in-loop-k.ensures in
-    rw q (among_first (CleanAnswered g.index.hops.now g.marks.now c.args.dirty.now) _ _ c.requires.clean c.requires.capacity _ c.loop-k-test.true)
+closes_again-closes-requires g c =
+    let e = c.from-in-loop-i.ensures in
+    (omega arith, (rw e (c.requires.places c.loop-i.i-index 0 c.loop-i-test.true), rw e (c.requires.clean c.loop-i.i-index 0 c.loop-i-test.true)))
 
-pub loop-k-preserved : goal.loop-k-preserved
-loop-k-preserved c =
-    let v = c.loop-k.invariant in
-    let w = c.args.worklist.now in
-    let hs = c.args.graph.index.hops.now in
-    let long : c.loop-k.k < length w.places.now = omega arith in
-    let q : c.from.result ≡ get_or w.places.now c.loop-k.k 0 = rw v.places at c.from.ensures in
-    let p : c.from-in-loop-k.result ≡ get_or w.places.now c.loop-k.k 0 = rw v.places at c.from-in-loop-k.ensures in
-    let l : get_or w.places.now c.loop-k.k 0 < count hs = among_first (λ i. i < count hs) _ _ c.requires.places c.requires.capacity _ c.loop-k-test.true in
-    let e = rw p at c.closes_again-closes.ensures in
-    let fits : c.loop-k.lost < length c.loop-k.fallen = omega (arith, v.within, v.capacity, c.requires.most, c.loop-k-test.true) in
-    record {
-      capacity = elim c.if-not-closes.branch [
-        | then-not-closes b ↦ rw b.fallen-is (simp length-set v.capacity)
-        | else-not-closes b ↦ rw b.fallen-is v.capacity
-      ];
-      within = elim c.if-not-closes.branch [
-        | then-not-closes b ↦ rw b.lost-is (omega (arith, v.within))
-        | else-not-closes b ↦ rw b.lost-is (omega (arith, v.within))
-      ];
-      tested = elim c.if-not-closes.branch [
-        | then-not-closes b ↦
-            rw (b.fallen-is, b.lost-is, take_more w.places.now c.loop-k.k 0 long, take_more_set c.loop-k.fallen c.loop-k.lost (get_or c.loop-k.worklist.places.now c.loop-k.k 0) fits, v.places)
-            (tested_lost _ _ _ _ v.tested (rw b.if-not-closes.true at e))
-        | else-not-closes b ↦
-            rw (b.fallen-is, b.lost-is, take_more w.places.now c.loop-k.k 0 long) (tested_kept _ _ _ _ v.tested (rw b.if-not-closes.false at e))
-      ];
-      cleared = rw (take_more w.places.now c.loop-k.k 0 long, q) (cleared_more _ _ _ v.cleared l);
-      arrays = record { flags = v.arrays.flags; places = v.arrays.places };
-      places = v.places;
-    }
+pub loop-i-preserved : goal.loop-i-preserved
+loop-i-preserved g c =
+    let v = c.loop-i.invariant in
+    let e = rw c.from-in-loop-i.ensures at c.closes_again-closes.ensures in
+    let more = take_more c.args.queue.now c.loop-i.i-index 0 c.loop-i-test.true in
+    let inside = c.requires.places c.loop-i.i-index 0 c.loop-i-test.true in
+    let fits : c.loop-i.lost < length c.loop-i.fallen = omega (arith, v.within, v.capacity, c.requires.most, c.loop-i-test.true) in
+    let cleared = cleared_flag _ _ _ g.G.Flag.raised c.args.flags.now c.loop-i.flags v.cleared inside c.of.ensures in
+    elim c.if-not-closes.branch [
+      | then-not-closes w ↦ rw (w.fallen-is, w.lost-is) (record {
+        capacity = simp length-set v.capacity;
+        flags = simp length-set v.flags;
+        within = omega (arith, v.within);
+        tested =
+            rw (more, take_more_set c.loop-i.fallen c.loop-i.lost (get_or c.args.queue.now c.loop-i.i-index 0) fits)
+            (tested_lost _ _ _ _ v.tested (rw w.if-not-closes.true at e));
+        cleared = rw (more, c.from.ensures) cleared;
+      })
+      | else-not-closes w ↦ rw (w.fallen-is, w.lost-is) (record {
+        capacity = v.capacity;
+        flags = simp length-set v.flags;
+        within = omega (arith, v.within);
+        tested = rw more (tested_kept _ _ _ _ v.tested (rw w.if-not-closes.false at e));
+        cleared = rw (more, c.from.ensures) cleared;
+      })
+    ]
+
+pub returns-clause-tested : goal.returns-clause-tested
+returns-clause-tested g c =
+    let e : c.loop-i.i-index ≡ length c.args.queue.now = omega arith in
+    rw (e, take-length) at c.loop-i.invariant.tested
+
+pub returns-clause-cleared : goal.returns-clause-cleared
+returns-clause-cleared g c =
+    let e : c.loop-i.i-index ≡ length c.args.queue.now = omega arith in
+    rw (e, take-length) at c.loop-i.invariant.cleared

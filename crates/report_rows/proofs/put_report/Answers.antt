@@ -14,9 +14,9 @@ put_marks-requires-clause-capacity c =
     let w1 = rw c.hop_count.ensures at c.put_line.ensures in
     capacity_first _ _ (capacity_rest _ _ c.requires.capacity w1)
 
-pub put_map-requires : goal.put_map-requires
+pub put_map-requires-clause-capacity : goal.put_map-requires-clause-capacity
 unfolding lines_of
-put_map-requires c =
+put_map-requires-clause-capacity c =
     let w1 = rw c.hop_count.ensures at c.put_line.ensures in
     rw (map_front _ _ c.requires.mapped) (capacity_first _ _ (capacity_rest _ _ (capacity_rest _ _ c.requires.capacity w1) c.put_marks.ensures))
 

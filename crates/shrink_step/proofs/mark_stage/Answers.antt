@@ -14,5 +14,5 @@ invariant_of-graph-clause-ready c = admitted_indexable c.requires.reducible.admi
 
 pub returns-clause-some : goal.returns-clause-some
 returns-clause-some c =
-    some_result (sense_number c.args.sense) c.args.shape c.args.hops.now _ c.args.marks.now c.mark_in.ensures c.hop_count.ensures
+    some_result (sense_number c.args.sense) c.args.shape c.args.hops.now _ c.args.marks.now c.mark_by_sense.ensures c.hop_count.ensures
     (c.is_any.ensures ∙ any_front _ _ (omega arith))

@@ -1,6 +1,7 @@
 -- v is placed where it is not yet and all its silent hops lead to placed states. Assumes nothing.
 use native.Mathlib.Omega.{arith}
-use Rattle.std.proofs.Common.{◌≡◌, true, false, rules}
+use Rattle.std.proofs.Common.{◌≡◌, Bool, true, false, map, rules}
+use Rattle.std.proofs.lemmas.List.{map-id}
 use Rattle.walk_reach.specs.Internal.Frontier.{visited}
 use Rattle.walk_acyclic.specs.Internal.Ranks.{ends_visited}
 use Rattle.walk_topological_order.proofs.Ordering.{placed_or_stuck_placed, ordered_states, row_fits, ordered_one}
@@ -23,5 +24,5 @@ pub returns-clause-ordered : goal.returns-clause-ordered
 unfolding visited
 returns-clause-ordered c =
     let off : visited c.args.self.now.placed c.args.v.0 ≡ false = rw (← c.from-at.ensures) c.if-self-at.false in
-    let ready : ends_visited c.args.graph.index.hops.now c.args.self.now.placed c.args.v.0 ≡ true = search rules in
-    rw c.from-at.ensures (ordered_one c.requires.ordered c.args.v.0 c.requires.state off ready c.put_row-self.ensures)
+    let ready : ends_visited c.args.graph.index.hops.now (map (λ (yes : Bool). yes) c.args.self.now.placed) c.args.v.0 ≡ true = search rules in
+    rw c.from-at.ensures (ordered_one c.requires.ordered c.args.v.0 c.requires.state off (rw (map-id c.args.self.now.placed) at ready) c.put_row-self.ensures)
