@@ -1,5 +1,5 @@
 // How test programs print lists, answers and shapes by a format: each number behind a space.
-// It serves `test_check`, `test_records`, `test_hops_of` and `test_round_trip`.
+// It serves `test_check`, `test_records`, `test_hops_of`, `test_equations` and `test_round_trip`.
 // Uses `graph` for answers and shapes.
 #![tactic(auto)]
 

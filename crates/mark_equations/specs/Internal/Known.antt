@@ -16,10 +16,15 @@ answer_place k i = k * most_hops + i
 unfoldable pub value : List ℕ → ℕ → Bool
 value hs j = survives hs (j / most_hops) (from hs (j % most_hops)) (to hs (j % most_hops))
 
--- the number that stands for an answer; any other says nothing
-abbrev pub word_for : Bool → ℕ
-word_for false = 1
-word_for true = 2
+-- the case that stands for an answer; the other says nothing
+abbrev pub word_for : Bool → Known
+word_for false = Falls
+word_for true = Survives
+
+-- the number that stands for it in a table of bytes; any other says nothing
+abbrev pub byte_for : Bool → ℕ
+byte_for false = 1
+byte_for true = 2
 
 -- what a number says, as a case of the code, and the number of a case
 abbrev pub known_of : ℕ → Known
@@ -30,13 +35,14 @@ byte_of Unknown = 0
 byte_of Falls = 1
 byte_of Survives = 2
 
--- each answer in the table is right
-unfoldable pub Right : List ℕ → List ℕ → Type 0
-Right hs m = (j : ℕ) (v : Bool) → get_or m j 0 ≡ word_for v → value hs j ≡ v
+-- each answer in the table is right. An entry is a case or a byte: `nothing` says nothing, and
+-- `entry_for` stands for an answer
+unfoldable pub Right : {E : Type 0} → E → (Bool → E) → List ℕ → List E → Type 0
+Right nothing entry_for hs m = (j : ℕ) (v : Bool) → get_or m j nothing ≡ entry_for v → value hs j ≡ v
 
 -- what each of X, Y and Z asks besides an index: labels in their range, and a table long enough for
 -- k rounds, in which each answer is right
-pub record Prepared (hs m : List ℕ) (k : ℕ) : Type 0 where
+pub record Prepared {E : Type 0} (nothing : E) (entry_for : Bool → E) (hs : List ℕ) (m : List E) (k : ℕ) : Type 0 where
   pub label_in : (i : ℕ) → i < count hs → label hs i < most_labels
   pub capacity : answer_place k most_hops ≤ length m
-  pub right : Right hs m
+  pub right : Right nothing entry_for hs m
