@@ -64,11 +64,11 @@ pub trait Memo: Copy {
     /// What an entry says.
     ghost says: { Self → Known };
 
-    /// The same, by the code.
+    /// Reads what the entry says.
     fn known(self) -> Known
         ensures { result ≡ says self };
 
-    /// The entry for an answer, by the code.
+    /// Makes the entry for an answer.
     fn of(answer: bool) -> Self
         ensures { result ≡ entry_for answer };
 
